@@ -35,6 +35,7 @@ for script in program/program.sh program/faults.sh program/descriptors.sh ../bin
 has python3 || exit $status
 run python3 docs/trusted.py --check
 run python3 docs/calling.py --check
+run python3 docs/proved.py --check
 run python3 docs/docs.py
 run python3 ../examples/make.py --check
 run python3 ../vectors/make.py --check

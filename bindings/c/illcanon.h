@@ -22,7 +22,7 @@
 #include <stddef.h>
 #include <stdint.h>
 
-#define ILLCANON_VERSION "0.1.0"
+#define ILLCANON_VERSION "0.2.0"
 
 /* The greatest number of octets of a message, and of its normal form. */
 #define ILLCANON_LIMIT 1048576
@@ -161,7 +161,28 @@ uint32_t illcanon_next(const uint8_t *octets, size_t octets_size, size_t *size, 
 uint32_t illcanon_normalise_next(const uint8_t *octets, size_t octets_size, size_t *read, uint8_t *buffer, size_t buffer_size, size_t *size,
                                  struct illcanon_refusal *refusal);
 
-/* The same calls in a profile. The first argument is its number, an illcanon_profile. Each does with messages of that profile what the
+/* Writes the message that the octets are as it is spelled, under a number: a line that says what it is, and one for each element, as
+ * `illcanon dump` does. Each line ends with a newline, and no zero follows. This call also writes where the octets are refused: the
+ * elements before the place, and then the refusal in words. The text is tested; all else is proved.
+ *
+ *   DONE           the text is the first *size octets of the buffer. No octet after it is touched.
+ *   REFUSED        the same, and *refusal says why the octets are not exactly one message.
+ *   NO_ROOM        the text has *size octets, more than buffer_size. The buffer is as it was.
+ *   OUT_OF_MEMORY
+ */
+uint32_t illcanon_dump(const uint8_t *octets, size_t octets_size, uint32_t number, uint8_t *buffer, size_t buffer_size, size_t *size,
+                       struct illcanon_refusal *refusal);
+
+/* Finds where the element of BER ends that the octets begin with, by its identifiers and lengths alone, whatever they mean: so work goes
+ * on after a message that is refused. It takes no memory.
+ *
+ *   DONE           the element is the first *size octets.
+ *   NEEDS_MORE     the octets, which may be none, may be the beginning of an element, and none ends among them.
+ *   REFUSED        where the element ends can't be known, whatever follows the octets.
+ */
+uint32_t illcanon_frame(const uint8_t *octets, size_t octets_size, size_t *size);
+
+/* The same calls in a profile, but for illcanon_frame. The first argument is its number, an illcanon_profile. Each does with messages of that profile what the
  * call without _as does with those of profile 2, and leaves the same in memory. It has one status more:
  *
  *   UNKNOWN_PROFILE  the number is not an illcanon_profile. Memory is as it was.
@@ -191,6 +212,10 @@ uint32_t illcanon_show_as(uint32_t profile, const uint8_t *octets, size_t octets
 /* Writes the digest of the message in the profile that the octets are, as illcanon_digest does. */
 uint32_t illcanon_digest_as(uint32_t profile, const uint8_t *octets, size_t octets_size, uint8_t *buffer, size_t buffer_size,
                             size_t *size, struct illcanon_refusal *refusal);
+
+/* Writes the message in the profile that the octets are as it is spelled, under a number, as illcanon_dump does. */
+uint32_t illcanon_dump_as(uint32_t profile, const uint8_t *octets, size_t octets_size, uint32_t number, uint8_t *buffer,
+                          size_t buffer_size, size_t *size, struct illcanon_refusal *refusal);
 
 /* Finds where the message in the profile ends that the octets begin with, whatever follows it, as illcanon_next does. */
 uint32_t illcanon_next_as(uint32_t profile, const uint8_t *octets, size_t octets_size, size_t *size, struct illcanon_refusal *refusal);

@@ -2,37 +2,55 @@
 # Refuses allocation number 1, 2, .. of memory in each call that takes any, until a run meets no refusal. Each result before that must be
 # out of memory, in the call's own words and with the state that is promised then, or the refusal of an input that is refused: a program
 # makes the call and looks. The programs are those of tests/memory/allocations_calls and tests/memory/allocations_typed, which are no crates of this repository,
-# since their proofs take minutes: they are made in a copy. Needs `cc`, since the refusals are made by a wrapper round malloc and realloc.
+# since their proofs take minutes: they are made in a copy, and proved there. Needs `cc`, since the refusals are made by a wrapper round malloc and realloc.
 cd "$(dirname "$0")/../../crates" || exit 2
-(cd ill_apdu && rt lib >/dev/null 2>&1) || exit 2
 ../tests/build_program.sh >/dev/null 2>&1 || exit 2
-# On the same file system as the crates, since their folders `out` are linked into the copy: they have gigabytes.
-mkdir -p ../tests/out && folder=$(mktemp -d "$(cd ../tests/out && pwd)/allocations.XXXXXX") || exit 2
+folder=$(mktemp -d) || exit 2
 trap 'rm -rf "$folder"' EXIT
 cc -shared -fPIC -O1 -o "$folder/refuse.so" ../tests/memory/refuse.c -ldl || exit 2
 
-# Makes the program of tests/memory/NAME, a crate with these dependencies, in a copy of the crates.
-mkdir "$folder/copy" && cp -rl . "$folder/copy/crates" && cp ../crates.txt "$folder/copy" || exit 2
-make_program() {
-    echo "$1: $2" >>"$folder/copy/crates.txt"
-    mkdir -p "$folder/copy/crates/$1/src" || return 1
+# A repository of the programs and of the crates that they need. There `rt ci` takes what it proved on this machine before.
+copy=$folder/copy
+mkdir -p "$copy/crates" && cp ../HANDLES "$copy" && git init -q "$copy" || exit 2
+
+# Adds a crate of this repository with all that it needs.
+add_crate() {
+    ! [ -e "$copy/crates/$1" ] && [ -e "$1" ] || return 0
+    mkdir "$copy/crates/$1" && tar -c --exclude=out -C "$1" . | tar -x -C "$copy/crates/$1" || exit 2
+    line=$(grep "^$1:" ../crates.txt) || exit 2
+    echo "$line" >>"$copy/crates.txt"
+    for needed in ${line#*:}; do
+        add_crate "$needed"
+    done
+}
+
+# Adds the program of tests/memory/NAME, a crate with these dependencies.
+add_program() {
+    echo "$1: $2" >>"$copy/crates.txt"
+    mkdir -p "$copy/crates/$1/src" || exit 2
     for file in "../tests/memory/$1"/*.rt.in; do
-        cp "$file" "$folder/copy/crates/$1/src/$(basename "$file" .in)" || return 1
+        cp "$file" "$copy/crates/$1/src/$(basename "$file" .in)" || exit 2
     done
     # The proof of a function of reading.rt is NAME.antt.in.
     for file in "../tests/memory/$1"/*.antt.in; do
         [ -e "$file" ] || continue
-        proof=$folder/copy/crates/$1/proofs/reading/$(basename "$file" .antt.in)
-        mkdir -p "$proof" && cp "$file" "$proof/Answers.antt" || return 1
+        proof=$copy/crates/$1/proofs/reading/$(basename "$file" .antt.in)
+        mkdir -p "$proof" && cp "$file" "$proof/Answers.antt" || exit 2
     done
-    (cd "$folder/copy/crates/$1" && rt run >/dev/null 2>&1)
+    for needed in $2; do
+        add_crate "$needed"
+    done
 }
+
+add_program allocations_calls "ber_core ber_leaf ill_schema ill_read ill_write ill_normal ill_text ill_commands ill_lines test_support"
 # The calls in the module profile are those of a test in the gate.
-mkdir -p "$folder/copy/crates/allocations_calls/src" && cp test_commands/src/memory/module.rt "$folder/copy/crates/allocations_calls/src" || exit 2
-make_program allocations_calls "ber_core ber_leaf ill_schema ill_read ill_write ill_normal ill_text ill_commands ill_lines test_support" || exit 2
-make_program allocations_typed "ber_leaf ill_schema ill_parts ill_apdu test_support" || exit 2
-calls=$folder/copy/crates/allocations_calls/out/allocations_calls
-typed=$folder/copy/crates/allocations_typed/out/allocations_typed
+cp test_commands/src/memory/module.rt "$copy/crates/allocations_calls/src" || exit 2
+add_program allocations_typed "ber_leaf ill_schema ill_parts ill_apdu test_support"
+# Without an argument each program lists its calls. What `rt ci` says of that output makes no difference here.
+(cd "$copy" && rt ci >"$folder/log" 2>&1)
+calls=$copy/crates/allocations_calls/out/allocations_calls
+typed=$copy/crates/allocations_typed/out/allocations_typed
+[ -x "$calls" ] && [ -x "$typed" ] || { tail -n 40 "$folder/log" && exit 2; }
 
 # Prints how many allocations a program's call met; fails where a result is wrong.
 allocations_of() {

@@ -152,7 +152,7 @@ row profile-without-name 2 '' "error: a value is required for '--profile <NAME>'
 row profile-without-name-before-a-flag 2 '' "error: a value is required for '--profile <NAME>' but none was supplied$values" check --profile --hex F
 row profile-twice 2 '' "error: the argument '--profile <NAME>' cannot be used multiple times${usage}check [OPTIONS] [FILE]...$help" check --profile module --profile=2 F
 row program-has-no-profile 2 '' any --profile 2 check F
-row version 0 'illcanon 0.1.0\n' '' --version
+row version 0 'illcanon 0.2.0\n' '' --version
 for words in --help 'show --help' 'check --help' 'same --help' 'canonicalise --help' 'dump --help' 'help same'; do
     "$program" $words >out 2>err
     status=$?

@@ -2,6 +2,7 @@
  *
  *   calls PROFILE FILE FORMS    expects their normal forms one after another in FORMS
  *   calls PROFILE show FILE     writes their texts
+ *   calls PROFILE dump FILE     writes their elements
  *   calls PROFILE digest FILE   writes their digests, a line for each
  *   calls PROFILE rows FILE     makes each call on the octets of each row of FILE that is of the profile. A row has its name, its profile
  *                               (`two` or `module`), the octets in hexadecimal, and what comes of them, with a `|` between two. That is
@@ -15,6 +16,10 @@ typedef uint32_t writing(const uint8_t *, size_t, uint8_t *, size_t, size_t *, s
 
 static uint32_t show_first(const uint8_t *octets, size_t count, uint8_t *buffer, size_t room, size_t *size, struct illcanon_refusal *refusal) {
     return show(octets, count, 1, buffer, room, size, refusal);
+}
+
+static uint32_t dump_first(const uint8_t *octets, size_t count, uint8_t *buffer, size_t room, size_t *size, struct illcanon_refusal *refusal) {
+    return dump(octets, count, 1, buffer, room, size, refusal);
 }
 
 /* How many octets the message has that the next call normalises. */
@@ -54,6 +59,21 @@ static struct octets written(writing *call, struct octets message) {
     return exact;
 }
 
+/* The elements of octets that are refused are written up to the place, and the refusal after them. */
+static void refused_dump_is(struct octets octets, uint32_t at, uint32_t cause, const char *part) {
+    static const char head[] = "message 1: refused\n";
+    static uint8_t text[1 << 20], other[1 << 20];
+    struct illcanon_refusal refusal = untouched(), none = untouched();
+    size_t size = 77, needed = 77;
+    EXPECT(dump_first(octets.at, octets.count, text, sizeof text, &size, &refusal) == ILLCANON_REFUSED);
+    EXPECT(refuses(&refusal, at, cause, part) && size > sizeof head && memcmp(text, head, sizeof head - 1) == 0 && text[size - 1] == '\n');
+    memset(other, UNTOUCHED, size);
+    EXPECT(dump_first(octets.at, octets.count, other, size - 1, &needed, &none) == ILLCANON_NO_ROOM);
+    EXPECT(needed == size && is_untouched(&none) && all_are(other, size, UNTOUCHED));
+    EXPECT(dump_first(octets.at, octets.count, other, size, &needed, &none) == ILLCANON_REFUSED);
+    EXPECT(needed == size && refuses(&none, at, cause, part) && memcmp(text, other, size) == 0);
+}
+
 /* Octets that each call refuses in one way, with nothing else changed. */
 static void refused(struct octets octets, uint32_t at, uint32_t cause, const char *part, struct octets good) {
     static writing *const calls[] = {normalise, show_first, digest};
@@ -65,6 +85,7 @@ static void refused(struct octets octets, uint32_t at, uint32_t cause, const cha
         EXPECT(calls[i](octets.at, octets.count, buffer, sizeof buffer, &size, &refusal) == ILLCANON_REFUSED);
         EXPECT(refuses(&refusal, at, cause, part) && size == 77 && all_are(buffer, sizeof buffer, UNTOUCHED));
     }
+    refused_dump_is(octets, at, cause, part);
     struct illcanon_refusal refusal = untouched(), second = untouched();
     uint32_t answer = 77;
     EXPECT(check(octets.at, octets.count, &answer, &refusal) == ILLCANON_REFUSED);
@@ -73,6 +94,12 @@ static void refused(struct octets octets, uint32_t at, uint32_t cause, const cha
     EXPECT(refuses(&refusal, at, cause, part) && answer == 77);
     EXPECT(same(good.at, good.count, octets.at, octets.count, &answer, &second) == ILLCANON_SECOND_REFUSED);
     EXPECT(refuses(&second, at, cause, part) && answer == 77);
+}
+
+/* What the call that frames an element returns for octets. */
+static void frame_is(struct octets octets, uint32_t status, size_t wanted) {
+    size_t size = 77;
+    EXPECT(illcanon_frame(octets.at, octets.count, &size) == status && size == wanted);
 }
 
 /* What the next call returns for octets. */
@@ -107,6 +134,7 @@ static void cut_and_trailed(struct octets message, struct octets form) {
     for (size_t count = 0; count < message.count; count++) {
         struct octets part = fenced_copy(message.at, count);
         next_is(part, ILLCANON_NEEDS_MORE, 77);
+        frame_is(part, ILLCANON_NEEDS_MORE, 77);
         struct illcanon_refusal refusal = next_is_not(part, ILLCANON_NEEDS_MORE);
         EXPECT(is_untouched(&refusal));
         refused(part, (uint32_t)count, ILLCANON_TRUNCATED, "", message);
@@ -116,6 +144,8 @@ static void cut_and_trailed(struct octets message, struct octets form) {
     memcpy(more.at, message.at, message.count);
     more.at[message.count] = 0;
     next_is(more, ILLCANON_DONE, message.count);
+    frame_is(message, ILLCANON_DONE, message.count);
+    frame_is(more, ILLCANON_DONE, message.count);
     next_form_is(message, message.count, form);
     next_form_is(more, message.count, form);
     refused(more, (uint32_t)message.count, ILLCANON_TRAILING_BYTES, "", message);
@@ -149,6 +179,7 @@ static void message_is(struct octets message, struct octets wanted) {
     normal_is(message, (uint32_t)are_equal(form, message));
     same_is(message, form, 1);
     written(show_first, message);
+    written(dump_first, message);
     struct octets one = written(digest, message), other = written(digest, form);
     EXPECT(one.count == ILLCANON_DIGEST_SIZE && are_equal(one, other));
     cut_and_trailed(message, form);
@@ -168,11 +199,12 @@ static void file_is(const char *name, const char *forms_name) {
     printf("%s: %lu messages\n", name, (unsigned long)count);
 }
 
-/* Two octets that no message has, a row that is left out, and one that is missing. */
+/* Two octets that no message has, a row that is left out, one that is missing, and elements whose end can't be known. */
 static void refusals_are(struct octets good) {
     static const uint8_t wrong_tag[] = {0x74, 0x1f, 0x30, 0x1d, 0x80, 0x01, 0x02, 0xa2};
     static const uint8_t missing[] = {0x74, 0x80, 0x30, 0x80, 0x80, 0x01, 0x02, 0x00, 0x00};
     static const uint8_t left_out[] = {0x62, 0x80};
+    static const uint8_t unframed[][2] = {{0x00, 0x00}, {0x74, 0xff}, {0x54, 0x80}};
     struct octets octets = fenced_copy(wrong_tag, sizeof wrong_tag);
     refused(octets, 7, ILLCANON_UNEXPECTED_TAG, "", good);
     octets = fenced_copy(missing, sizeof missing);
@@ -183,6 +215,9 @@ static void refusals_are(struct octets good) {
     EXPECT(size == 77 && refuses(&refusal, 7, ILLCANON_MISSING, "Expired.transaction-id"));
     refusal = next_is_not(octets, ILLCANON_REFUSED);
     EXPECT(refuses(&refusal, 7, ILLCANON_MISSING, "Expired.transaction-id"));
+    frame_is(octets, ILLCANON_NEEDS_MORE, 77);
+    for (size_t i = 0; i < sizeof unframed / sizeof *unframed; i++)
+        frame_is(fenced_copy(unframed[i], 2), ILLCANON_REFUSED, 77);
     octets = fenced_copy(left_out, sizeof left_out);
     if (profile == ILLCANON_PROFILE_MODULE)
         refused(octets, 2, ILLCANON_TRUNCATED, "", good);
@@ -199,6 +234,7 @@ static void no_profile_is(uint32_t number, struct octets good) {
     memset(buffer, UNTOUCHED, sizeof buffer);
     EXPECT(illcanon_normalise_as(number, good.at, good.count, buffer, sizeof buffer, &size, &refusal) == ILLCANON_UNKNOWN_PROFILE);
     EXPECT(illcanon_show_as(number, good.at, good.count, 1, buffer, sizeof buffer, &size, &refusal) == ILLCANON_UNKNOWN_PROFILE);
+    EXPECT(illcanon_dump_as(number, good.at, good.count, 1, buffer, sizeof buffer, &size, &refusal) == ILLCANON_UNKNOWN_PROFILE);
     EXPECT(illcanon_digest_as(number, good.at, good.count, buffer, sizeof buffer, &size, &refusal) == ILLCANON_UNKNOWN_PROFILE);
     EXPECT(illcanon_check_as(number, good.at, good.count, &answer, &refusal) == ILLCANON_UNKNOWN_PROFILE);
     EXPECT(illcanon_same_as(number, good.at, good.count, good.at, good.count, &answer, &refusal) == ILLCANON_UNKNOWN_PROFILE);
@@ -264,18 +300,29 @@ static void rows_are(const char *name, struct octets good) {
     printf("%s: %lu rows\n", name, count);
 }
 
-static void print_all(writing *call, const char *name, int in_digits) {
+typedef uint32_t numbering(const uint8_t *, size_t, uint32_t, uint8_t *, size_t, size_t *, struct illcanon_refusal *);
+
+/* Writes what a call that takes a number writes of each message of a file. */
+static void print_texts(numbering *call, const char *name) {
     static uint8_t buffer[1 << 20];
     struct octets messages[MESSAGES];
     size_t count = read_messages(name, messages, MESSAGES), size;
     struct illcanon_refusal refusal;
     for (size_t i = 0; i < count; i++) {
-        uint32_t status = in_digits ? call(messages[i].at, messages[i].count, buffer, sizeof buffer, &size, &refusal)
-                                    : show(messages[i].at, messages[i].count, (uint32_t)i + 1, buffer, sizeof buffer, &size, &refusal);
-        EXPECT(status == ILLCANON_DONE);
-        if (!in_digits)
-            fwrite(buffer, 1, size, stdout);
-        for (size_t k = 0; in_digits && k < size; k++)
+        EXPECT(call(messages[i].at, messages[i].count, (uint32_t)i + 1, buffer, sizeof buffer, &size, &refusal) == ILLCANON_DONE);
+        fwrite(buffer, 1, size, stdout);
+    }
+}
+
+/* Writes the digest of each message of a file, a line for each. */
+static void print_digests(const char *name) {
+    uint8_t buffer[ILLCANON_DIGEST_SIZE];
+    struct octets messages[MESSAGES];
+    size_t count = read_messages(name, messages, MESSAGES), size;
+    struct illcanon_refusal refusal;
+    for (size_t i = 0; i < count; i++) {
+        EXPECT(digest(messages[i].at, messages[i].count, buffer, sizeof buffer, &size, &refusal) == ILLCANON_DONE);
+        for (size_t k = 0; k < size; k++)
             printf("%02x%s", buffer[k], k + 1 == size ? "\n" : "");
     }
 }
@@ -288,9 +335,11 @@ int main(int count, char **words) {
         return 2;
     set_profile(words[1]);
     if (strcmp(words[2], "show") == 0)
-        print_all(show_first, words[3], 0);
+        print_texts(show, words[3]);
+    else if (strcmp(words[2], "dump") == 0)
+        print_texts(dump, words[3]);
     else if (strcmp(words[2], "digest") == 0)
-        print_all(digest, words[3], 1);
+        print_digests(words[3]);
     else if (strcmp(words[2], "rows") == 0)
         rows_are(words[3], good);
     else {

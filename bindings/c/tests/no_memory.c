@@ -48,6 +48,10 @@ static uint32_t make_show(void) {
     return show(message.at, message.count, 1, buffer, ROOM, &size, &refusal);
 }
 
+static uint32_t make_dump(void) {
+    return dump(message.at, message.count, 1, buffer, ROOM, &size, &refusal);
+}
+
 static uint32_t make_digest(void) {
     return digest(message.at, message.count, buffer, ROOM, &size, &refusal);
 }
@@ -97,6 +101,7 @@ int main(int count, char **words) {
     buffer = fenced(ROOM);
     refuse_each("normalise", make_normalise);
     refuse_each("show", make_show);
+    refuse_each("dump", make_dump);
     refuse_each("digest", make_digest);
     refuse_each("check", make_check);
     refuse_each("same", make_same);

@@ -36,8 +36,9 @@ names_are() {
 
 # The names of the calls, each with a space after it.
 names() {
-    for call in check digest next normalise normalise_next same show; do
-        printf 'illcanon_%s illcanon_%s_as ' $call $call
+    for call in check digest dump frame next normalise normalise_next same show; do
+        printf 'illcanon_%s ' $call
+        [ $call = frame ] || printf 'illcanon_%s_as ' $call
     done
 }
 
@@ -84,6 +85,9 @@ for profile in - 2; do
         ./calls $profile show "$file" >shown
         "$program" show "$file" >wanted
         try "show $profile $(basename "$file")" cmp shown wanted
+        ./calls $profile dump "$file" >dumped
+        "$program" dump "$file" >wanted
+        try "dump $profile $(basename "$file")" cmp dumped wanted
     done
     try "rows $profile" ./calls $profile rows rows
 done
@@ -92,6 +96,9 @@ try "calls module examples" ./calls module "$examples/module.ber" "$examples/mod
 ./calls module show "$examples/module.ber" >shown
 "$program" show --profile module "$examples/module.ber" >wanted
 try "show module examples" cmp shown wanted
+./calls module dump "$examples/module.ber" >dumped
+"$program" dump --profile module "$examples/module.ber" >wanted
+try "dump module examples" cmp dumped wanted
 try "calls module expired" ./calls module "$examples/expired-long-form.ber" expired.der
 try "rows module" ./calls module rows rows
 ./calls module show externals.der >shown

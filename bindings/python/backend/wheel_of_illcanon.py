@@ -10,7 +10,7 @@ import zipfile
 
 HERE = os.path.dirname(os.path.dirname(os.path.abspath(__file__)))
 LIBRARY = os.path.join(HERE, "..", "c", "build", "libillcanon.so")
-NAME, VERSION = "illcanon", "0.1.0"
+NAME, VERSION = "illcanon", "0.2.0"
 INFO = f"{NAME}-{VERSION}.dist-info"
 
 METADATA = f"""Metadata-Version: 2.1

@@ -12,7 +12,7 @@ Python is tested.
 """
 from __future__ import annotations
 
-from ._calls import Profile, Refused, check, digest, messages, normal_forms, normalise, same, show
+from ._calls import Profile, Refused, check, digest, dump, frame, messages, normal_forms, normalise, same, show
 
-__all__ = ["Profile", "Refused", "check", "digest", "messages", "normal_forms", "normalise", "same", "show"]
-__version__ = "0.1.0"
+__all__ = ["Profile", "Refused", "check", "digest", "dump", "frame", "messages", "normal_forms", "normalise", "same", "show"]
+__version__ = "0.2.0"

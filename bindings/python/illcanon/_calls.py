@@ -3,7 +3,7 @@ from __future__ import annotations
 
 import ctypes
 import enum
-from typing import Callable, Iterator, Literal, Optional, Union
+from typing import Callable, Iterator, Literal, Optional, Tuple, Union
 
 from ._library import Refusal, library
 
@@ -139,6 +139,40 @@ def show(octets: Octets, number: int = 1, *, profile: Profile = "2") -> str:
     room = 16 * len(octets)
     text = _written(lambda *memory: library.illcanon_show_as(profile_number, octets, len(octets), number, *memory), room)
     return text.decode("ascii")
+
+
+def dump(octets: Octets, number: int = 1, *, profile: Profile = "2") -> Tuple[str, Optional[Refused]]:
+    """The message in the profile that the octets are as it is spelled, under a number: a line for each element. And None.
+
+    Of octets that are not exactly one message: the elements before the place, the refusal in words, and the refusal.
+    """
+    profile_number, octets = _number_of(profile), _bytes(octets)
+    if not 0 <= number < 2**32:
+        raise ValueError("number")
+    refusal, size, room = Refusal(), ctypes.c_size_t(), 16 * len(octets) + 4096
+    while True:
+        buffer = ctypes.create_string_buffer(room)
+        status = library.illcanon_dump_as(
+            profile_number, octets, len(octets), number, buffer, room, ctypes.byref(size), ctypes.byref(refusal)
+        )
+        if status != Status.NO_ROOM:
+            break
+        room = size.value
+    if status not in (Status.DONE, Status.REFUSED):
+        _raise(status, refusal)
+    return buffer.raw[: size.value].decode("ascii"), _refused(refusal) if status == Status.REFUSED else None
+
+
+def frame(octets: Octets) -> Optional[int]:
+    """How many octets the element of BER has that the octets begin with, by its identifiers and lengths alone, whatever they mean.
+
+    None where the octets may be the beginning of an element. Raises `ValueError` where its end can't be known, whatever follows them.
+    """
+    octets, size = _bytes(octets), ctypes.c_size_t()
+    status = library.illcanon_frame(octets, len(octets), ctypes.byref(size))
+    if status == Status.REFUSED:
+        raise ValueError("where the element ends can't be known")
+    return size.value if status == Status.DONE else None
 
 
 def digest(octets: Octets, *, profile: Profile = "2") -> bytes:

@@ -21,11 +21,13 @@ def _load() -> ctypes.CDLL:
     types = {
         "illcanon_normalise_as": [*octets, *written],
         "illcanon_show_as": [*octets, ctypes.c_uint32, *written],
+        "illcanon_dump_as": [*octets, ctypes.c_uint32, *written],
         "illcanon_digest_as": [*octets, *written],
         "illcanon_check_as": [*octets, *answer],
         "illcanon_same_as": [*octets, ctypes.c_char_p, ctypes.c_size_t, *answer],
         "illcanon_next_as": [*front, ctypes.POINTER(Refusal)],
         "illcanon_normalise_next_as": [*front, *written],
+        "illcanon_frame": [ctypes.c_char_p, ctypes.c_size_t, ctypes.POINTER(ctypes.c_size_t)],
     }
     for name, arguments in types.items():
         call = getattr(found, name)

@@ -84,6 +84,25 @@ class Messages(unittest.TestCase):
             wanted = subprocess.run([PROGRAM, "show", os.path.join(TOP, "examples", name)], stdout=subprocess.PIPE, check=True)
             self.assertEqual(texts, wanted.stdout.decode("ascii"))
 
+    def test_elements_are_those_of_the_program(self):
+        for name, profile in [*((name, "2") for name, _ in FILES), ("module.ber", "module")]:
+            found = [illcanon.dump(message, i, profile=profile) for i, message in enumerate(illcanon.messages(octets_of(name), profile=profile), 1)]
+            self.assertEqual({refusal for _, refusal in found}, {None})
+            words = [PROGRAM, "dump", "--profile", profile, os.path.join(TOP, "examples", name)]
+            wanted = subprocess.run(words, stdout=subprocess.PIPE, check=True)
+            self.assertEqual("".join(text for text, _ in found), wanted.stdout.decode("ascii"))
+        for number in (-1, 2**32):
+            self.assertRaises(ValueError, illcanon.dump, EXPIRED, number)
+
+    def test_elements_are_framed(self):
+        for size in range(len(EXPIRED)):
+            self.assertIsNone(illcanon.frame(EXPIRED[:size]))
+        self.assertEqual(illcanon.frame(EXPIRED), 33)
+        self.assertEqual(illcanon.frame(EXPIRED + b"\0"), 33)
+        self.assertEqual(illcanon.frame(bytes.fromhex("74803080000000007480")), 8)
+        for octets in (b"\0", b"\x74\xff", b"\x54\x80", bytes.fromhex("748000ff")):
+            self.assertRaises(ValueError, illcanon.frame, octets)
+
     def test_a_number_stands_before_the_text(self):
         self.assertEqual(illcanon.show(EXPIRED).split("\n")[0], "message 1 Expired")
         self.assertEqual(illcanon.show(EXPIRED, 4294967295).split("\n")[0], "message 4294967295 Expired")
@@ -136,6 +155,9 @@ class Refusals(unittest.TestCase):
         for octets, wanted in rows:
             for call in (illcanon.normalise, illcanon.check, illcanon.show, illcanon.digest):
                 self.assertEqual(self.refused(call, octets), (*wanted, 1))
+            text, refusal = illcanon.dump(octets)
+            self.assertEqual((refusal.offset, refusal.cause, refusal.part, refusal.message), (*wanted, 1))
+            self.assertTrue(text.startswith("message 1: refused\n"))
             self.assertEqual(self.refused(illcanon.same, octets, octets), (*wanted, 1))
             self.assertEqual(self.refused(illcanon.same, EXPIRED, octets), (*wanted, 2))
 

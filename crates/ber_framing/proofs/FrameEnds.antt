@@ -7,7 +7,7 @@ use Rattle.std.proofs.Math.Nat.{pow-succ'}
 use Rattle.ber_core.specs.Length.{IsLength, short, long}
 use Rattle.ber_framing.specs.declared.framer.Framer.{Framer}
 use Rattle.ber_framing.specs.declared.framer.Stage.{Stage}
-use Rattle.ber_framing.specs.declared.framer.Stage.TheVariants.{Element, Between, Number, Length, EndOfContents, Unframed}
+use Rattle.ber_framing.specs.declared.framer.Stage.TheVariants.{Identifier, BetweenElements, Number, Length, EndOfContents, Unframed}
 use Rattle.ber_framing.specs.declared.framer.Stage.TheVariants as stage
 use Rattle.ber_framing.specs.declared.framer.Contents.{Contents}
 use Rattle.ber_framing.specs.Framed.{last, low, IsFramed, AreFramed, none, IsFrame, IsPart, IsUnframed}
@@ -64,7 +64,7 @@ long_finish left value marks deep some fits =
 abbrev CanFinish : Stage → ℕ → ℕ → Type 0
 CanFinish s marks deep = (x : List ℕ) × (0 < length x) × FinishesAt s marks deep x
 
-element_finish : (marks deep : ℕ) → CanFinish Element marks deep
+element_finish : (marks deep : ℕ) → CanFinish Identifier marks deep
 element_finish marks deep =
     let m = marks_close marks deep in (
       1 ∷ 0 ∷ m.0,
@@ -78,14 +78,14 @@ element_finish marks deep =
       },
     )
 
-between_finish : (marks deep : ℕ) → 0 < marks → CanFinish Between marks deep
+between_finish : (marks deep : ℕ) → 0 < marks → CanFinish BetweenElements marks deep
 between_finish zero deep some = absurd (omega arith)
 between_finish (suc marks) deep some = let m = marks_close marks (suc deep) in (0 ∷ 0 ∷ m.0, omega arith, ([], m.0, none, m.1, refl))
 
 -- something more finishes an element at each stage but the last ones
-pub can_finish : (s : Stage) (marks deep : ℕ) → ((left : ℕ) → s ≡ Unframed left → ⊥) → (s ≡ Between → 0 < marks) → CanFinish s marks deep
-can_finish Element marks deep known some = element_finish marks deep
-can_finish Between marks deep known some = between_finish marks deep (some refl)
+pub can_finish : (s : Stage) (marks deep : ℕ) → ((left : ℕ) → s ≡ Unframed left → ⊥) → (s ≡ BetweenElements → 0 < marks) → CanFinish s marks deep
+can_finish Identifier marks deep known some = element_finish marks deep
+can_finish BetweenElements marks deep known some = between_finish marks deep (some refl)
 can_finish (Number f) marks deep known some =
     let l = length_finish f marks deep in
     (0 ∷ 0 ∷ l.0, omega arith, record { number = 0 ∷ []; rest = 0 ∷ l.0; is_number = last (lit< tt); length_then = l.1; joined = refl })
@@ -98,8 +98,8 @@ can_finish (Unframed left) marks deep known some = absurd (known left refl)
 
 -- what each stage needs
 abbrev pub Needs : Stage → ℕ → ℕ → Type 0
-Needs Element marks n = n ≤ 1
-Needs Between marks n = (n ≤ 1) × (marks ≡ 0 → n ≡ 0)
+Needs Identifier marks n = n ≤ 1
+Needs BetweenElements marks n = (n ≤ 1) × (marks ≡ 0 → n ≡ 0)
 Needs (Number f) marks n = n ≤ 1
 Needs (Length f) marks n = n ≤ 1
 Needs (stage.LongLength l) marks n = n ≤ l.left
@@ -135,8 +135,8 @@ element_needs deep b (framed.definite {form = f} {id = id} {octets = os} content
 element_needs deep b (framed.indefinite {id = id} {contents = c} i _ e) = omega (arith, some_id _ id i, longer id b (128 ∷ (c ++ 0 ∷ 0 ∷ [])) e)
 
 pub needs : (s : Stage) (marks deep n : ℕ) (x : List ℕ) → Needs s marks n → FinishesAt s marks deep x → n ≤ length x
-needs Element marks deep n x le h = omega (arith, le, element_needs deep h.element h.framed, longer h.element x h.rest h.joined)
-needs Between marks deep n x le h = between_needs marks deep n x le.0 le.1 h
+needs Identifier marks deep n x le h = omega (arith, le, element_needs deep h.element h.framed, longer h.element x h.rest h.joined)
+needs BetweenElements marks deep n x le h = between_needs marks deep n x le.0 le.1 h
 needs (Number f) marks deep n x le h = omega (arith, le, some_number h.number h.is_number, longer h.number x h.rest h.joined)
 needs (Length f) marks deep n x le h = omega (arith, le, length_needs f marks deep x h)
 needs (stage.LongLength l) marks deep n x le h = omega (arith, le, h.size, longer h.octets x h.rest h.joined)
@@ -172,7 +172,7 @@ first_element deep x = (
   (λ h. subst (IsFramed deep) (sym (h.joined ∙ ap (λ z. h.element ++ z) h.closes ∙ append-nil h.element)) h.framed),
 )
 
-pub is_part : (f : Framer) (b : List ℕ) → IsFed f b → ((left : ℕ) → f.stage ≡ Unframed left → ⊥) → (f.stage ≡ Between → 0 < f.marks) → IsPart b
+pub is_part : (f : Framer) (b : List ℕ) → IsFed f b → ((left : ℕ) → f.stage ≡ Unframed left → ⊥) → (f.stage ≡ BetweenElements → 0 < f.marks) → IsPart b
 unfolding IsFed
 is_part f b h known some =
     let c = can_finish f.stage f.marks (18_446_744_073_709_551_615 - f.marks) known some in
@@ -182,17 +182,17 @@ pub is_unframed : (f : Framer) (b : List ℕ) (left : ℕ) → IsFed f b → f.s
 unfolding IsFed
 is_unframed f b left h e rest k = subst (λ s. FinishesAt s f.marks (18_446_744_073_709_551_615 - f.marks) rest) e ((h rest).0 k)
 
-ended : (f : Framer) (x : List ℕ) → f.stage ≡ Between → f.marks ≡ 0 → Finishes f x ↔ (x ≡ [])
+ended : (f : Framer) (x : List ℕ) → f.stage ≡ BetweenElements → f.marks ≡ 0 → Finishes f x ↔ (x ≡ [])
 ended f x e z =
     subst (λ s. FinishesAt s f.marks (18_446_744_073_709_551_615 - f.marks) x ↔ (x ≡ [])) (sym e)
     (subst (λ (m : ℕ). Closes m (18_446_744_073_709_551_615 - m) x ↔ (x ≡ [])) (sym z) ((λ h. h), (λ h. h)))
 
-pub is_whole : (f : Framer) (b : List ℕ) → IsFed f b → f.stage ≡ Between → f.marks ≡ 0 → IsFrame b
+pub is_whole : (f : Framer) (b : List ℕ) → IsFed f b → f.stage ≡ BetweenElements → f.marks ≡ 0 → IsFrame b
 unfolding IsFed
 is_whole f b h e z = subst IsFrame (append-nil b) ((h []).1 ((ended f [] e z).1 refl))
 
 -- nothing more is part of a whole one
-pub no_part : (f : Framer) (b : List ℕ) → IsFed f b → f.stage ≡ Between → f.marks ≡ 0 → IsPart b → ⊥
+pub no_part : (f : Framer) (b : List ℕ) → IsFed f b → f.stage ≡ BetweenElements → f.marks ≡ 0 → IsPart b → ⊥
 unfolding IsFed
 no_part f b h e z p = p.1 ((ended f p.0 e z).0 ((h p.0).0 p.2))
 
@@ -200,9 +200,9 @@ pub need_least : (f : Framer) (n : ℕ) → Needs f.stage f.marks n → (b rest 
 unfolding IsFed
 need_least f n k b rest h w = needs f.stage f.marks (18_446_744_073_709_551_615 - f.marks) n rest k ((h rest).0 w)
 
-pub needs_one : (s : Stage) (marks : ℕ) → (s ≡ Between → ⊥) → ((c : Contents) → s ≡ stage.Contents c → ⊥) → Needs s marks 1
-needs_one Element marks b c = lit≤ tt
-needs_one Between marks b c = absurd (b refl)
+pub needs_one : (s : Stage) (marks : ℕ) → (s ≡ BetweenElements → ⊥) → ((c : Contents) → s ≡ stage.Contents c → ⊥) → Needs s marks 1
+needs_one Identifier marks b c = lit≤ tt
+needs_one BetweenElements marks b c = absurd (b refl)
 needs_one (Number f) marks b c = lit≤ tt
 needs_one (Length f) marks b c = lit≤ tt
 needs_one (stage.LongLength l) marks b c = omega (arith, l.some)

@@ -7,7 +7,7 @@ use Rattle.ber_framing.specs.declared.framer.Framing.TheVariants.{Part, Whole}
 use Rattle.ber_framing.specs.declared.framer.Framing.TheVariants as frame
 use Rattle.ber_framing.specs.declared.framer.Framer.{Framer}
 use Rattle.ber_framing.specs.declared.framer.Stage.{Stage}
-use Rattle.ber_framing.specs.declared.framer.Stage.TheVariants.{Element, Between, Number, Length, LongLength, Contents, EndOfContents, Unframed}
+use Rattle.ber_framing.specs.declared.framer.Stage.TheVariants.{Identifier, BetweenElements, Number, Length, LongLength, Contents, EndOfContents, Unframed}
 use Rattle.ber_framing.specs.Framed.{IsNumber, IsFramed, AreFramed, IsFrame, IsPart, IsUnframed}
 
 -- what the octets are: the first ones of a framed element, one, or the first ones of none
@@ -70,8 +70,8 @@ pub record IsMarkThen (marks deep : ℕ) (x : List ℕ) : Type 0 where
 
 -- what finishes a framed element from this stage, with this many elements open, in which this many more may be marks
 abbrev pub FinishesAt : Stage → ℕ → ℕ → List ℕ → Type 0
-FinishesAt Element marks deep x = IsElementThen marks deep x
-FinishesAt Between marks deep x = Closes marks deep x
+FinishesAt Identifier marks deep x = IsElementThen marks deep x
+FinishesAt BetweenElements marks deep x = Closes marks deep x
 FinishesAt (Number constructed) marks deep x = IsNumberThen constructed marks deep x
 FinishesAt (Length constructed) marks deep x = IsLengthThen constructed marks deep x
 FinishesAt (LongLength long) marks deep x = IsLongThen long.left long.value marks deep x

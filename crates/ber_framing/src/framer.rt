@@ -39,10 +39,10 @@ pub struct Framer {
 /// The octet that is next.
 #[derive(Clone, Copy, Debug)]
 enum Stage {
-    /// An element.
-    Element,
-    /// An element or an end mark; nothing, where no element is open.
-    Between,
+    /// The first octet of an identifier.
+    Identifier,
+    /// The first octet of an identifier or an end mark. Nothing, where no element is open.
+    BetweenElements,
     /// An octet of a tag number, of an element that is constructed or not.
     Number(bool),
     /// The first octet of a length, of an element that is constructed or not.
@@ -81,7 +81,7 @@ impl Framer {
         ensures { IsFed result [] }
     {
         Framer {
-            stage: Stage::Element,
+            stage: Stage::Identifier,
             marks: 0,
         }
     }
@@ -92,7 +92,7 @@ impl Framer {
     {
         match self.stage {
             Stage::Unframed(_) => Framing::Unframed,
-            Stage::Between => {
+            Stage::BetweenElements => {
                 if self.marks == 0 {
                     Framing::Whole
                 } else {
@@ -104,15 +104,17 @@ impl Framer {
     }
 
     /// The least number of octets that still belong to the element, whatever they are: 0 where it is whole or its end can't be known.
-    pub fn need(&self) -> u32
-        ensures at_least { (b rest : List ℕ) → IsFed self.now b → IsFrame (b ++ rest) → result ≤ length rest }
+    pub fn missing_len(&self) -> u32
+        ensures at_least { (b rest : List ℕ) → IsFed self.now b → IsFrame (b ++ rest)
+            → result ≤ length rest }
         ensures some { (b : List ℕ) → IsFed self.now b → IsPart b → 0 < result }
         // Any fewer octets leave it part of an element.
-        ensures any { (b octets : List ℕ) → IsFed self.now b → length octets < result → IsPart (b ++ octets) }
+        ensures any { (b octets : List ℕ) → IsFed self.now b → length octets < result
+            → IsPart (b ++ octets) }
     {
         match self.stage {
             Stage::Unframed(_) => 0,
-            Stage::Between => { if self.marks == 0 { 0 } else { 1 } }
+            Stage::BetweenElements => { if self.marks == 0 { 0 } else { 1 } }
             Stage::Contents(contents) => contents.left,
             _ => 1,
         }
@@ -139,13 +141,15 @@ impl Framer {
     /// Takes octets up to the end of the element, or up to where it can't be known, and returns how many they are.
     pub fn feed(&mut self, octets: &[u8]) -> usize
         ensures count { result ≤ length octets.now }
-        ensures fed { (b : List ℕ) → IsFed self.old b → IsFed self.new (b ++ take result octets.now) }
+        ensures fed { (b : List ℕ) → IsFed self.old b
+            → IsFed self.new (b ++ take result octets.now) }
         // It takes an octet only after part of an element, and all octets of a part.
-        ensures within { (b : List ℕ) (n : ℕ) → IsFed self.old b → n < result → IsPart (b ++ take n octets.now) }
+        ensures within { (b : List ℕ) (n : ℕ) → IsFed self.old b → n < result
+            → IsPart (b ++ take n octets.now) }
         ensures all { (b : List ℕ) → IsFed self.new b → IsPart b → result ≡ length octets.now }
     {
         let mut count = 0;
-        while count < octets.len() && self.need() > 0 {
+        while count < octets.len() && self.missing_len() > 0 {
             count += self.step(&octets[count..]);
         }
         count
@@ -156,8 +160,10 @@ impl Framer {
         requires { 0 < length octets.now }
         ensures some { 0 < result }
         ensures count { result ≤ length octets.now }
-        ensures fed { (b : List ℕ) → IsFed self.old b → IsFed self.new (b ++ take result octets.now) }
-        ensures within { (b : List ℕ) (n : ℕ) → IsFed self.old b → IsPart b → n < result → IsPart (b ++ take n octets.now) }
+        ensures fed { (b : List ℕ) → IsFed self.old b
+            → IsFed self.new (b ++ take result octets.now) }
+        ensures within { (b : List ℕ) (n : ℕ) → IsFed self.old b → IsPart b → n < result
+            → IsPart (b ++ take n octets.now) }
     {
         let Stage::Contents(contents) = self.stage else {
             self.push(octets[0]);
@@ -173,8 +179,8 @@ impl Framer {
         ensures { (x : List ℕ) → Finishes self (octet ∷ x) ↔ Finishes result x }
     {
         match self.stage {
-            Stage::Element => self.after_first(octet),
-            Stage::Between => self.after_between(octet),
+            Stage::Identifier => self.after_first(octet),
+            Stage::BetweenElements => self.after_between(octet),
             Stage::Number(constructed) => self.after_number(constructed, octet),
             Stage::Length(constructed) => self.after_length(constructed, octet),
             Stage::LongLength(long) => self.after_long(long, octet),
@@ -196,10 +202,11 @@ impl Framer {
 
     /// Before contents of `left` octets.
     fn contents(self, left: u32) -> Framer
-        ensures { (x : List ℕ) → IsContentsThen left self.marks (18_446_744_073_709_551_615 - self.marks) x ↔ Finishes result x }
+        ensures { (x : List ℕ) → IsContentsThen left self.marks
+            (18_446_744_073_709_551_615 - self.marks) x ↔ Finishes result x }
     {
         if left == 0 {
-            self.at(Stage::Between)
+            self.at(Stage::BetweenElements)
         } else {
             self.at(Stage::Contents(Contents { left }))
         }
@@ -207,7 +214,8 @@ impl Framer {
 
     /// After the first octet of an element.
     fn after_first(self, octet: u8) -> Framer
-        ensures { (x : List ℕ) → IsElementThen self.marks (18_446_744_073_709_551_615 - self.marks) (octet ∷ x) ↔ Finishes result x }
+        ensures { (x : List ℕ) → IsElementThen self.marks (18_446_744_073_709_551_615 - self.marks)
+            (octet ∷ x) ↔ Finishes result x }
     {
         let constructed = octet / 32 % 2 == 1;
         if octet == 0 {
@@ -221,7 +229,8 @@ impl Framer {
 
     /// After the first octet of an element or an end mark.
     fn after_between(self, octet: u8) -> Framer
-        ensures { (x : List ℕ) → Closes self.marks (18_446_744_073_709_551_615 - self.marks) (octet ∷ x) ↔ Finishes result x }
+        ensures { (x : List ℕ) → Closes self.marks (18_446_744_073_709_551_615 - self.marks)
+            (octet ∷ x) ↔ Finishes result x }
     {
         if self.marks == 0 {
             self.at(Stage::Unframed(0))
@@ -236,7 +245,8 @@ impl Framer {
     }
 
     fn after_number(self, constructed: bool, octet: u8) -> Framer
-        ensures { (x : List ℕ) → IsNumberThen constructed self.marks (18_446_744_073_709_551_615 - self.marks) (octet ∷ x) ↔ Finishes result x }
+        ensures { (x : List ℕ) → IsNumberThen constructed self.marks
+            (18_446_744_073_709_551_615 - self.marks) (octet ∷ x) ↔ Finishes result x }
     {
         if octet < 128 {
             self.at(Stage::Length(constructed))
@@ -247,12 +257,13 @@ impl Framer {
 
     /// After the first octet of a length.
     fn after_length(self, constructed: bool, octet: u8) -> Framer
-        ensures { (x : List ℕ) → IsLengthThen constructed self.marks (18_446_744_073_709_551_615 - self.marks) (octet ∷ x) ↔ Finishes result x }
+        ensures { (x : List ℕ) → IsLengthThen constructed self.marks
+            (18_446_744_073_709_551_615 - self.marks) (octet ∷ x) ↔ Finishes result x }
     {
         match octet {
             0..=127 => self.contents(u32::from(octet)),
             128 if constructed && self.marks < u64::MAX => Framer {
-                stage: Stage::Between,
+                stage: Stage::BetweenElements,
                 marks: self.marks + 1,
             },
             128 | 255 => self.at(Stage::Unframed(0)),
@@ -265,7 +276,8 @@ impl Framer {
 
     /// After one octet more of a length.
     fn after_long(self, long: LongLength, octet: u8) -> Framer
-        ensures { (x : List ℕ) → IsLongThen long.left long.value self.marks (18_446_744_073_709_551_615 - self.marks) (octet ∷ x) ↔ Finishes result x }
+        ensures { (x : List ℕ) → IsLongThen long.left long.value self.marks
+            (18_446_744_073_709_551_615 - self.marks) (octet ∷ x) ↔ Finishes result x }
     {
         let left = long.left - 1;
         let value = long.value * 256 + u32::from(octet);
@@ -280,10 +292,11 @@ impl Framer {
 
     /// After the second octet of an end mark.
     fn after_mark(self, octet: u8) -> Framer
-        ensures { (x : List ℕ) → IsMarkThen self.marks (18_446_744_073_709_551_615 - self.marks) (octet ∷ x) ↔ Finishes result x }
+        ensures { (x : List ℕ) → IsMarkThen self.marks (18_446_744_073_709_551_615 - self.marks)
+            (octet ∷ x) ↔ Finishes result x }
     {
         if octet == 0 {
-            self.at(Stage::Between)
+            self.at(Stage::BetweenElements)
         } else {
             self.at(Stage::Unframed(0))
         }

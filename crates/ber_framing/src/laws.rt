@@ -1,4 +1,4 @@
-//! What holds of the definitions alone.
+//! Laws of the definitions alone.
 ghost use Rattle.std.specs.Prelude.{◌≡◌, ℕ, ◌≤◌, List, ◌++◌, length};
 ghost use Rattle.ber_core.specs.Tree.{Tree, Spells, depth};
 ghost use Rattle.ber_framing.specs.Framed.{IsFrame, IsPart, IsUnframed};
@@ -14,5 +14,6 @@ pub fn one_frame()
 
 /// An encoding is framed, if it has at most 4,294,967,294 octets and at most 18,446,744,073,709,551,615 elements in one another.
 pub fn spellings_are_framed()
-    ensures { (t : Tree) (b : List ℕ) → Spells t b → length b ≤ 4_294_967_294 → depth t ≤ 18_446_744_073_709_551_615 → IsFrame b }
+    ensures { (t : Tree) (b : List ℕ) → Spells t b → length b ≤ 4_294_967_294
+        → depth t ≤ 18_446_744_073_709_551_615 → IsFrame b }
 {}

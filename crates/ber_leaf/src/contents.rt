@@ -1,4 +1,4 @@
-//! What each kind of leaf offers.
+//! The interface of each type of leaf.
 
 ghost use Rattle.std.specs.Prelude.{◌≡◌, ◌↔◌, List, ℕ, IsNone, length};
 ghost use Rattle.ber_leaf.specs.Content.{IsContent};

@@ -1,4 +1,4 @@
-//! What holds of the contents of leaves, by the definitions alone.
+//! Laws of the contents of leaves, by the definitions alone.
 
 ghost use Rattle.std.specs.Prelude.{◌≡◌, ◌↔◌, ◌≤◌, ◌≤ℤ◌, ℕ, ℤ, pos, neg_ℤ, List, length};
 ghost use Rattle.ber_leaf.specs.Leaf.{Leaf as Kind, integer, enumerated, content_fault, Holds, normal_content};
@@ -16,7 +16,8 @@ pub fn octets_hold_one_value()
 /// Values in Rust have one content, too, at each kind that implements [`Leaf`].
 pub fn octets_hold_one_out<L: Leaf>()
     ensures { (v w : L.Out) (octets : List ℕ)
-        → Holds profile_two L.kind (L.simple v) octets → Holds profile_two L.kind (L.simple w) octets
+        → Holds profile_two L.kind (L.simple v) octets
+        → Holds profile_two L.kind (L.simple w) octets
         → v ≡ w }
 {}
 

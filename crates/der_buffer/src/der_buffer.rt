@@ -7,7 +7,7 @@ ghost use Rattle.ber_core.specs.Header.{shortest_header};
 ghost use Rattle.ber_core.specs.Der.{encoding};
 ghost use Rattle.ber_core.specs.Tree.{primitive};
 
-use ber_core::{Class, Id, put_header};
+use ber_core::{Id, leading_octet, put_header};
 use std::alloc::{AllocError, Global};
 use std::marker::Model;
 
@@ -137,8 +137,10 @@ impl DerBuffer {
     /// Writes a whole element: identifier, length in the fewest octets (X.690, 10.1), and these contents.
     #[inline(always)]
     pub fn primitive(&mut self, id: Id, content: &[u8]) -> Result<(), AllocError>
-        ensures octets { OnOk result (self.new ≡ self.old ++ (shortest_header id (length content.now) ++ content.now)) }
-        ensures encoding { form_of_id id ≡ false → OnOk result (self.new ≡ self.old ++ encoding (primitive (tag_of_id id) content.now)) }
+        ensures octets { OnOk result (self.new ≡ self.old
+            ++ (shortest_header id (length content.now) ++ content.now)) }
+        ensures encoding { form_of_id id ≡ false
+            → OnOk result (self.new ≡ self.old ++ encoding (primitive (tag_of_id id) content.now)) }
     {
         if id.number() < 31 && content.len() < 128 {
             append_short_header(&mut self.octets, id, content.len())?;
@@ -157,12 +159,17 @@ impl DerBuffer {
     #[inline(always)]
     pub fn close(&mut self, contents_start: usize) -> Result<(), AllocError>
         ensures octets { 0 < contents_start → contents_start ≤ length self.old
-            → OnOk result (self.new ≡ take (contents_start - 1) self.old ++ (shortest_length (length self.old - contents_start) ++ drop contents_start self.old)) }
+            → OnOk result (self.new ≡ take (contents_start - 1) self.old
+            ++ (shortest_length (length self.old - contents_start)
+            ++ drop contents_start self.old)) }
         ensures front { contents_start ≡ 0 → (result ≡ Ok tt) × (self.new ≡ self.old) }
-        ensures beyond { length self.old < contents_start → (result ≡ Ok tt) × (self.new ≡ self.old) }
+        ensures beyond { length self.old < contents_start → (result ≡ Ok tt)
+            × (self.new ≡ self.old) }
         ensures element { (before body : List ℕ) (tag : Tag) (form : Bool) (x : ℕ)
-            → self.old ≡ before ++ (identifier tag form ++ x ∷ body) → contents_start ≡ length (before ++ (identifier tag form ++ x ∷ []))
-            → OnOk result (self.new ≡ before ++ (identifier tag form ++ (shortest_length (length body) ++ body))) }
+            → self.old ≡ before ++ (identifier tag form ++ x ∷ body)
+            → contents_start ≡ length (before ++ (identifier tag form ++ x ∷ []))
+            → OnOk result (self.new ≡ before ++ (identifier tag form
+            ++ (shortest_length (length body) ++ body))) }
     {
         if contents_start == 0 || contents_start > self.octets.len() {
             return Ok(());
@@ -171,11 +178,14 @@ impl DerBuffer {
     }
 
     /// Makes the octets from `contents_start` on the contents of an element: puts its identifier and length before them, and moves them by as much.
-    /// Where `contents_start` is beyond the end, the element is empty.
+    /// The element is empty where `contents_start` is beyond the end.
     #[inline(never)]
     pub fn enclose(&mut self, contents_start: usize, id: Id) -> Result<(), AllocError>
-        ensures octets { OnOk result (self.new ≡ take contents_start self.old ++ (shortest_header id (length self.old - contents_start) ++ drop contents_start self.old)) }
-        ensures element { (before body : List ℕ) → self.old ≡ before ++ body → contents_start ≡ length before
+        ensures octets { OnOk result (self.new ≡ take contents_start self.old
+            ++ (shortest_header id (length self.old - contents_start)
+            ++ drop contents_start self.old)) }
+        ensures element { (before body : List ℕ) → self.old ≡ before ++ body
+            → contents_start ≡ length before
             → OnOk result (self.new ≡ before ++ (shortest_header id (length body) ++ body)) }
     {
         let contents_start = contents_start.min(self.octets.len());
@@ -191,18 +201,11 @@ impl DerBuffer {
 
 // The one octet of an identifier whose number is below 31 (X.690, 8.1.2.2 to 8.1.2.5).
 #[inline(always)]
-fn identifier_octet(id: Id) -> u8
+fn short_identifier(id: Id) -> u8
     requires { (tag_of_id id).number < 31 }
     ensures { id_octets id ≡ result ∷ [] }
 {
-    let class = match id.class() {
-        Class::Universal => 0,
-        Class::Application => 64,
-        Class::Context => 128,
-        Class::Private => 192,
-    };
-    let form = if id.constructed() { 32 } else { 0 };
-    class + form + id.number() as u8
+    leading_octet(id) + id.number() as u8
 }
 
 // A header whose identifier and length are of one octet each. Room for the contents is made at once.
@@ -214,7 +217,7 @@ fn append_short_header(octets: &mut Vec<u8>, id: Id, size: usize) -> Result<(), 
     ensures room { OnOk result (vec_len octets.new + size ≤ vec_capacity octets.new) }
 {
     octets.reserve(size + 2)?;
-    octets.push_reserved(identifier_octet(id));
+    octets.push_reserved(short_identifier(id));
     octets.push_reserved(size as u8);
     Ok(())
 }
@@ -237,7 +240,8 @@ fn append_content(octets: &mut Vec<u8>, content: &[u8]) -> Result<(), AllocError
 // An element whose header is of any size.
 #[inline(never)]
 fn append_element(octets: &mut Vec<u8>, id: &Id, content: &[u8]) -> Result<(), AllocError>
-    ensures { OnOk result (octets.new.items ≡ octets.old.items ++ (shortest_header id.now (length content.now) ++ content.now)) }
+    ensures { OnOk result (octets.new.items ≡ octets.old.items
+        ++ (shortest_header id.now (length content.now) ++ content.now)) }
 {
     let mut header = [0; 10];
     let end = put_header(*id, 0, &mut header) as usize;
@@ -275,7 +279,8 @@ fn set_length(octets: &mut Vec<u8>, contents_start: usize) -> Result<(), AllocEr
     requires opened { 0 < contents_start }
     requires within { contents_start ≤ length octets.old.items }
     ensures { OnOk result (octets.new.items ≡ take (contents_start - 1) octets.old.items
-        ++ (shortest_length (length octets.old.items - contents_start) ++ drop contents_start octets.old.items)) }
+        ++ (shortest_length (length octets.old.items - contents_start)
+        ++ drop contents_start octets.old.items)) }
 {
     let size = octets.len() - contents_start;
     if size < 128 {
@@ -291,7 +296,8 @@ fn set_long_length(octets: &mut Vec<u8>, contents_start: usize) -> Result<(), Al
     requires opened { 0 < contents_start }
     requires within { contents_start ≤ length octets.old.items }
     ensures { OnOk result (octets.new.items ≡ take (contents_start - 1) octets.old.items
-        ++ (shortest_length (length octets.old.items - contents_start) ++ drop contents_start octets.old.items)) }
+        ++ (shortest_length (length octets.old.items - contents_start)
+        ++ drop contents_start octets.old.items)) }
 {
     let mut room = [0; 9];
     let at = put_length(octets.len() - contents_start, &mut room);
@@ -303,7 +309,8 @@ fn set_long_length(octets: &mut Vec<u8>, contents_start: usize) -> Result<(), Al
 #[inline(never)]
 fn insert_octets(octets: &mut Vec<u8>, at: usize, part: &[u8]) -> Result<(), AllocError>
     requires { at ≤ length octets.old.items }
-    ensures { OnOk result (octets.new.items ≡ take at octets.old.items ++ (part.now ++ drop at octets.old.items)) }
+    ensures { OnOk result (octets.new.items ≡ take at octets.old.items
+        ++ (part.now ++ drop at octets.old.items)) }
 {
     let end = octets.len();
     octets.extend_from_slice(part)?;

@@ -1,5 +1,5 @@
-//! How another program uses illcanon: it builds an APDU as a struct, sends its normal form, reads what it receives, and keeps normal
-//! forms in an archive. What it wants to know of all that is proved here, from the contracts of public calls and laws alone.
+//! An example of a program that uses illcanon: it builds an APDU as a struct, sends its normal form, reads what it receives, and keeps
+//! normal forms in an archive. All that it needs is proved here, from the contracts of public calls and laws alone.
 #![tactic(auto)]
 
 ghost use Rattle.std.specs.Prelude.{◌≡◌, ◌≢◌, ◌⊎◌, ◌<◌, ℕ, length, IfOk, IfErr, IsErrOf, IsTrue};
@@ -32,8 +32,10 @@ pub enum Fault {
 /// The octets that are sent of an APDU: its normal form, which spells it.
 pub fn sent(alloc: Global, apdu: &Apdu) -> Result<Vec<u8>, Fault>
     ensures octets { IfOk result (λ octets. octets.items ≡ normal_form (view_of apdu.now)) }
-    ensures spells { IfOk result (λ octets. SpellsApdu profile_two (view_of apdu.now) octets.items) }
-    ensures too_long { IsErrOf result Fault.TooLong → profile_two.limit < length (normal_form (view_of apdu.now)) }
+    ensures spells { IfOk result (λ octets. SpellsApdu profile_two (view_of apdu.now)
+        octets.items) }
+    ensures too_long { IsErrOf result Fault.TooLong
+        → profile_two.limit < length (normal_form (view_of apdu.now)) }
     ensures fails { IfErr result (λ fault. (fault ≡ Fault.TooLong) ⊎ (fault ≡ Fault.OutOfMemory)) }
 {
     match apdu.to_message(alloc) {
@@ -46,7 +48,8 @@ pub fn sent(alloc: Global, apdu: &Apdu) -> Result<Vec<u8>, Fault>
 /// The normal form of a message, which spells its APDU.
 fn written(alloc: Global, message: &Message) -> Result<Vec<u8>, Fault>
     ensures octets { IfOk result (λ octets. octets.items ≡ normal_form (apdu_of message.now)) }
-    ensures spells { IfOk result (λ octets. SpellsApdu profile_two (apdu_of message.now) octets.items) }
+    ensures spells { IfOk result (λ octets. SpellsApdu profile_two (apdu_of message.now)
+        octets.items) }
     ensures fails { IfErr result (λ fault. fault ≡ Fault.OutOfMemory) }
 {
     // The body fits its node, and the normal form is within the limit.
@@ -60,8 +63,10 @@ fn written(alloc: Global, message: &Message) -> Result<Vec<u8>, Fault>
 
 /// Octets that spell an APDU are read as that APDU, and are not refused.
 pub fn received(alloc: Global, octets: &[u8]) -> Result<Message, Fault>
-    ensures message { (a : NumberedBody) → SpellsApdu profile_two a octets.now → IfOk result (λ message. apdu_of message ≡ a) }
-    ensures accepts { (a : NumberedBody) → SpellsApdu profile_two a octets.now → IfErr result (λ fault. fault ≡ Fault.OutOfMemory) }
+    ensures message { (a : NumberedBody) → SpellsApdu profile_two a octets.now
+        → IfOk result (λ message. apdu_of message ≡ a) }
+    ensures accepts { (a : NumberedBody) → SpellsApdu profile_two a octets.now
+        → IfErr result (λ fault. fault ≡ Fault.OutOfMemory) }
 {
     one_meaning();
     one_refusal_of_a_slice();
@@ -76,7 +81,8 @@ pub fn received(alloc: Global, octets: &[u8]) -> Result<Message, Fault>
 /// ([`Apdu::one_view`]).
 pub fn returned(alloc: Global, apdu: &Apdu) -> Result<Apdu, Fault>
     ensures back { IfOk result (λ back. view_of back ≡ view_of apdu.now) }
-    ensures too_long { IsErrOf result Fault.TooLong → profile_two.limit < length (normal_form (view_of apdu.now)) }
+    ensures too_long { IsErrOf result Fault.TooLong
+        → profile_two.limit < length (normal_form (view_of apdu.now)) }
     ensures fails { IfErr result (λ fault. (fault ≡ Fault.TooLong) ⊎ (fault ≡ Fault.OutOfMemory)) }
 {
     let octets = match sent(alloc, apdu) {
@@ -96,8 +102,10 @@ pub fn returned(alloc: Global, apdu: &Apdu) -> Result<Apdu, Fault>
 /// An archive keeps the normal form of octets that spell an APDU, however they spell it.
 pub fn archived<W: Sink>(alloc: Global, octets: &[u8], archive: &mut W) -> Result<(), Fault>
     ensures kept { (a : NumberedBody) → SpellsApdu profile_two a octets.now
-        → IfOk result (λ _. Appends (W.contents archive.old) (W.contents archive.new) (normal_form a)) }
-    ensures accepts { (a : NumberedBody) → SpellsApdu profile_two a octets.now → IfErr result (λ fault. fault ≢ Fault.Refused) }
+        → IfOk result (λ _. Appends (W.contents archive.old) (W.contents archive.new)
+        (normal_form a)) }
+    ensures accepts { (a : NumberedBody) → SpellsApdu profile_two a octets.now
+        → IfErr result (λ fault. fault ≢ Fault.Refused) }
     ensures broken { IsErrOf result Fault.Broken → IsTrue (W.is_broken archive.new) }
 {
     one_meaning();

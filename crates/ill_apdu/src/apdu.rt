@@ -134,8 +134,10 @@ impl Apdu {
         ensures apdu { IfOk result (λ m. apdu_of m ≡ view_of self.now) }
         ensures octets { IfOk result (λ m. octets_of m ≡ length (normal_form (view_of self.now))) }
         // A normal form that passes the limit has no message, and only such a one is too long.
-        ensures within { IfOk result (λ _. length (normal_form (view_of self.now)) ≤ profile_two.limit) }
-        ensures too_long { IsErrOf result MessageFault.TooLong → profile_two.limit < length (normal_form (view_of self.now)) }
+        ensures within { IfOk result (λ _. length (normal_form (view_of self.now))
+            ≤ profile_two.limit) }
+        ensures too_long { IsErrOf result MessageFault.TooLong
+            → profile_two.limit < length (normal_form (view_of self.now)) }
     {
         let Ok(body) = self.body(alloc) else {
             return Err(MessageFault::OutOfMemory);
@@ -149,8 +151,10 @@ impl Apdu {
         requires fits { Is (node_of self.now) (content_of body) }
         ensures apdu { IfOk result (λ m. apdu_of m ≡ view_of self.now) }
         ensures octets { IfOk result (λ m. octets_of m ≡ length (normal_form (view_of self.now))) }
-        ensures within { IfOk result (λ _. length (normal_form (view_of self.now)) ≤ profile_two.limit) }
-        ensures too_long { IfErr result (λ fault. (fault ≡ MessageFault.TooLong) × (profile_two.limit < length (normal_form (view_of self.now)))) }
+        ensures within { IfOk result (λ _. length (normal_form (view_of self.now))
+            ≤ profile_two.limit) }
+        ensures too_long { IfErr result (λ fault. (fault ≡ MessageFault.TooLong)
+            × (profile_two.limit < length (normal_form (view_of self.now)))) }
     {
         match Message::new(self.number(), body) {
             Ok(message) => {

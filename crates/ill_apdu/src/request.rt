@@ -38,7 +38,7 @@ pub struct IllRequest {
     pub search_type: Option<SearchType>,
     /// The media that are accepted (row 13).
     pub supply_medium_info_type: Option<Vec<SupplyMediumInfo>>,
-    /// Whether to place a hold: 1 yes, 2 no, 3 by the policy of the responder (row 14, by
+    /// The wish for a hold: 1 yes, 2 no, 3 by the policy of the responder (row 14, by
     /// default 3).
     pub place_on_hold: i64,
     /// The person for whom it is (row 15).
@@ -165,17 +165,20 @@ fn read_order(alloc: Global, entries: &[Option<Value>]) -> Result<Order, AllocEr
     requires billing_address { May (Is DeliveryAddressNode) (entry_at entries.now 8) }
     requires ill_service_type { Must (IsListOf (Is Integer)) (entry_at entries.now 9) }
     ensures transaction_type { IfOk result (λ r. Some (number_content r.transaction_type) ≡ entry_at entries.now 5) }
-    ensures delivery_address { IfOk result (λ r. option_map delivery_address r.delivery_address ≡ entry_at entries.now 6) }
-    ensures delivery_service { IfOk result (λ r. option_map delivery_service r.delivery_service ≡ entry_at entries.now 7) }
-    ensures billing_address { IfOk result (λ r. option_map delivery_address r.billing_address ≡ entry_at entries.now 8) }
-    ensures ill_service_type { IfOk result (λ r. Some (listed number_content r.ill_service_type) ≡ entry_at entries.now 9) }
+    ensures delivery_address { IfOk result (λ r. option_map delivery_address r.delivery_address
+        ≡ entry_at entries.now 6) }
+    ensures delivery_service { IfOk result (λ r. option_map delivery_service r.delivery_service
+        ≡ entry_at entries.now 7) }
+    ensures billing_address { IfOk result (λ r. option_map delivery_address r.billing_address
+        ≡ entry_at entries.now 8) }
+    ensures ill_service_type { IfOk result (λ r. Some (listed number_content r.ill_service_type)
+        ≡ entry_at entries.now 9) }
 {
     let transaction_type = required(alloc, entries, 5)?;
+    let ill_service_type = required(alloc, entries, 9)?;
     let delivery = both(optional(alloc, entries, 6), optional(alloc, entries, 7));
-    let service = both(optional(alloc, entries, 8), required(alloc, entries, 9));
-    let ((delivery_address, delivery_service), (billing_address, ill_service_type)) = both(
-        delivery, service,
-    )?;
+    let (delivery, billing_address) = both(delivery, optional(alloc, entries, 8))?;
+    let (delivery_address, delivery_service) = delivery;
     Ok(Order {
         transaction_type,
         delivery_address,
@@ -197,17 +200,24 @@ struct Terms {
 }
 
 fn read_terms(alloc: Global, entries: &[Option<Value>]) -> Result<Terms, AllocError>
-    requires requester_optional_messages { Must (Is RequesterOptionalMessagesNode) (entry_at entries.now 11) }
+    requires requester_optional_messages { Must (Is RequesterOptionalMessagesNode)
+        (entry_at entries.now 11) }
     requires search_type { May (Is SearchTypeNode) (entry_at entries.now 12) }
-    requires supply_medium_info_type { May (IsListOf (Is SupplyMediumInfoNode)) (entry_at entries.now 13) }
+    requires supply_medium_info_type { May (IsListOf (Is SupplyMediumInfoNode))
+        (entry_at entries.now 13) }
     requires place_on_hold { Must (Is Integer) (entry_at entries.now 14) }
     requires client_id { May (Is ClientIdNode) (entry_at entries.now 15) }
     requires item_id { Must (Is ItemIdNode) (entry_at entries.now 16) }
-    ensures requester_optional_messages { IfOk result (λ r. Some (requester_optional_messages r.requester_optional_messages) ≡ entry_at entries.now 11) }
-    ensures search_type { IfOk result (λ r. option_map search_type r.search_type ≡ entry_at entries.now 12) }
-    ensures supply_medium_info_type { IfOk result (λ r. option_map (listed supply_medium_info) r.supply_medium_info_type ≡ entry_at entries.now 13) }
-    ensures place_on_hold { IfOk result (λ r. Some (number_content r.place_on_hold) ≡ entry_at entries.now 14) }
-    ensures client_id { IfOk result (λ r. option_map client_id r.client_id ≡ entry_at entries.now 15) }
+    ensures requester_optional_messages { IfOk result (λ r. Some (requester_optional_messages r.requester_optional_messages)
+        ≡ entry_at entries.now 11) }
+    ensures search_type { IfOk result (λ r. option_map search_type r.search_type ≡ entry_at
+        entries.now 12) }
+    ensures supply_medium_info_type { IfOk result (λ r. option_map (listed supply_medium_info) r.supply_medium_info_type
+        ≡ entry_at entries.now 13) }
+    ensures place_on_hold { IfOk result (λ r. Some (number_content r.place_on_hold) ≡ entry_at
+        entries.now 14) }
+    ensures client_id { IfOk result (λ r. option_map client_id r.client_id ≡ entry_at entries.now
+        15) }
     ensures item_id { IfOk result (λ r. Some (item_id r.item_id) ≡ entry_at entries.now 16) }
 {
     let requester_optional_messages = required(alloc, entries, 11)?;
@@ -245,13 +255,20 @@ fn read_remarks(alloc: Global, entries: &[Option<Value>]) -> Result<Remarks, All
     requires forward_flag { Must (Is Boolean) (entry_at entries.now 22) }
     requires requester_note { May (Is StringNode) (entry_at entries.now 23) }
     requires forward_note { May (Is StringNode) (entry_at entries.now 24) }
-    ensures cost_info_type { IfOk result (λ r. option_map cost_info r.cost_info_type ≡ entry_at entries.now 18) }
-    ensures copyright_compliance { IfOk result (λ r. option_map string_content r.copyright_compliance ≡ entry_at entries.now 19) }
-    ensures third_party_info_type { IfOk result (λ r. option_map third_party_info r.third_party_info_type ≡ entry_at entries.now 20) }
-    ensures retry_flag { IfOk result (λ r. Some (flag_content r.retry_flag) ≡ entry_at entries.now 21) }
-    ensures forward_flag { IfOk result (λ r. Some (flag_content r.forward_flag) ≡ entry_at entries.now 22) }
-    ensures requester_note { IfOk result (λ r. option_map string_content r.requester_note ≡ entry_at entries.now 23) }
-    ensures forward_note { IfOk result (λ r. option_map string_content r.forward_note ≡ entry_at entries.now 24) }
+    ensures cost_info_type { IfOk result (λ r. option_map cost_info r.cost_info_type ≡ entry_at
+        entries.now 18) }
+    ensures copyright_compliance { IfOk result (λ r. option_map string_content r.copyright_compliance
+        ≡ entry_at entries.now 19) }
+    ensures third_party_info_type { IfOk result (λ r. option_map third_party_info r.third_party_info_type
+        ≡ entry_at entries.now 20) }
+    ensures retry_flag { IfOk result (λ r. Some (flag_content r.retry_flag) ≡ entry_at entries.now
+        21) }
+    ensures forward_flag { IfOk result (λ r. Some (flag_content r.forward_flag) ≡ entry_at
+        entries.now 22) }
+    ensures requester_note { IfOk result (λ r. option_map string_content r.requester_note ≡ entry_at
+        entries.now 23) }
+    ensures forward_note { IfOk result (λ r. option_map string_content r.forward_note ≡ entry_at
+        entries.now 24) }
 {
     let retry_flag = required(alloc, entries, 21)?;
     let forward_flag = required(alloc, entries, 22)?;

@@ -141,7 +141,7 @@ impl Typed for Retry {
 /// The responder can't supply the item (Unfilled).
 #[derive(Debug, Drop, PartialEq, Eq)]
 pub struct Unfilled {
-    /// Why, by the number of the reason (row 0).
+    /// The number of the reason (row 0).
     pub reason_unfilled: i64,
     /// Other places where it may be had (row 1).
     pub location_list: Option<Vec<LocationInfo>>,

@@ -114,7 +114,8 @@ fn by_hex<'a>(
     about: &'a str,
     after: &'a str,
 ) -> Result<Command<'a>, AllocError>
-    ensures { IfOk result (λ c. (app_of c ≡ with_hex profiles.entry name.entry.now) × ((fields_of c).has_globals ≡ false)) }
+    ensures { IfOk result (λ c. (app_of c ≡ with_hex profiles.entry name.entry.now)
+        × ((fields_of c).has_globals ≡ false)) }
 {
     Command::new(alloc, name)
         .about(about)
@@ -130,7 +131,8 @@ fn with_files<'a>(
     help: &'a str,
 ) -> Result<Command<'a>, AllocError>
     requires { (fields_of command).has_globals ≡ false }
-    ensures { IfOk result (λ c. (app_of c ≡ with_files (app_of command.entry)) × ((fields_of c).has_globals ≡ false)) }
+    ensures { IfOk result (λ c. (app_of c ≡ with_files (app_of command.entry))
+        × ((fields_of c).has_globals ≡ false)) }
 {
     command.arg(list(alloc))?.arg(files(alloc, help))
 }
@@ -142,7 +144,8 @@ fn on_each<'a>(
     about: &'a str,
     after: &'a str,
 ) -> Result<Command<'a>, AllocError>
-    ensures { IfOk result (λ c. (app_of c ≡ each_file profiles.entry name.entry.now) × ((fields_of c).has_globals ≡ false)) }
+    ensures { IfOk result (λ c. (app_of c ≡ each_file profiles.entry name.entry.now)
+        × ((fields_of c).has_globals ≡ false)) }
 {
     with_files(
         alloc,
@@ -159,7 +162,8 @@ fn by_messages<'a>(
     about: &'a str,
     after: &'a str,
 ) -> Result<Command<'a>, AllocError>
-    ensures { IfOk result (λ c. (app_of c ≡ with_going profiles.entry name.entry.now) × ((fields_of c).has_globals ≡ false)) }
+    ensures { IfOk result (λ c. (app_of c ≡ with_going profiles.entry name.entry.now)
+        × ((fields_of c).has_globals ≡ false)) }
 {
     by_hex(alloc, profiles, name, about, after)?
         .arg(flag(alloc, "keep-going", KEEP_GOING))?
@@ -174,7 +178,8 @@ fn by_lines<'a>(
     about: &'a str,
     after: &'a str,
 ) -> Result<Command<'a>, AllocError>
-    ensures { IfOk result (λ c. (app_of c ≡ with_lines profiles.entry name.entry.now) × ((fields_of c).has_globals ≡ false)) }
+    ensures { IfOk result (λ c. (app_of c ≡ with_lines profiles.entry name.entry.now)
+        × ((fields_of c).has_globals ≡ false)) }
 {
     by_messages(alloc, profiles, name, about, after)?.arg(flag(alloc, "lines", LINES))
 }
@@ -187,7 +192,8 @@ fn replacing<'a>(
     about: &'a str,
     after: &'a str,
 ) -> Result<Command<'a>, AllocError>
-    ensures { IfOk result (λ c. (app_of c ≡ with_whole profiles.entry name.entry.now) × ((fields_of c).has_globals ≡ false)) }
+    ensures { IfOk result (λ c. (app_of c ≡ with_whole profiles.entry name.entry.now)
+        × ((fields_of c).has_globals ≡ false)) }
 {
     by_lines(alloc, profiles, name, about, after)?.arg(flag(alloc, "whole", WHOLE))
 }
@@ -199,7 +205,8 @@ fn on_each_or_lines<'a>(
     about: &'a str,
     after: &'a str,
 ) -> Result<Command<'a>, AllocError>
-    ensures { IfOk result (λ c. (app_of c ≡ each_line profiles.entry name.entry.now) × ((fields_of c).has_globals ≡ false)) }
+    ensures { IfOk result (λ c. (app_of c ≡ each_line profiles.entry name.entry.now)
+        × ((fields_of c).has_globals ≡ false)) }
 {
     with_files(
         alloc,
@@ -216,43 +223,64 @@ fn on_each_counted<'a>(
     about: &'a str,
     after: &'a str,
 ) -> Result<Command<'a>, AllocError>
-    ensures { IfOk result (λ c. (app_of c ≡ each_counted profiles.entry name.entry.now) × ((fields_of c).has_globals ≡ false)) }
+    ensures { IfOk result (λ c. (app_of c ≡ each_counted profiles.entry name.entry.now)
+        × ((fields_of c).has_globals ≡ false)) }
 {
     on_each(alloc, profiles, name, about, after)?
         .arg(flag(alloc, "keep-going", KEEP_GOING))?
         .arg(flag(alloc, "summary", SUMMARY))
 }
 
+/// A command on files that counts messages, and writes lines of JSON on demand.
+// Apart from `show`: the proof is quick where the name isn't known.
+fn on_each_as_json<'a>(
+    alloc: Global,
+    profiles: &'a [&'a str],
+    name: &'a str,
+    about: &'a str,
+    after: &'a str,
+) -> Result<Command<'a>, AllocError>
+    ensures { IfOk result (λ c. (app_of c ≡ each_going profiles.entry name.entry.now)
+        × ((fields_of c).has_globals ≡ false)) }
+{
+    on_each_counted(alloc, profiles, name, about, after)?.arg(flag(alloc, "json", JSON))
+}
+
 pub fn show<'a>(alloc: Global, profiles: &'a [&'a str]) -> Result<Command<'a>, AllocError>
-    ensures { IfOk result (λ c. (app_of c ≡ each_going profiles.entry (codes "show")) × ((fields_of c).has_globals ≡ false)) }
+    ensures { IfOk result (λ c. (app_of c ≡ each_going profiles.entry (codes "show"))
+        × ((fields_of c).has_globals ≡ false)) }
 {
     let about = "Writes the messages as text";
-    on_each_counted(alloc, profiles, "show", about, help::SHOW)?.arg(flag(alloc, "json", JSON))
+    on_each_as_json(alloc, profiles, "show", about, help::SHOW)
 }
 
 pub fn check<'a>(alloc: Global, profiles: &'a [&'a str]) -> Result<Command<'a>, AllocError>
-    ensures { IfOk result (λ c. (app_of c ≡ each_line profiles.entry (codes "check")) × ((fields_of c).has_globals ≡ false)) }
+    ensures { IfOk result (λ c. (app_of c ≡ each_line profiles.entry (codes "check"))
+        × ((fields_of c).has_globals ≡ false)) }
 {
     let about = "Reports for each message whether it is in normal form";
     on_each_or_lines(alloc, profiles, "check", about, help::CHECK)
 }
 
 pub fn digest<'a>(alloc: Global, profiles: &'a [&'a str]) -> Result<Command<'a>, AllocError>
-    ensures { IfOk result (λ c. (app_of c ≡ each_line profiles.entry (codes "digest")) × ((fields_of c).has_globals ≡ false)) }
+    ensures { IfOk result (λ c. (app_of c ≡ each_line profiles.entry (codes "digest"))
+        × ((fields_of c).has_globals ≡ false)) }
 {
     let about = "Writes the digest of each message, the same however it is spelled";
     on_each_or_lines(alloc, profiles, "digest", about, help::DIGEST)
 }
 
 pub fn dump<'a>(alloc: Global, profiles: &'a [&'a str]) -> Result<Command<'a>, AllocError>
-    ensures { IfOk result (λ c. (app_of c ≡ each_file profiles.entry (codes "dump")) × ((fields_of c).has_globals ≡ false)) }
+    ensures { IfOk result (λ c. (app_of c ≡ each_file profiles.entry (codes "dump"))
+        × ((fields_of c).has_globals ≡ false)) }
 {
     let about = "Writes each element of the messages as it is spelled, and why one is refused";
     on_each(alloc, profiles, "dump", about, help::DUMP)
 }
 
 fn same<'a>(alloc: Global, profiles: &'a [&'a str]) -> Result<Command<'a>, AllocError>
-    ensures { IfOk result (λ c. (app_of c ≡ two_files profiles.entry (codes "same")) × ((fields_of c).has_globals ≡ false)) }
+    ensures { IfOk result (λ c. (app_of c ≡ two_files profiles.entry (codes "same"))
+        × ((fields_of c).has_globals ≡ false)) }
 {
     let about = "Reports whether two files hold the same message, however it is spelled";
     by_hex(alloc, profiles, "same", about, help::SAME)?
@@ -265,7 +293,8 @@ fn canonicalise_with_output<'a>(
     alloc: Global,
     profiles: &'a [&'a str],
 ) -> Result<Command<'a>, AllocError>
-    ensures { IfOk result (λ c. (app_of c ≡ with_output profiles.entry (codes "canonicalise")) × ((fields_of c).has_globals ≡ false)) }
+    ensures { IfOk result (λ c. (app_of c ≡ with_output profiles.entry (codes "canonicalise"))
+        × ((fields_of c).has_globals ≡ false)) }
 {
     let about = "Writes the normal form (DER) of each message in IN, or in each FILE, to OUT";
     replacing(alloc, profiles, "canonicalise", about, help::CANONICALISE)?
@@ -274,7 +303,8 @@ fn canonicalise_with_output<'a>(
 }
 
 pub fn canonicalise<'a>(alloc: Global, profiles: &'a [&'a str]) -> Result<Command<'a>, AllocError>
-    ensures { IfOk result (λ c. (app_of c ≡ into_one profiles.entry (codes "canonicalise")) × ((fields_of c).has_globals ≡ false)) }
+    ensures { IfOk result (λ c. (app_of c ≡ into_one profiles.entry (codes "canonicalise"))
+        × ((fields_of c).has_globals ≡ false)) }
 {
     let words = "IN and OUT; or with `-o OUT` the messages; `-` is standard input or output";
     with_files(alloc, canonicalise_with_output(alloc, profiles)?, words)
@@ -297,7 +327,7 @@ pub fn program<'a>(alloc: Global, profiles: &'a [&'a str]) -> Result<Command<'a>
 {
     Command::new(alloc, "illcanon")
         .bin_name("illcanon")?
-        .version("0.1.0")
+        .version("0.2.0")
         .about(
             "The canonical form of ISO interlibrary loan messages (ILL APDUs of ISO 10161-1 in BER)",
         )

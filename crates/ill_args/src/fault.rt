@@ -1,4 +1,4 @@
-//! Why a command line gives no order.
+//! The reasons why a command line gives no order.
 use clap::Error as LineError;
 use std::alloc::AllocError;
 use thiserror::Error;

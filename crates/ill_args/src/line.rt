@@ -20,14 +20,15 @@ use std::alloc::{AllocError, Global};
 ///
 /// # Errors
 ///
-/// What `clap` reports of words that are no command line, or that ask for help. Or a file is missing, or `canonicalise` has a word more
+/// The report of `clap` on words that are no command line, or that ask for help. Or a file is missing, or `canonicalise` has a word more
 /// than IN and OUT. Or `same` has `-` twice, or `canonicalise` one word other than `-` for IN and OUT. Or another command has `-` twice
 /// among its files and their list, or `-o` has one of these words. Or `--lines` has no file, several, or a list, or is given with `--hex`,
 /// `--keep-going` or `--summary`. Or `--whole` is given with standard output for OUT.
 pub fn order<'a>(alloc: Global, words: &'a [String]) -> Result<Order<'a>, LineFault>
     // The words have the order's command, profile, flags and files; standard input is not read twice, no file is written that is read by the
     // same word, and there are files. Lines are those of one file, are no hexadecimal text, have no messages to pass over, and are not counted.
-    ensures order { IfOk result (IsOrderOf (subcommand_of program (map string_bytes words.entry.now))) }
+    ensures order { IfOk result
+        (IsOrderOf (subcommand_of program (map string_bytes words.entry.now))) }
     ensures not_same { IfOk result (λ order. HasSameWord order → ⊥) }
     ensures not_twice { IfOk result (λ order. ReadsInputTwice order → ⊥) }
     ensures not_read { IfOk result (λ order. ReadsOutput order → ⊥) }
@@ -37,7 +38,8 @@ pub fn order<'a>(alloc: Global, words: &'a [String]) -> Result<Order<'a>, LineFa
     ensures not_counted { IfOk result (λ order. LinesAreCounted order → ⊥) }
     ensures one { IfOk result (λ order. NamesNotOne order → ⊥) }
     ensures replaced { IfOk result (λ order. WholeIsPrinted order → ⊥) }
-    ensures fault { IfErr result (IsFaultOf (subcommand_of program (map string_bytes words.entry.now))) }
+    ensures fault { IfErr result
+        (IsFaultOf (subcommand_of program (map string_bytes words.entry.now))) }
     // What clap finds wrong is refused, and nothing else, unless memory runs out.
     ensures faults { IsRefusedBy (fault_of program (map string_bytes words.entry.now)) result }
 {

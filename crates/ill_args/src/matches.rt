@@ -1,4 +1,4 @@
-//! What clap finds in the words, as an order.
+//! Orders made of the matches that clap finds in the words.
 ghost use Rattle.std.specs.Prelude.{◌≡◌, [], map, codes, is_some, true, Some, IfOk, IfErr};
 ghost use Rattle.std.specs.String.{string_bytes};
 ghost use Rattle.clap.specs.Words.{FailsBy, fault_of, first_of, found_of, kind_of, rows_of, subcommand_of, subcommand_rows_of};
@@ -21,8 +21,10 @@ use ill_schema::Profile;
 use std::alloc::{AllocError, Global};
 
 pub fn read<'a>(alloc: Global, words: &'a [String]) -> Result<Order<'a>, LineFault>
-    ensures order { IfOk result (IsOrderOf (subcommand_of program (map string_bytes words.entry.now))) }
-    ensures fault { IfErr result (IsFaultOf (subcommand_of program (map string_bytes words.entry.now))) }
+    ensures order { IfOk result
+        (IsOrderOf (subcommand_of program (map string_bytes words.entry.now))) }
+    ensures fault { IfErr result
+        (IsFaultOf (subcommand_of program (map string_bytes words.entry.now))) }
     ensures faults { IsRefusedBy (fault_of program (map string_bytes words.entry.now)) result }
 {
     match matches_of(alloc, words) {
@@ -32,7 +34,8 @@ pub fn read<'a>(alloc: Global, words: &'a [String]) -> Result<Order<'a>, LineFau
 }
 
 fn matches_of<'a>(alloc: Global, words: &'a [String]) -> Result<ArgMatches<'a>, Error>
-    ensures found { IfOk result (λ matches. subcommand_rows_of matches ≡ subcommand_of program (map string_bytes words.entry.now)) }
+    ensures found { IfOk result (λ matches. subcommand_rows_of matches ≡ subcommand_of program
+        (map string_bytes words.entry.now)) }
     ensures command { IfOk result (λ matches. IsCommand (subcommand_rows_of matches)) }
     ensures faults { FailsBy (fault_of program (map string_bytes words.entry.now)) result }
 {
@@ -117,7 +120,8 @@ fn task_of<'a>(alloc: Global, verb: Verb, words: &ArgMatches<'a>) -> Result<Task
 
 /// A job with each of the files among the words.
 fn each<'a>(alloc: Global, job: FileJob, words: &ArgMatches<'a>) -> Result<Task<'a>, LineFault>
-    ensures task { IfOk result (λ task. (inputs : Inputs) × (task ≡ Task.Each job inputs) × HasInputs (rows_of (found_of words.now)) inputs) }
+    ensures task { IfOk result (λ task. (inputs : Inputs) × (task ≡ Task.Each job inputs)
+        × HasInputs (rows_of (found_of words.now)) inputs) }
     ensures memory { IfErr result IsOutOfMemory }
 {
     let inputs = inputs(alloc, words)?;
@@ -135,7 +139,8 @@ fn inputs<'a>(alloc: Global, words: &ArgMatches<'a>) -> Result<Inputs<'a>, Alloc
 
 /// The words FILE.
 fn names<'a>(alloc: Global, words: &ArgMatches<'a>) -> Result<Vec<&'a str>, AllocError>
-    ensures { IfOk result (λ files. files_in (rows_of (found_of words.now)) ≡ map (λ word. word.now) files.items) }
+    ensures { IfOk result (λ files. files_in (rows_of (found_of words.now))
+        ≡ map (λ word. word.now) files.items) }
 {
     match words.get_strs("file") {
         Some(files) => Vec::from_slice(alloc, files),
@@ -170,7 +175,8 @@ fn required<'a>(words: &ArgMatches<'a>, id: &str) -> &'a str
 fn normal_forms<'a>(alloc: Global, words: &ArgMatches<'a>) -> Result<Task<'a>, LineFault>
     ensures verb { IfOk result (λ task. verb_of_task task ≡ Verb.Canonicalise) }
     ensures files { IfOk result (HasFiles (rows_of (found_of words.now))) }
-    ensures fault { IfErr result (IsFaultOf (Some (codes "canonicalise", rows_of (found_of words.now)))) }
+    ensures fault { IfErr result
+        (IsFaultOf (Some (codes "canonicalise", rows_of (found_of words.now)))) }
     ensures faults { IfErr result (IsRefusal []) }
 {
     let inputs = inputs(alloc, words)?;

@@ -1,4 +1,4 @@
-//! What a command line says.
+//! Orders: the meaning of a command line.
 use ill_schema::Profile;
 
 /// A command of the program.
@@ -38,7 +38,7 @@ pub struct Order<'a> {
 pub enum FileJob {
     /// Its text.
     Show,
-    /// Whether it is in normal form.
+    /// A line that says whether it is in normal form.
     Check,
     /// The digest of its normal form.
     Digest,

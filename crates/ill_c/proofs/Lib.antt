@@ -1,4 +1,5 @@
 pub mod CTexts
+pub mod Framings
 pub mod Fronts
 pub mod OneResult
 pub mod Parts

@@ -1,5 +1,6 @@
 -- What calls leave is one result in each profile.
-use Rattle.std.proofs.Common.{◌≡◌, ◌∙◌, ℕ, List, length, refl, sym, ap, subst, arith}
+use Rattle.std.proofs.Common.{◌≡◌, ◌∙◌, ℕ, List, [], ◌++◌, length, take, drop, refl, sym, ap, subst, arith, append-nil}
+use Rattle.std.proofs.lemmas.List.{take-append-drop}
 use Rattle.ber_leaf.specs.Profile.{Profile}
 use Rattle.ill_schema.specs.Apdu.{Apdu, SpellsApdu, Accepts, normal_form_in}
 use Rattle.ill_schema.proofs.Streams.{accepts_once}
@@ -8,11 +9,12 @@ use Rattle.ill_read.specs.Answers.{RefusesWholeIn}
 use Rattle.ill_normal.proofs.Canonical.{refuses_once, refuses_whole, spells_once}
 use Rattle.ill_c.specs.declared.refusal.IllcanonRefusal.{IllcanonRefusal}
 use Rattle.ill_c.specs.declared.status.Status.{Status}
-use Rattle.ill_c.specs.Calls.{IsMade, WritesIn, ChecksIn, ComparesIn, FindsIn, WritesFrontIn}
+use Rattle.ill_c.specs.Calls.{IsMade, WritesIn, ChecksIn, ComparesIn, FindsIn, WritesFrontIn, DumpsIn, Frames}
 use Rattle.ill_c.specs.Memory.{Change, Fills, Lacks, Reports, IsFlag}
-use Rattle.ill_c.specs.OneResult.{WritesOnce, ChecksOnce, ComparesOnce, FindsOnce, WritesFrontOnce}
+use Rattle.ill_c.specs.OneResult.{WritesOnce, ChecksOnce, ComparesOnce, FindsOnce, WritesFrontOnce, DumpsOnce, FramesOnce}
 use Rattle.ill_c.specs.Refusals.{reported}
 use Rattle.ill_c.specs.Status.{EndsWith, status_number}
+use Rattle.ill_c.proofs.Framings.{frame_at_front, part_has_no_front}
 
 -- a call whose octets are refused in one way reports that refusal
 tells_once : (p : Profile) (s : List ℕ) (refusal : Change IllcanonRefusal) (f : Fault) → Reports (RefusesWholeIn p s) refusal → RefusesWholeIn p s f → refusal.after ≡ reported f
@@ -232,3 +234,68 @@ module _ (p : Profile) (s : List ℕ) (read : Change ℕ) (buffer : Change (List
 
   pub writes_front_once : (n : ℕ) → EndsWith n (WritesFrontIn p s read buffer size refusal) → WritesFrontOnce p s read buffer size refusal n
   writes_front_once n (status, e, h) = subst (WritesFrontOnce p s read buffer size refusal) (sym e) (wrote_front status h)
+
+module _ (p : Profile) (s : List ℕ) (buffer : Change (List ℕ)) (size : Change ℕ) (refusal : Change IllcanonRefusal) where
+  dumped : (status : Status) → DumpsIn p s buffer size refusal status → DumpsOnce p s buffer size refusal (status_number status)
+  dumped Status.Done (fills, spelled, stays) = record {
+    read = λ a h ne ne'. refl;
+    refused = λ f h ne ne'. absurd (refuses_whole s f spelled.0 h spelled.1);
+    buffer_stays = λ ne ne'. absurd (ne refl);
+    size_stays = λ e. absurd (omega (arith, e));
+    refusal_stays = λ ne. stays;
+  }
+  dumped Status.Refused (fills, reports) = record {
+    read = λ a h ne ne'. absurd (refuses_whole s reports.0 a reports.1 h);
+    refused = λ f h ne ne'. (refl, tells_once p s refusal f reports h);
+    buffer_stays = λ ne ne'. absurd (ne' refl);
+    size_stays = λ e. absurd (omega (arith, e));
+    refusal_stays = λ ne. absurd (ne refl);
+  }
+  dumped Status.NoRoom ((text, lacks), stays) = record {
+    read = λ a h ne ne'. absurd (ne refl);
+    refused = λ f h ne ne'. absurd (ne refl);
+    buffer_stays = λ ne ne'. lacks.kept;
+    size_stays = λ e. absurd (omega (arith, e));
+    refusal_stays = λ ne. stays;
+  }
+  dumped Status.OutOfMemory (stays, size_stays, refusal_stays) = record {
+    read = λ a h ne ne'. absurd (ne' refl);
+    refused = λ f h ne ne'. absurd (ne' refl);
+    buffer_stays = λ ne ne'. stays;
+    size_stays = λ e. size_stays;
+    refusal_stays = λ ne. refusal_stays;
+  }
+  dumped Status.SecondRefused h = absurd h
+  dumped Status.NeedsMore h = absurd h
+  dumped Status.UnknownProfile h = absurd h
+
+  pub dumps_once : (n : ℕ) → EndsWith n (DumpsIn p s buffer size refusal) → DumpsOnce p s buffer size refusal n
+  dumps_once n (status, e, h) = subst (DumpsOnce p s buffer size refusal) (sym e) (dumped status h)
+
+module _ (s : List ℕ) (size : Change ℕ) where
+  framed_once : (status : Status) → Frames s size status → FramesOnce s size (status_number status)
+  framed_once Status.Done (frame, le) = record {
+    framed = λ front rest h e. (refl, frame_at_front s front rest size.after le frame h e);
+    part = λ h. part_has_no_front s h (take size.after s) (drop size.after s) frame (sym (take-append-drop size.after s));
+    unframed = λ h. absurd (h [] (take size.after s) (drop size.after s) (append-nil s ∙ sym (take-append-drop size.after s)) frame);
+    size_stays = λ ne. absurd (ne refl);
+  }
+  framed_once Status.NeedsMore (part, stays) = record {
+    framed = λ front rest h e. part_has_no_front s part front rest h e;
+    part = λ h. refl;
+    unframed = λ h. absurd (h part.0 (s ++ part.0) [] (sym (append-nil (s ++ part.0))) part.2);
+    size_stays = λ ne. stays;
+  }
+  framed_once Status.Refused (never, stays) = record {
+    framed = λ front rest h e. absurd (never [] front rest (append-nil s ∙ e) h);
+    part = λ h. absurd (never h.0 (s ++ h.0) [] (sym (append-nil (s ++ h.0))) h.2);
+    unframed = λ h. refl;
+    size_stays = λ ne. stays;
+  }
+  framed_once Status.SecondRefused h = absurd h
+  framed_once Status.NoRoom h = absurd h
+  framed_once Status.OutOfMemory h = absurd h
+  framed_once Status.UnknownProfile h = absurd h
+
+  pub frames_once : (n : ℕ) → EndsWith n (Frames s size) → FramesOnce s size n
+  frames_once n (status, e, h) = subst (FramesOnce s size) (sym e) (framed_once status h)

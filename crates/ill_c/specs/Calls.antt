@@ -1,5 +1,6 @@
 -- What each call does, by the status that it returns: in a profile (`In`), in the profile of a number if it has one (`As`), and in profile 2.
-use Rattle.std.specs.Prelude.{◌≡◌, ◌≢◌, ℕ, List, Option, Some, None}
+use Rattle.std.specs.Prelude.{◌≡◌, ◌≢◌, ℕ, ◌≤◌, List, ◌++◌, length, take, Option, Some, None}
+use Rattle.ber_framing.specs.Framed.{IsFrame, IsPart}
 use Rattle.ber_leaf.specs.Profile.{Profile, profile_two}
 use Rattle.sha2.specs.Sha256.{sha256}
 use Rattle.ill_schema.specs.Apdu.{Apdu, SpellsApdu, Accepts, normal_form_in}
@@ -111,3 +112,30 @@ WritesFrontAs None s read buffer size refusal _ = ⊥
 
 abbrev pub WritesFront : List ℕ → Change ℕ → Change (List ℕ) → Change ℕ → Change IllcanonRefusal → Status → Type 0
 WritesFront s read buffer size refusal status = WritesFrontIn profile_two s read buffer size refusal status
+
+-- some text is in the buffer, of the message that s is or of what comes before its refusal, or the buffer is too short; where memory ran out, nothing changed
+abbrev pub DumpsIn : Profile → List ℕ → Change (List ℕ) → Change ℕ → Change IllcanonRefusal → Status → Type 0
+DumpsIn p s buffer size refusal Status.Done = ((text : List ℕ) × Fills text buffer size) × ((a : Apdu) × SpellsApdu p a s) × Stays refusal
+DumpsIn p s buffer size refusal Status.Refused = ((text : List ℕ) × Fills text buffer size) × Reports (RefusesWholeIn p s) refusal
+DumpsIn p s buffer size refusal Status.NoRoom = ((text : List ℕ) × Lacks text buffer size) × Stays refusal
+DumpsIn p s buffer size refusal Status.OutOfMemory = Stays buffer × Stays size × Stays refusal
+DumpsIn p s buffer size refusal _ = ⊥
+
+abbrev pub DumpsAs : Option Named → List ℕ → Change (List ℕ) → Change ℕ → Change IllcanonRefusal → Status → Type 0
+DumpsAs (Some p) s buffer size refusal status = DumpsIn (profile_of p) s buffer size refusal status
+DumpsAs None s buffer size refusal Status.UnknownProfile = Stays buffer × Stays size × Stays refusal
+DumpsAs None s buffer size refusal _ = ⊥
+
+abbrev pub Dumps : List ℕ → Change (List ℕ) → Change ℕ → Change IllcanonRefusal → Status → Type 0
+Dumps s buffer size refusal status = DumpsIn profile_two s buffer size refusal status
+
+-- whatever follows the octets, no framed element is at their front
+abbrev pub IsNeverFramed : List ℕ → Type 0
+IsNeverFramed s = (more front rest : List ℕ) → s ++ more ≡ front ++ rest → IsFrame front → ⊥
+
+-- the size is that of the framed element at the front of s, or s is a part of one, or none is at the front of s, whatever follows it
+abbrev pub Frames : List ℕ → Change ℕ → Status → Type 0
+Frames s size Status.Done = IsFrame (take size.after s) × (size.after ≤ length s)
+Frames s size Status.NeedsMore = IsPart s × Stays size
+Frames s size Status.Refused = IsNeverFramed s × Stays size
+Frames s size _ = ⊥

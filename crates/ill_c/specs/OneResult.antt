@@ -1,5 +1,6 @@
 -- What each call leaves in a profile, by what its octets are: one result, unless memory runs out (5).
-use Rattle.std.specs.Prelude.{◌≡◌, ◌≢◌, ℕ, ◌≤◌, ◌<◌, List, length}
+use Rattle.std.specs.Prelude.{◌≡◌, ◌≢◌, ℕ, ◌≤◌, ◌<◌, List, ◌++◌, length}
+use Rattle.ber_framing.specs.Framed.{IsFrame, IsPart}
 use Rattle.ber_leaf.specs.Profile.{Profile}
 use Rattle.ill_schema.specs.Apdu.{Apdu, SpellsApdu, Accepts, normal_form_in}
 use Rattle.ill_schema.specs.declared.refusal.Cause.{Cause}
@@ -7,6 +8,7 @@ use Rattle.ill_refusals.specs.Fault.{Fault}
 use Rattle.ill_refusals.specs.Outcome.{OnlyRefuses}
 use Rattle.ill_read.specs.Answers.{IsPartIn, RefusesWholeIn}
 use Rattle.ill_c.specs.declared.refusal.IllcanonRefusal.{IllcanonRefusal}
+use Rattle.ill_c.specs.Calls.{IsNeverFramed}
 use Rattle.ill_c.specs.Memory.{Change, Stays, Fills, Lacks, IsFlag}
 use Rattle.ill_c.specs.Refusals.{reported}
 
@@ -58,3 +60,18 @@ pub record WritesFrontOnce (p : Profile) (s : List ℕ) (read : Change ℕ) (buf
   pub read_stays : n ≢ 0 → n ≢ 4 → Stays read
   pub size_stays : n ≢ 0 → n ≢ 4 → Stays size
   pub refusal_stays : n ≢ 1 → Stays refusal
+
+-- of the call that writes a message as it is spelled: nothing is said of the text
+pub record DumpsOnce (p : Profile) (s : List ℕ) (buffer : Change (List ℕ)) (size : Change ℕ) (refusal : Change IllcanonRefusal) (n : ℕ) : Type 0 where
+  pub read : (a : Apdu) → SpellsApdu p a s → n ≢ 4 → n ≢ 5 → n ≡ 0
+  pub refused : (f : Fault) → RefusesWholeIn p s f → n ≢ 4 → IsRefusal 1 f refusal n
+  pub buffer_stays : n ≢ 0 → n ≢ 1 → Stays buffer
+  pub size_stays : n ≡ 5 → Stays size
+  pub refusal_stays : n ≢ 1 → Stays refusal
+
+-- of the call that finds where an element ends
+pub record FramesOnce (s : List ℕ) (size : Change ℕ) (n : ℕ) : Type 0 where
+  pub framed : (front rest : List ℕ) → IsFrame front → s ≡ front ++ rest → (n ≡ 0) × (size.after ≡ length front)
+  pub part : IsPart s → n ≡ 3
+  pub unframed : IsNeverFramed s → n ≡ 1
+  pub size_stays : n ≢ 0 → Stays size

@@ -1,22 +1,23 @@
-//! What holds of what C sees. Each law is the contract of a function that does nothing.
+//! Laws of the calls for C. Each is the contract of a function that does nothing.
 ghost use Rattle.std.specs.Prelude.{ℕ, ◌≤◌, List, length};
 ghost use Rattle.ber_leaf.specs.Profile.{Profile};
 ghost use Rattle.ill_schema.specs.Apdu.{Apdu};
 ghost use Rattle.ill_schema.specs.declared.refusal.Cause.{Cause};
-ghost use Rattle.ill_c.specs.Calls.{WritesIn, ChecksIn, ComparesIn, FindsIn, WritesFrontIn};
+ghost use Rattle.ill_c.specs.Calls.{WritesIn, ChecksIn, ComparesIn, FindsIn, WritesFrontIn, DumpsIn, Frames};
 ghost use Rattle.ill_c.specs.Memory.{Change};
-ghost use Rattle.ill_c.specs.OneResult.{WritesOnce, ChecksOnce, ComparesOnce, FindsOnce, WritesFrontOnce};
+ghost use Rattle.ill_c.specs.OneResult.{WritesOnce, ChecksOnce, ComparesOnce, FindsOnce, WritesFrontOnce, DumpsOnce, FramesOnce};
 ghost use Rattle.ill_c.specs.Refusals.{part_text};
 ghost use Rattle.ill_c.specs.Status.{EndsWith};
 
 use crate::refusal::IllcanonRefusal;
 
 /// The contract of each call leaves one result in each profile, unless memory runs out: so a body that returns or writes anything else
-/// doesn't meet it.
+/// doesn't meet it. Of the text of a dump nothing is said.
 pub fn calls_have_one_result()
     ensures writes { (p : Profile) (make : Apdu → List ℕ) (s : List ℕ) (buffer : Change (List ℕ))
         (size : Change ℕ) (refusal : Change IllcanonRefusal) (n : ℕ)
-        → EndsWith n (WritesIn p make s buffer size refusal) → WritesOnce p make s buffer size refusal n }
+        → EndsWith n (WritesIn p make s buffer size refusal)
+        → WritesOnce p make s buffer size refusal n }
     ensures checks { (p : Profile) (s : List ℕ) (normal : Change ℕ)
         (refusal : Change IllcanonRefusal) (n : ℕ)
         → EndsWith n (ChecksIn p s normal refusal) → ChecksOnce p s normal refusal n }
@@ -30,6 +31,11 @@ pub fn calls_have_one_result()
         (buffer : Change (List ℕ)) (size : Change ℕ) (refusal : Change IllcanonRefusal) (n : ℕ)
         → EndsWith n (WritesFrontIn p s read buffer size refusal)
         → WritesFrontOnce p s read buffer size refusal n }
+    ensures dumps { (p : Profile) (s : List ℕ) (buffer : Change (List ℕ)) (size : Change ℕ)
+        (refusal : Change IllcanonRefusal) (n : ℕ)
+        → EndsWith n (DumpsIn p s buffer size refusal) → DumpsOnce p s buffer size refusal n }
+    ensures frames { (s : List ℕ) (size : Change ℕ) (n : ℕ)
+        → EndsWith n (Frames s size) → FramesOnce s size n }
 {}
 
 /// The name of a part has at most 63 octets, so a zero follows it in the 64 of a refusal.

@@ -4,6 +4,8 @@
 //! exactly what its contract says: a buffer is written only where the call is done, and nothing after the octets.
 #![tactic(auto)]
 
+mod dump;
+mod frame;
 mod front;
 mod laws;
 mod next;
@@ -17,6 +19,8 @@ mod tests;
 mod verdict;
 mod whole;
 
+pub use dump::{illcanon_dump, illcanon_dump_as};
+pub use frame::illcanon_frame;
 pub use laws::{calls_have_one_result, parts_are_short};
 pub use next::{
     illcanon_next, illcanon_next_as, illcanon_normalise_next, illcanon_normalise_next_as,

@@ -21,7 +21,8 @@ pub extern "C" fn illcanon_next(
     size: &mut usize,
     refusal: &mut IllcanonRefusal,
 ) -> u32
-    ensures { EndsWith result (Finds octets.now (change size.old size.new) (change refusal.old refusal.new)) }
+    ensures { EndsWith result (Finds octets.now (change size.old size.new)
+        (change refusal.old refusal.new)) }
 {
     next(alloc, Profile::Two, octets, size, refusal).number()
 }
@@ -74,7 +75,8 @@ pub extern "C" fn illcanon_normalise_next(
     size: &mut usize,
     refusal: &mut IllcanonRefusal,
 ) -> u32
-    ensures { EndsWith result (WritesFront octets.now (change read.old read.new) (change buffer.old buffer.new) (change size.old size.new)
+    ensures { EndsWith result (WritesFront octets.now (change read.old read.new)
+        (change buffer.old buffer.new) (change size.old size.new)
         (change refusal.old refusal.new)) }
 {
     normalise_next(alloc, Profile::Two, octets, read, buffer, size, refusal).number()

@@ -1,4 +1,4 @@
-//! What is made of a message, and written to the caller's buffer.
+//! Octets that are made of a message and written to the caller's buffer.
 ghost use Rattle.std.specs.Prelude.{◌≡◌, ℕ, List, IfOk};
 ghost use Rattle.ill_schema.specs.Apdu.{Apdu, SpellsApdu, normal_form, normal_form_in};
 ghost use Rattle.ill_schema.specs.Profiles.{profile_of};
@@ -28,7 +28,8 @@ pub extern "C" fn illcanon_normalise(
     size: &mut usize,
     refusal: &mut IllcanonRefusal,
 ) -> u32
-    ensures { EndsWith result (Writes normal_form octets.now (change buffer.old buffer.new) (change size.old size.new) (change refusal.old refusal.new)) }
+    ensures { EndsWith result (Writes normal_form octets.now (change buffer.old buffer.new)
+        (change size.old size.new) (change refusal.old refusal.new)) }
 {
     normalise(alloc, Profile::Two, octets, buffer, size, refusal).number()
 }
@@ -81,7 +82,8 @@ pub extern "C" fn illcanon_show(
     size: &mut usize,
     refusal: &mut IllcanonRefusal,
 ) -> u32
-    ensures { EndsWith result (Writes (shown_text number) octets.now (change buffer.old buffer.new) (change size.old size.new) (change refusal.old refusal.new)) }
+    ensures { EndsWith result (Writes (shown_text number) octets.now (change buffer.old buffer.new)
+        (change size.old size.new) (change refusal.old refusal.new)) }
 {
     show(alloc, Profile::Two, octets, number, buffer, size, refusal).number()
 }
@@ -153,7 +155,8 @@ pub extern "C" fn illcanon_digest(
     size: &mut usize,
     refusal: &mut IllcanonRefusal,
 ) -> u32
-    ensures { EndsWith result (Writes digest octets.now (change buffer.old buffer.new) (change size.old size.new) (change refusal.old refusal.new)) }
+    ensures { EndsWith result (Writes digest octets.now (change buffer.old buffer.new)
+        (change size.old size.new) (change refusal.old refusal.new)) }
 {
     digest(alloc, Profile::Two, octets, buffer, size, refusal).number()
 }

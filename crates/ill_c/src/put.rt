@@ -8,7 +8,8 @@ use crate::status::Status;
 /// Copies the octets into the buffer, from an index on.
 pub(crate) fn copy_at(octets: &[u8], buffer: &mut [u8], at: usize)
     requires { at + length octets.now ≤ length buffer.old }
-    ensures { buffer.new ≡ take at buffer.old ++ octets.now ++ drop (at + length octets.now) buffer.old }
+    ensures { buffer.new ≡ take at buffer.old ++ octets.now
+        ++ drop (at + length octets.now) buffer.old }
 {
     buffer[at..at + octets.len()].copy_from_slice(octets);
 }

@@ -1,4 +1,4 @@
-//! How a call ends.
+//! The status that a call returns.
 ghost use Rattle.std.specs.Prelude.{◌≡◌};
 ghost use Rattle.ill_c.specs.Status.{status_number};
 

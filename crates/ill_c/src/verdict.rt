@@ -1,4 +1,4 @@
-//! What is said of messages.
+//! Verdicts on messages.
 ghost use Rattle.ill_schema.specs.Profiles.{profile_of};
 ghost use Rattle.ill_c.specs.Calls.{Checks, ChecksAs, ChecksIn, Compares, ComparesAs, ComparesIn};
 ghost use Rattle.ill_c.specs.Memory.{change};
@@ -19,7 +19,8 @@ pub extern "C" fn illcanon_check(
     normal: &mut u32,
     refusal: &mut IllcanonRefusal,
 ) -> u32
-    ensures { EndsWith result (Checks octets.now (change normal.old normal.new) (change refusal.old refusal.new)) }
+    ensures { EndsWith result (Checks octets.now (change normal.old normal.new)
+        (change refusal.old refusal.new)) }
 {
     check(alloc, Profile::Two, octets, normal, refusal).number()
 }
@@ -70,7 +71,8 @@ pub extern "C" fn illcanon_same(
     same: &mut u32,
     refusal: &mut IllcanonRefusal,
 ) -> u32
-    ensures { EndsWith result (Compares first.now second.now (change same.old same.new) (change refusal.old refusal.new)) }
+    ensures { EndsWith result (Compares first.now second.now (change same.old same.new)
+        (change refusal.old refusal.new)) }
 {
     compare(alloc, Profile::Two, first, second, same, refusal).number()
 }

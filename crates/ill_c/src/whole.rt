@@ -1,4 +1,4 @@
-//! What is read of octets that are one message.
+//! Reading of octets that are one message.
 ghost use Rattle.std.specs.Prelude.{◌≡◌, List, ℕ, ◌++◌, length};
 ghost use Rattle.ber_leaf.specs.Profile.{Profile as Meaning};
 ghost use Rattle.ill_schema.specs.Profiles.{profile_of};

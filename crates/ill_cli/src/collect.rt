@@ -1,4 +1,4 @@
-//! What is made of several files, in one file.
+//! Output of several files, in one file.
 use crate::each::{combined_status, list_of, names_of, names_standard_input_twice, text_of};
 use crate::input::{put_all, write_input};
 use crate::plan::{Action, InputAction};

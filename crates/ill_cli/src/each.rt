@@ -57,7 +57,8 @@ pub fn names_of<'a>(
     files: &[&'a str],
     list: &'a [u8],
 ) -> Result<Vec<&'a [u8]>, AllocError>
-    ensures { IfOk result (λ names. map (λ name. name.now) names.items ≡ map (λ word. word.now) files.now ++ names_in list.entry.now) }
+    ensures { IfOk result (λ names. map (λ name. name.now) names.items
+        ≡ map (λ word. word.now) files.now ++ names_in list.entry.now) }
 {
     let mut names = Vec::new(alloc);
     for file in files {

@@ -1,4 +1,4 @@
-//! What is made of one input, and where it is written.
+//! Output of one input.
 ghost use Rattle.std.specs.Prelude.{◌≡◌, Bool, None, IfOk};
 ghost use Rattle.ill_normal.specs.Calls.{putting, taking};
 ghost use Rattle.ill_normal.specs.Skipping.{reporting};
@@ -139,7 +139,8 @@ fn put_accepted_messages<R: Eprint + AllocGlobal, S: BufferedSource, W: Sink>(
     sink: &mut W,
     tally: &mut Tally<'_>,
 ) -> Result<Verdict, ProgramError>
-    ensures { IfOk result (λ verdict. (gone : SkippingCounts) × (verdict ≡ verdict_of_counts work.entry.job gone)
+    ensures { IfOk result (λ verdict. (gone : SkippingCounts)
+        × (verdict ≡ verdict_of_counts work.entry.job gone)
         × RunsSkipping work.entry.hex work.entry
         (taking (S.left source.old) (S.left source.new) (S.is_broken source.new))
         (putting (W.contents sink.old) (W.contents sink.new) (W.is_broken sink.new))

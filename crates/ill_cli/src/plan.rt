@@ -1,4 +1,4 @@
-//! What an order does: which job, by which flags, with which files.
+//! Plans of orders: a job, its options and its files.
 ghost use Rattle.std.specs.Prelude.{◌≡◌};
 ghost use Rattle.ill_cli.specs.Plans.{action_of, by_line, plan_of, input_action_of};
 
@@ -56,7 +56,7 @@ pub enum Plan<'a> {
         /// True if the output is replaced only if every message of every input was good.
         whole: bool,
     },
-    /// Whether two inputs hold the same message is printed.
+    /// Prints whether two inputs hold the same message.
     Compare {
         /// The options of reading both.
         reading: ReadOptions,

@@ -1,4 +1,4 @@
-//! What a command came to, in numbers.
+//! The line of numbers at the end of a command.
 use ill_commands::{Counts, RunFault, SkippingCounts};
 use ill_files::Count;
 use std::fmt;

@@ -1,4 +1,4 @@
-//! What a command counts while it works.
+//! Counts that a command keeps while it works.
 ghost use Rattle.std.specs.Prelude.{◌≡◌};
 ghost use Rattle.ill_files.specs.Status.{status_is};
 

@@ -1,4 +1,4 @@
-//! Why a job was not done.
+//! The reasons why a job was not done.
 use ill_normal::{Refusal, Side};
 
 /// The reason why a job was not done. Messages are numbered from 1, and a refusal's offset counts from the

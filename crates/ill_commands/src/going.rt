@@ -49,21 +49,25 @@ pub fn run_skipping<R: Source, W: Sink, T: ReportRefusals>(
     sink: &mut W,
     reports: &mut T,
 ) -> Result<SkippingCounts, JobError>
-    ensures done { IfOk result (RunsSkipping work.entry.hex work.entry (taking (R.left source.old) (R.left source.new) (R.is_broken source.new))
-        (putting (W.contents sink.old) (W.contents sink.new) (W.is_broken sink.new)) (reporting (T.reported reports.old) (T.reported reports.new))) }
-    ensures fails { IfErr result (RunsSkippingFails work.entry.hex work.entry (taking (R.left source.old) (R.left source.new) (R.is_broken source.new))
-        (putting (W.contents sink.old) (W.contents sink.new) (W.is_broken sink.new)) (reporting (T.reported reports.old) (T.reported reports.new))) }
+    ensures done { IfOk result (RunsSkipping work.entry.hex work.entry
+        (taking (R.left source.old) (R.left source.new) (R.is_broken source.new))
+        (putting (W.contents sink.old) (W.contents sink.new) (W.is_broken sink.new))
+        (reporting (T.reported reports.old) (T.reported reports.new))) }
+    ensures fails { IfErr result (RunsSkippingFails work.entry.hex work.entry
+        (taking (R.left source.old) (R.left source.new) (R.is_broken source.new))
+        (putting (W.contents sink.old) (W.contents sink.new) (W.is_broken sink.new))
+        (reporting (T.reported reports.old) (T.reported reports.new))) }
     ensures source_stays { IsTrue (R.is_broken source.old) → IsTrue (R.is_broken source.new) }
     ensures sink_stays { IsTrue (W.is_broken sink.old) → IsTrue (W.is_broken sink.new) }
 {
     run_skipping_peeking::<R, Unbuffered, W, T>(alloc, work, source, sink, reports)
 }
 
-/// Does a job as [`run_on`] does, by a way to look at the source.
+/// Does a job as [`run_skipping`] does, by a way to look at the source.
 ///
 /// # Errors
 ///
-/// Those of [`run_on`].
+/// Those of [`run_skipping`].
 pub fn run_skipping_peeking<R: Source, L: Lookahead<R>, W: Sink, T: ReportRefusals>(
     alloc: Global,
     work: JobOptions<'_>,
@@ -71,10 +75,14 @@ pub fn run_skipping_peeking<R: Source, L: Lookahead<R>, W: Sink, T: ReportRefusa
     sink: &mut W,
     reports: &mut T,
 ) -> Result<SkippingCounts, JobError>
-    ensures done { IfOk result (RunsSkipping work.entry.hex work.entry (taking (R.left source.old) (R.left source.new) (R.is_broken source.new))
-        (putting (W.contents sink.old) (W.contents sink.new) (W.is_broken sink.new)) (reporting (T.reported reports.old) (T.reported reports.new))) }
-    ensures fails { IfErr result (RunsSkippingFails work.entry.hex work.entry (taking (R.left source.old) (R.left source.new) (R.is_broken source.new))
-        (putting (W.contents sink.old) (W.contents sink.new) (W.is_broken sink.new)) (reporting (T.reported reports.old) (T.reported reports.new))) }
+    ensures done { IfOk result (RunsSkipping work.entry.hex work.entry
+        (taking (R.left source.old) (R.left source.new) (R.is_broken source.new))
+        (putting (W.contents sink.old) (W.contents sink.new) (W.is_broken sink.new))
+        (reporting (T.reported reports.old) (T.reported reports.new))) }
+    ensures fails { IfErr result (RunsSkippingFails work.entry.hex work.entry
+        (taking (R.left source.old) (R.left source.new) (R.is_broken source.new))
+        (putting (W.contents sink.old) (W.contents sink.new) (W.is_broken sink.new))
+        (reporting (T.reported reports.old) (T.reported reports.new))) }
     ensures source_stays { IsTrue (R.is_broken source.old) → IsTrue (R.is_broken source.new) }
     ensures sink_stays { IsTrue (W.is_broken sink.old) → IsTrue (W.is_broken sink.new) }
 {
@@ -96,10 +104,15 @@ fn go_on<R: Source, L: Lookahead<R>, W: Sink, T: ReportRefusals>(
     sink: &mut W,
     reports: &mut T,
 ) -> Result<SkippingCounts, JobError>
-    ensures through { IfOk result (SkipsToEnd (profile_of work.entry.profile) (message_output work.entry) (is_counted_good work.entry) (taking (R.left source.old) (R.left source.new) (R.is_broken source.new))
-        (putting (W.contents sink.old) (W.contents sink.new) (W.is_broken sink.new)) (reporting (T.reported reports.old) (T.reported reports.new))) }
-    ensures halts { IfErr result (StopsFor work.entry (taking (R.left source.old) (R.left source.new) (R.is_broken source.new))
-        (putting (W.contents sink.old) (W.contents sink.new) (W.is_broken sink.new)) (reporting (T.reported reports.old) (T.reported reports.new))) }
+    ensures through { IfOk result (SkipsToEnd (profile_of work.entry.profile)
+        (message_output work.entry) (is_counted_good work.entry)
+        (taking (R.left source.old) (R.left source.new) (R.is_broken source.new))
+        (putting (W.contents sink.old) (W.contents sink.new) (W.is_broken sink.new))
+        (reporting (T.reported reports.old) (T.reported reports.new))) }
+    ensures halts { IfErr result (StopsFor work.entry
+        (taking (R.left source.old) (R.left source.new) (R.is_broken source.new))
+        (putting (W.contents sink.old) (W.contents sink.new) (W.is_broken sink.new))
+        (reporting (T.reported reports.old) (T.reported reports.new))) }
     ensures source_stays { IsTrue (R.is_broken source.old) → IsTrue (R.is_broken source.new) }
     ensures sink_stays { IsTrue (W.is_broken sink.old) → IsTrue (W.is_broken sink.new) }
 {
@@ -132,7 +145,8 @@ fn at_start(fault: RunFault) -> JobError
 fn halted_job(halted: SkippingError) -> JobError
     requires { halted.refused + halted.good ≤ halted.messages }
     ensures fault { result.fault ≡ fault_of_kind halted.written halted.why }
-    ensures before { result.before ≡ counts_before halted.messages halted.refused halted.good halted.octets }
+    ensures before { result.before ≡ counts_before halted.messages halted.refused halted.good
+        halted.octets }
 {
     let SkippingError {
         messages,

@@ -21,8 +21,10 @@ pub const MAX_HEX_TEXT: usize = 4_194_304;
 ///
 /// The reason why the text stands for no octets, out of memory, or a source that is broken.
 pub fn read_hex<R: Source>(alloc: Global, source: &mut R) -> Result<Vec<u8>, RunFault>
-    ensures octets { IfOk result (λ octets. TextOf (R.left source.old) (R.left source.new) octets.items) }
-    ensures fails { IfErr result (FailsText (R.left source.old) (R.left source.new) (R.is_broken source.new)) }
+    ensures octets { IfOk result (λ octets. TextOf (R.left source.old) (R.left source.new)
+        octets.items) }
+    ensures fails { IfErr result (FailsText (R.left source.old) (R.left source.new)
+        (R.is_broken source.new)) }
     ensures stays { IsTrue (R.is_broken source.old) → IsTrue (R.is_broken source.new) }
 {
     let text = read_at_most(alloc, source, MAX_HEX_TEXT + 1)?;
@@ -36,7 +38,8 @@ pub fn read_hex<R: Source>(alloc: Global, source: &mut R) -> Result<Vec<u8>, Run
 /// The reason why the text stands for no octets, or out of memory.
 pub fn text_octets(alloc: Global, text: &[u8]) -> Result<Vec<u8>, RunFault>
     ensures octets { IfOk result (λ octets. hex_octets text.now ≡ Ok octets.items) }
-    ensures fails { IfErr result (λ fault. (hex_octets text.now ≡ Err fault) ⊎ (fault ≡ RunFault.OutOfMemory)) }
+    ensures fails { IfErr result (λ fault. (hex_octets text.now ≡ Err fault)
+        ⊎ (fault ≡ RunFault.OutOfMemory)) }
 {
     if text.len() > MAX_HEX_TEXT {
         return Err(RunFault::HexTooLong);
@@ -52,8 +55,11 @@ pub fn text_octets(alloc: Global, text: &[u8]) -> Result<Vec<u8>, RunFault>
 
 /// The octets that the digits of a text stand for.
 fn spaced_octets(alloc: Global, text: &[u8]) -> Result<Vec<u8>, RunFault>
-    ensures octets { IfOk result (λ octets. with_fault (decode_of (without_blanks text.now)) ≡ Ok octets.items) }
-    ensures fails { IfErr result (λ fault. (with_fault (decode_of (without_blanks text.now)) ≡ Err fault) ⊎ (fault ≡ RunFault.OutOfMemory)) }
+    ensures octets { IfOk result (λ octets. with_fault (decode_of (without_blanks text.now)) ≡ Ok
+        octets.items) }
+    ensures fails { IfErr result
+        (λ fault. (with_fault (decode_of (without_blanks text.now)) ≡ Err fault)
+        ⊎ (fault ≡ RunFault.OutOfMemory)) }
 {
     let Ok(digits) = without_blanks(alloc, text) else {
         return Err(RunFault::OutOfMemory);

@@ -1,4 +1,4 @@
-//! What is to be done with the messages of an input, and what came of it.
+//! Jobs on the messages of an input, and their results.
 ghost use Rattle.std.specs.Prelude.{◌≡◌, codes, false};
 ghost use Rattle.ill_schema.specs.declared.profile.Profile.{Profile as Named};
 

@@ -83,9 +83,12 @@ pub fn run_as<R: Source, W: Sink>(
         (taking (R.left source.old) (R.left source.new) (R.is_broken source.new))
         (putting (W.contents sink.old) (W.contents sink.new) (W.is_broken sink.new))) }
     // Each input has one result, unless memory, the source or the sink fails.
-    ensures does { IfSome (R.left source.old) (λ s. DoesMessages (profile_of profile) job hex s result) }
-    ensures refuses { IfSome (R.left source.old) (λ s. RefusesFirst (profile_of profile) hex s result) }
-    ensures too_many { IfSome (R.left source.old) (λ s. RefusesMore (profile_of profile) hex s result) }
+    ensures does { IfSome (R.left source.old)
+        (λ s. DoesMessages (profile_of profile) job hex s result) }
+    ensures refuses { IfSome (R.left source.old)
+        (λ s. RefusesFirst (profile_of profile) hex s result) }
+    ensures too_many { IfSome (R.left source.old)
+        (λ s. RefusesMore (profile_of profile) hex s result) }
     ensures no_hex { IfSome (R.left source.old) (λ s. RefusesText hex s result) }
     ensures source_stays { IsTrue (R.is_broken source.old) → IsTrue (R.is_broken source.new) }
     ensures sink_stays { IsTrue (W.is_broken sink.old) → IsTrue (W.is_broken sink.new) }
@@ -117,14 +120,18 @@ pub fn run_with<R: Source, W: Sink>(
 ) -> Result<Verdict, RunFault>
     // The input was messages to its end, and their output was written.
     ensures done { IfOk result (λ verdict. (counts : Counts) × RunDone work.entry.hex work.entry
-        (R.left source.old) (R.left source.new) (W.contents sink.old) (W.contents sink.new) counts verdict) }
+        (R.left source.old) (R.left source.new) (W.contents sink.old) (W.contents sink.new) counts
+        verdict) }
     ensures fails { IfErr result (λ fault. (counts : Counts) × RunFails work.entry.hex work.entry
         (taking (R.left source.old) (R.left source.new) (R.is_broken source.new))
         (putting (W.contents sink.old) (W.contents sink.new) (W.is_broken sink.new)) counts fault) }
     // Each input has one result, unless memory, the source or the sink fails.
-    ensures does { IfSome (R.left source.old) (λ s. DoesMessages (profile_of work.entry.profile) work.entry.job work.entry.hex s result) }
-    ensures refuses { IfSome (R.left source.old) (λ s. RefusesFirst (profile_of work.entry.profile) work.entry.hex s result) }
-    ensures too_many { IfSome (R.left source.old) (λ s. RefusesMore (profile_of work.entry.profile) work.entry.hex s result) }
+    ensures does { IfSome (R.left source.old)
+        (λ s. DoesMessages (profile_of work.entry.profile) work.entry.job work.entry.hex s result) }
+    ensures refuses { IfSome (R.left source.old)
+        (λ s. RefusesFirst (profile_of work.entry.profile) work.entry.hex s result) }
+    ensures too_many { IfSome (R.left source.old)
+        (λ s. RefusesMore (profile_of work.entry.profile) work.entry.hex s result) }
     ensures no_hex { IfSome (R.left source.old) (λ s. RefusesText work.entry.hex s result) }
     ensures source_stays { IsTrue (R.is_broken source.old) → IsTrue (R.is_broken source.new) }
     ensures sink_stays { IsTrue (W.is_broken sink.old) → IsTrue (W.is_broken sink.new) }
@@ -146,14 +153,20 @@ pub fn run_counting<R: Source, L: Lookahead<R>, W: Sink>(
 ) -> JobOutcome
     // The input was messages to its end, and their output was written.
     ensures done { IfOk result.result (RunDone work.entry.hex work.entry
-        (R.left source.old) (R.left source.new) (W.contents sink.old) (W.contents sink.new) result.counts) }
+        (R.left source.old) (R.left source.new) (W.contents sink.old) (W.contents sink.new)
+        result.counts) }
     ensures fails { IfErr result.result (RunFails work.entry.hex work.entry
         (taking (R.left source.old) (R.left source.new) (R.is_broken source.new))
-        (putting (W.contents sink.old) (W.contents sink.new) (W.is_broken sink.new)) result.counts) }
+        (putting (W.contents sink.old) (W.contents sink.new) (W.is_broken sink.new))
+        result.counts) }
     // Each input has one result, unless memory, the source or the sink fails.
-    ensures does { IfSome (R.left source.old) (λ s. DoesMessages (profile_of work.entry.profile) work.entry.job work.entry.hex s result.result) }
-    ensures refuses { IfSome (R.left source.old) (λ s. RefusesFirst (profile_of work.entry.profile) work.entry.hex s result.result) }
-    ensures too_many { IfSome (R.left source.old) (λ s. RefusesMore (profile_of work.entry.profile) work.entry.hex s result.result) }
+    ensures does { IfSome (R.left source.old)
+        (λ s. DoesMessages (profile_of work.entry.profile) work.entry.job work.entry.hex s
+        result.result) }
+    ensures refuses { IfSome (R.left source.old)
+        (λ s. RefusesFirst (profile_of work.entry.profile) work.entry.hex s result.result) }
+    ensures too_many { IfSome (R.left source.old)
+        (λ s. RefusesMore (profile_of work.entry.profile) work.entry.hex s result.result) }
     ensures no_hex { IfSome (R.left source.old) (λ s. RefusesText work.entry.hex s result.result) }
     ensures source_stays { IsTrue (R.is_broken source.old) → IsTrue (R.is_broken source.new) }
     ensures sink_stays { IsTrue (W.is_broken sink.old) → IsTrue (W.is_broken sink.new) }
@@ -175,9 +188,12 @@ fn run_messages<R: Source, L: Lookahead<R>, W: Sink>(
     source: &mut R,
     sink: &mut W,
 ) -> JobOutcome
-    ensures done { IfOk result.result (Done work.entry (R.left source.old) (R.left source.new) (W.contents sink.old) (W.contents sink.new) result.counts) }
-    ensures stops { IfErr result.result (StopsAfter work.entry (taking (R.left source.old) (R.left source.new) (R.is_broken source.new))
-        (putting (W.contents sink.old) (W.contents sink.new) (W.is_broken sink.new)) result.counts) }
+    ensures done { IfOk result.result (Done work.entry (R.left source.old) (R.left source.new)
+        (W.contents sink.old) (W.contents sink.new) result.counts) }
+    ensures stops { IfErr result.result (StopsAfter work.entry
+        (taking (R.left source.old) (R.left source.new) (R.is_broken source.new))
+        (putting (W.contents sink.old) (W.contents sink.new) (W.is_broken sink.new))
+        result.counts) }
     ensures source_stays { IsTrue (R.is_broken source.old) → IsTrue (R.is_broken source.new) }
     ensures sink_stays { IsTrue (W.is_broken sink.old) → IsTrue (W.is_broken sink.new) }
 {

@@ -1,4 +1,4 @@
-//! What a job makes of one message.
+//! The result of a job for one message.
 ghost use Rattle.std.specs.Prelude.{◌≡◌, ◌^◌, ◌≤◌, ℕ, List, ◌++◌, codes, length, option_map, IfOk, OnOk};
 ghost use Rattle.hex.specs.Hex.{encode_lower};
 ghost use Rattle.ill_read.specs.Answers.{ReadsNextIn};
@@ -76,7 +76,8 @@ fn next_piece<R: Source, L: Lookahead<R>>(
     source: &mut R,
     buffer: JobOutput,
 ) -> Result<Option<RenderedMessage<JobOutput>>, ReadFailure>
-    ensures { ReadsNextIn (profile_of work.entry.profile) (R.left source.old) (R.left source.new) (R.is_broken source.old) (R.is_broken source.new)
+    ensures { ReadsNextIn (profile_of work.entry.profile) (R.left source.old) (R.left source.new)
+        (R.is_broken source.old) (R.is_broken source.new)
         (IsMade work.entry.job work.entry position) result }
 {
     match work.job {
@@ -105,7 +106,8 @@ fn shown<R: Source, L: Lookahead<R>>(
     source: &mut R,
     buffer: JobOutput,
 ) -> Result<Option<RenderedMessage<JobOutput>>, ReadFailure>
-    ensures { ReadsNextIn (profile_of work.entry.profile) (R.left source.old) (R.left source.new) (R.is_broken source.old) (R.is_broken source.new)
+    ensures { ReadsNextIn (profile_of work.entry.profile) (R.left source.old) (R.left source.new)
+        (R.is_broken source.old) (R.is_broken source.new)
         (IsMade Job.Show work.entry position) result }
 {
     let (octets, outline) = buffer.into_both(alloc);
@@ -143,7 +145,8 @@ fn json<R: Source, L: Lookahead<R>>(
     source: &mut R,
     buffer: JobOutput,
 ) -> Result<Option<RenderedMessage<JobOutput>>, ReadFailure>
-    ensures { ReadsNextIn (profile_of work.entry.profile) (R.left source.old) (R.left source.new) (R.is_broken source.old) (R.is_broken source.new)
+    ensures { ReadsNextIn (profile_of work.entry.profile) (R.left source.old) (R.left source.new)
+        (R.is_broken source.old) (R.is_broken source.new)
         (IsMade Job.Json work.entry position) result }
 {
     let (octets, outline) = buffer.into_both(alloc);
@@ -170,7 +173,8 @@ fn json<R: Source, L: Lookahead<R>>(
 
 /// The name of the file that a line of JSON has, if there are several files.
 fn file_of(work: JobOptions<'_>) -> Option<&str>
-    ensures { option_map (λ name. name.now) result ≡ file_of work.entry.names_input work.entry.name.now }
+    ensures { option_map (λ name. name.now) result
+        ≡ file_of work.entry.names_input work.entry.name.now }
 {
     if work.names_input {
         Some(work.name)
@@ -208,7 +212,8 @@ fn outlined<R: Source, L: Lookahead<R>>(
     source: &mut R,
     buffer: Outline,
 ) -> Result<Option<CheckedOutline>, ReadFailure>
-    ensures { ReadsNextIn (profile_of profile) (R.left source.old) (R.left source.new) (R.is_broken source.old) (R.is_broken source.new)
+    ensures { ReadsNextIn (profile_of profile) (R.left source.old) (R.left source.new)
+        (R.is_broken source.old) (R.is_broken source.new)
         (IsFound (profile_of profile) compares) result }
 {
     if !compares {
@@ -246,9 +251,11 @@ fn labelled_text(
     number: u32,
     outline: Outline,
 ) -> Result<JobOutput, AllocError>
-    ensures { (a : Apdu) (octets : List ℕ) → SpellsApdu (profile_of work.entry.profile) a octets → IsOutlineOf outline a
+    ensures { (a : Apdu) (octets : List ℕ) → SpellsApdu (profile_of work.entry.profile) a octets
+        → IsOutlineOf outline a
         → IfOk result (λ text. IsWritten text
-        (label_of work.entry.names_input work.entry.name.now ++ shown_text_in (profile_of work.entry.profile) number a)) }
+        (label_of work.entry.names_input work.entry.name.now
+        ++ shown_text_in (profile_of work.entry.profile) number a)) }
 {
     let mut label = label(buffer, work)?;
     let text = Text::new_as(work.profile, number, outline);
@@ -261,7 +268,8 @@ fn labelled_text(
 
 /// The label that the line of a message begins with, in the memory of `buffer`, whose octets are forgotten.
 fn label(buffer: Vec<u8>, work: JobOptions<'_>) -> Result<Vec<u8>, AllocError>
-    ensures { IfOk result (λ line. line.items ≡ label_of work.entry.names_input work.entry.name.now) }
+    ensures { IfOk result (λ line. line.items
+        ≡ label_of work.entry.names_input work.entry.name.now) }
 {
     let mut line = buffer;
     line.clear();
@@ -281,7 +289,8 @@ fn checked<R: Source, L: Lookahead<R>>(
     source: &mut R,
     buffer: Vec<u8>,
 ) -> Result<Option<RenderedMessage<JobOutput>>, ReadFailure>
-    ensures { ReadsNextIn (profile_of work.entry.profile) (R.left source.old) (R.left source.new) (R.is_broken source.old) (R.is_broken source.new)
+    ensures { ReadsNextIn (profile_of work.entry.profile) (R.left source.old) (R.left source.new)
+        (R.is_broken source.old) (R.is_broken source.new)
         (IsMade Job.Check work.entry position) result }
 {
     let Some((found, normal)) = check_one_in_as::<R, L>(
@@ -311,7 +320,10 @@ fn check_line(
     number: u32,
     found: Checked,
 ) -> Result<Vec<u8>, AllocError>
-    ensures { IfOk result (λ line. line.items ≡ line_of_check (profile_of work.entry.profile) (label_of work.entry.names_input work.entry.name.now) number found.apdu found.octets found.is_normal found.normal) }
+    ensures { IfOk result (λ line. line.items
+        ≡ line_of_check (profile_of work.entry.profile)
+        (label_of work.entry.names_input work.entry.name.now) number found.apdu found.octets
+        found.is_normal found.normal) }
 {
     let name = match apdu_name_as(work.profile, found.apdu) {
         Some(name) => name,
@@ -330,7 +342,8 @@ fn check_line(
 }
 
 fn push_check_end(line: &mut Vec<u8>, found: Checked) -> Result<(), AllocError>
-    ensures { OnOk result (line.new.items ≡ line.old.items ++ check_end found.is_normal found.normal) }
+    ensures { OnOk result (line.new.items ≡ line.old.items
+        ++ check_end found.is_normal found.normal) }
 {
     if found.is_normal {
         line.extend_from_slice(b"normal\n")?;
@@ -350,7 +363,8 @@ fn digested<R: Source, L: Lookahead<R>>(
     source: &mut R,
     buffer: Vec<u8>,
 ) -> Result<Option<RenderedMessage<JobOutput>>, ReadFailure>
-    ensures { ReadsNextIn (profile_of work.entry.profile) (R.left source.old) (R.left source.new) (R.is_broken source.old) (R.is_broken source.new)
+    ensures { ReadsNextIn (profile_of work.entry.profile) (R.left source.old) (R.left source.new)
+        (R.is_broken source.old) (R.is_broken source.new)
         (IsMade Job.Digest work.entry position) result }
 {
     let Some(normal) = normal_form::<R, L>(
@@ -410,7 +424,8 @@ fn canonical<R: Source, L: Lookahead<R>>(
     source: &mut R,
     buffer: Vec<u8>,
 ) -> Result<Option<RenderedMessage<JobOutput>>, ReadFailure>
-    ensures { ReadsNextIn (profile_of work.entry.profile) (R.left source.old) (R.left source.new) (R.is_broken source.old) (R.is_broken source.new)
+    ensures { ReadsNextIn (profile_of work.entry.profile) (R.left source.old) (R.left source.new)
+        (R.is_broken source.old) (R.is_broken source.new)
         (IsMade Job.Canonicalise work.entry position) result }
 {
     let _ = position;
@@ -451,7 +466,8 @@ fn normal_form<R: Source, L: Lookahead<R>>(
     source: &mut R,
     buffer: Vec<u8>,
 ) -> Result<Option<RenderedMessage<Vec<u8>>>, ReadFailure>
-    ensures { ReadsNextIn (profile_of profile) (R.left source.old) (R.left source.new) (R.is_broken source.old) (R.is_broken source.new)
+    ensures { ReadsNextIn (profile_of profile) (R.left source.old) (R.left source.new)
+        (R.is_broken source.old) (R.is_broken source.new)
         (IsMadeForm profile compares) result }
 {
     if !compares {

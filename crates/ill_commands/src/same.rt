@@ -30,14 +30,20 @@ pub fn run_same<R: Source, S: Source, W: Sink>(
     sink: &mut W,
 ) -> Result<Verdict, RunFault>
     // Both inputs were one message, and the line was written.
-    ensures done { IfOk result (SameDone profile_two hex (R.left first.old) (R.left first.new) (S.left second.old) (S.left second.new)
+    ensures done { IfOk result (SameDone profile_two hex (R.left first.old) (R.left first.new)
+        (S.left second.old) (S.left second.new)
         (W.contents sink.old) (W.contents sink.new)) }
-    ensures fails { IfErr result (SameFails profile_two hex (taking (R.left first.old) (R.left first.new) (R.is_broken first.new))
-        (taking (S.left second.old) (S.left second.new) (S.is_broken second.new)) (putting (W.contents sink.old) (W.contents sink.new) (W.is_broken sink.new))) }
+    ensures fails { IfErr result (SameFails profile_two hex
+        (taking (R.left first.old) (R.left first.new) (R.is_broken first.new))
+        (taking (S.left second.old) (S.left second.new) (S.is_broken second.new))
+        (putting (W.contents sink.old) (W.contents sink.new) (W.is_broken sink.new))) }
     // Two inputs have one result, unless memory, a source or the sink fails.
-    ensures compares { IfSome (R.left first.old) (λ s. IfSome (S.left second.old) (λ t. ComparesBoth profile_two hex s t result)) }
-    ensures refuses { IfSome (R.left first.old) (λ s. IfSome (S.left second.old) (λ t. RefusesOne profile_two hex s t result)) }
-    ensures no_hex { IfSome (R.left first.old) (λ s. IfSome (S.left second.old) (λ t. RefusesTexts hex s t result)) }
+    ensures compares { IfSome (R.left first.old)
+        (λ s. IfSome (S.left second.old) (λ t. ComparesBoth profile_two hex s t result)) }
+    ensures refuses { IfSome (R.left first.old)
+        (λ s. IfSome (S.left second.old) (λ t. RefusesOne profile_two hex s t result)) }
+    ensures no_hex { IfSome (R.left first.old)
+        (λ s. IfSome (S.left second.old) (λ t. RefusesTexts hex s t result)) }
     ensures first_stays { IsTrue (R.is_broken first.old) → IsTrue (R.is_broken first.new) }
     ensures second_stays { IsTrue (S.is_broken second.old) → IsTrue (S.is_broken second.new) }
     ensures sink_stays { IsTrue (W.is_broken sink.old) → IsTrue (W.is_broken sink.new) }
@@ -59,14 +65,20 @@ pub fn run_same_as<R: Source, S: Source, W: Sink>(
     sink: &mut W,
 ) -> Result<Verdict, RunFault>
     // Both inputs were one message, and the line was written.
-    ensures done { IfOk result (SameDone (profile_of profile) hex (R.left first.old) (R.left first.new) (S.left second.old) (S.left second.new)
+    ensures done { IfOk result (SameDone (profile_of profile) hex (R.left first.old)
+        (R.left first.new) (S.left second.old) (S.left second.new)
         (W.contents sink.old) (W.contents sink.new)) }
-    ensures fails { IfErr result (SameFails (profile_of profile) hex (taking (R.left first.old) (R.left first.new) (R.is_broken first.new))
-        (taking (S.left second.old) (S.left second.new) (S.is_broken second.new)) (putting (W.contents sink.old) (W.contents sink.new) (W.is_broken sink.new))) }
+    ensures fails { IfErr result (SameFails (profile_of profile) hex
+        (taking (R.left first.old) (R.left first.new) (R.is_broken first.new))
+        (taking (S.left second.old) (S.left second.new) (S.is_broken second.new))
+        (putting (W.contents sink.old) (W.contents sink.new) (W.is_broken sink.new))) }
     // Two inputs have one result, unless memory, a source or the sink fails.
-    ensures compares { IfSome (R.left first.old) (λ s. IfSome (S.left second.old) (λ t. ComparesBoth (profile_of profile) hex s t result)) }
-    ensures refuses { IfSome (R.left first.old) (λ s. IfSome (S.left second.old) (λ t. RefusesOne (profile_of profile) hex s t result)) }
-    ensures no_hex { IfSome (R.left first.old) (λ s. IfSome (S.left second.old) (λ t. RefusesTexts hex s t result)) }
+    ensures compares { IfSome (R.left first.old)
+        (λ s. IfSome (S.left second.old) (λ t. ComparesBoth (profile_of profile) hex s t result)) }
+    ensures refuses { IfSome (R.left first.old)
+        (λ s. IfSome (S.left second.old) (λ t. RefusesOne (profile_of profile) hex s t result)) }
+    ensures no_hex { IfSome (R.left first.old)
+        (λ s. IfSome (S.left second.old) (λ t. RefusesTexts hex s t result)) }
     ensures first_stays { IsTrue (R.is_broken first.old) → IsTrue (R.is_broken first.new) }
     ensures second_stays { IsTrue (S.is_broken second.old) → IsTrue (S.is_broken second.new) }
     ensures sink_stays { IsTrue (W.is_broken sink.old) → IsTrue (W.is_broken sink.new) }
@@ -104,8 +116,10 @@ fn compare(alloc: Global, profile: Profile, one: &[u8], other: &[u8]) -> Result<
 /// The octets of an input. One octet more than a message may have shows that it is too long; no
 /// more is taken, whatever the result.
 fn read_side<R: Source>(alloc: Global, hex: bool, source: &mut R) -> Result<Vec<u8>, RunFault>
-    ensures read { IfOk result (λ octets. ReadsSide hex (R.left source.old) (R.left source.new) octets.items) }
-    ensures fails { IfErr result (SideFails hex (R.left source.old) (R.left source.new) (R.is_broken source.new)) }
+    ensures read { IfOk result (λ octets. ReadsSide hex (R.left source.old) (R.left source.new)
+        octets.items) }
+    ensures fails { IfErr result (SideFails hex (R.left source.old) (R.left source.new)
+        (R.is_broken source.new)) }
     ensures stays { IsTrue (R.is_broken source.old) → IsTrue (R.is_broken source.new) }
 {
     if hex {

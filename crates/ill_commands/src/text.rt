@@ -43,7 +43,8 @@ pub fn read_at_most<R: Source>(
     source: &mut R,
     most: usize,
 ) -> Result<Vec<u8>, ReadError>
-    ensures taken { IfOk result (λ text. Consumes (R.left source.old) (R.left source.new) text.items) }
+    ensures taken { IfOk result (λ text. Consumes (R.left source.old) (R.left source.new)
+        text.items) }
     ensures most { IfOk result (λ text. length text.items ≤ most) }
     ensures end { IfOk result (λ text. length text.items < most → IsAtEnd (R.left source.new)) }
     ensures bound { TakesAtMost most (R.left source.old) (R.left source.new) }

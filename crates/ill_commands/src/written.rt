@@ -1,4 +1,4 @@
-//! What is written of a message.
+//! The output for a message.
 ghost use Rattle.std.specs.Prelude.{◌≡◌, ℕ, ◌^◌, ◌<◌, ◌≤◌, List, length, take, IfOk, IfErr, IsErr, IsTrue, OnOk};
 ghost use Rattle.std.specs.Io.KnownBytes.{Appends};
 ghost use Rattle.ill_commands.specs.code.Writing.{IsShown, IsWritten};
@@ -9,8 +9,7 @@ use ill_read::Outline;
 use ill_text::Text;
 use std::alloc::Global;
 
-/// What is written of a message: octets that were made, or the text of an outline, of which only what its first line begins with is
-/// held.
+/// The output for a message: octets that were made, or the text of an outline, of which only the beginning of the first line is held.
 #[derive(Drop)]
 pub enum JobOutput {
     Octets(Vec<u8>),
@@ -52,11 +51,16 @@ impl Rendered for JobOutput {
 
 /// Puts a text after a label. That takes no memory.
 fn put_shown<W: Sink>(label: &[u8], text: &Text, sink: &mut W) -> Result<usize, usize>
-    ensures all { (octets : List ℕ) → IsShown label.now text.now octets → OnOk result (Appends (W.contents sink.old) (W.contents sink.new) octets) }
-    ensures count { (octets : List ℕ) → IsShown label.now text.now octets → IfOk result (λ n. (n ≡ length octets) × (n ≤ 2 ^ 63)) }
-    ensures some { (octets : List ℕ) → IsShown label.now text.now octets → IfErr result (λ n. Appends (W.contents sink.old) (W.contents sink.new) (take n octets)) }
-    ensures fewer { (octets : List ℕ) → IsShown label.now text.now octets → IfErr result (λ n. n < length octets) }
-    ensures breaks { (octets : List ℕ) → IsShown label.now text.now octets → IsErr result → IsTrue (W.is_broken sink.new) }
+    ensures all { (octets : List ℕ) → IsShown label.now text.now octets
+        → OnOk result (Appends (W.contents sink.old) (W.contents sink.new) octets) }
+    ensures count { (octets : List ℕ) → IsShown label.now text.now octets
+        → IfOk result (λ n. (n ≡ length octets) × (n ≤ 2 ^ 63)) }
+    ensures some { (octets : List ℕ) → IsShown label.now text.now octets
+        → IfErr result (λ n. Appends (W.contents sink.old) (W.contents sink.new) (take n octets)) }
+    ensures fewer { (octets : List ℕ) → IsShown label.now text.now octets
+        → IfErr result (λ n. n < length octets) }
+    ensures breaks { (octets : List ℕ) → IsShown label.now text.now octets → IsErr result
+        → IsTrue (W.is_broken sink.new) }
     ensures stays { IsTrue (W.is_broken sink.old) → IsTrue (W.is_broken sink.new) }
 {
     put_all(sink, label)?;

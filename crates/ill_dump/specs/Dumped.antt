@@ -1,11 +1,13 @@
 -- What a dump does to its source and its sink. Of the text that is written only what each message begins with has a definition.
-use Rattle.std.specs.Prelude.{◌≡◌, ◌⊎◌, ℕ, suc, ◌+◌, ◌<◌, ◌≤◌, Bool, true, false, List, [], ◌∷◌, ◌++◌, length, codes, decimal, Option, Some, IfSome, IsTrue}
+use Rattle.std.specs.Prelude.{◌≡◌, ◌⊎◌, ℕ, suc, ◌+◌, ◌<◌, ◌≤◌, Bool, true, false, List, [], ◌∷◌, ◌++◌, length, codes, decimal, Option, Some, None, IfSome, IsTrue}
 use Rattle.std.specs.Io.KnownBytes.{Consumes, Keeps, Appends, IsAtEnd}
 use Rattle.ber_leaf.specs.Profile.{Profile}
-use Rattle.ill_schema.specs.Apdu.{Apdu, IsStream}
+use Rattle.ill_schema.specs.Apdu.{Apdu, IsStream, SpellsApdu}
 use Rattle.ill_schema.specs.Profiles.{profile_of}
+use Rattle.ill_schema.specs.declared.refusal.Refusal.{Refusal}
 use Rattle.ill_refusals.specs.Fault.{fault_of}
 use Rattle.ill_refusals.specs.Outcome.{OnlyRefuses}
+use Rattle.ill_read.specs.Answers.{RefusesWholeIn}
 use Rattle.ill_commands.specs.declared.fault.RunFault.{RunFault}
 use Rattle.ill_commands.specs.Output.{label_of}
 use Rattle.ill_commands.specs.Runs.{FailsText, IsFault, TextOf}
@@ -74,3 +76,8 @@ BreaksSource _ broken = Unit {0}
 abbrev pub BreaksSink : RunFault → Bool → Type 0
 BreaksSink (RunFault.WriteFault n) broken = IsTrue broken
 BreaksSink _ broken = Unit {0}
+
+-- the octets are a message of the profile, or this is why they are not exactly one
+abbrev pub IsJudged : Profile → List ℕ → Option Refusal → Type 0
+IsJudged p s None = (a : Apdu) × SpellsApdu p a s
+IsJudged p s (Some refusal) = RefusesWholeIn p s (fault_of refusal)

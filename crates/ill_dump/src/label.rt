@@ -1,4 +1,4 @@
-//! What an element is called.
+//! Names of elements.
 use crate::lines::LineBuffer;
 use ber_core::{Class, Id};
 use ill_grammar::{ElementType, EntryRole, Found};

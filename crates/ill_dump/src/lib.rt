@@ -11,10 +11,12 @@ mod cause;
 mod found;
 mod label;
 mod lines;
+mod message;
 mod note;
 mod refusal;
 mod run;
 mod value;
 mod walk;
 
+pub use message::{DumpedMessage, dump_message};
 pub use run::{DumpOptions, run_dump};

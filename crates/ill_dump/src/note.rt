@@ -1,6 +1,6 @@
-//! What is not normal in the spelling of an element.
+//! Notes on what is not normal in the spelling of an element.
 use crate::lines::LineBuffer;
-use ber_core::Len;
+use ber_core::{Len, length_size};
 use std::alloc::AllocError;
 
 /// Notes at the end of a line, in brackets, with commas between them.
@@ -45,7 +45,7 @@ impl DerNotes {
             Len::Indefinite => return self.note(lines, "indefinite"),
             Len::Definite(size) => size,
         };
-        let least = least_octets(size);
+        let least = length_size(size);
         if octets <= least {
             return Ok(());
         }
@@ -67,16 +67,5 @@ impl DerNotes {
             }
             _ => Ok(()),
         }
-    }
-}
-
-/// The number of octets that a length has at least (X.690, 10.1).
-fn least_octets(size: u32) -> usize {
-    match size {
-        0..0x80 => 1,
-        0x80..0x100 => 2,
-        0x100..0x1_0000 => 3,
-        0x1_0000..0x100_0000 => 4,
-        _ => 5,
     }
 }

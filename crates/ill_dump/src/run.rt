@@ -56,7 +56,8 @@ pub fn run_dump<R: Source, L: Lookahead<R>, W: Sink>(
     ensures done { OnOk result (DumpDone dump.entry.hex dump.entry
         (R.left source.old) (R.left source.new) (W.contents sink.old) (W.contents sink.new)) }
     ensures fails { IfErr result (DumpFails dump.entry.hex dump.entry
-        (R.left source.old) (R.left source.new) (R.is_broken source.new) (W.contents sink.old) (W.contents sink.new)) }
+        (R.left source.old) (R.left source.new) (R.is_broken source.new) (W.contents sink.old)
+        (W.contents sink.new)) }
     ensures reads { IfErr result (λ fault. BreaksSource fault (R.is_broken source.new)) }
     ensures breaks { IfErr result (λ fault. BreaksSink fault (W.is_broken sink.new)) }
     ensures source_stays { IsTrue (R.is_broken source.old) → IsTrue (R.is_broken source.new) }
@@ -78,8 +79,10 @@ fn dump_messages<R: Source, L: Lookahead<R>, W: Sink>(
 ) -> Result<(), RunFault>
     ensures done { OnOk result (AreDumped dump.entry
         (R.left source.old) (R.left source.new) (W.contents sink.old) (W.contents sink.new)) }
-    ensures stops { IfErr result (λ fault. IfSome (R.left source.old) (λ s. StopsIn (profile_of dump.entry.profile) s fault)) }
-    ensures dumps { IfErr result (λ fault. DumpsUpTo dump.entry fault (W.contents sink.old) (W.contents sink.new)) }
+    ensures stops { IfErr result (λ fault. IfSome (R.left source.old)
+        (λ s. StopsIn (profile_of dump.entry.profile) s fault)) }
+    ensures dumps { IfErr result (λ fault. DumpsUpTo dump.entry fault (W.contents sink.old)
+        (W.contents sink.new)) }
     ensures reads { IfErr result (λ fault. BreaksSource fault (R.is_broken source.new)) }
     ensures breaks { IfErr result (λ fault. BreaksSink fault (W.is_broken sink.new)) }
     ensures source_stays { IsTrue (R.is_broken source.old) → IsTrue (R.is_broken source.new) }
@@ -143,7 +146,8 @@ impl DumpSink {
 
 /// Writes lines after this number of octets, and forgets them.
 fn send<W: Sink>(lines: &mut LineBuffer, written: &mut u128, sink: &mut W) -> Result<(), RunFault>
-    ensures puts { OnOk result (Appends (W.contents sink.old) (W.contents sink.new) lines.old.octets.items) }
+    ensures puts { OnOk result (Appends (W.contents sink.old) (W.contents sink.new)
+        lines.old.octets.items) }
     ensures none { OnOk result (lines.new.octets.items ≡ []) }
     ensures breaks { IfErr result (λ fault. BreaksSink fault (W.is_broken sink.new)) }
     ensures refuses { IfErr result IsFault }
@@ -276,8 +280,13 @@ fn put_elements<W: Sink>(
 }
 
 /// The beginning of the first line of a message.
-fn put_head(dump: DumpOptions<'_>, message: u32, lines: &mut LineBuffer) -> Result<(), AllocError>
-    ensures { OnOk result (lines.new.octets.items ≡ lines.old.octets.items ++ head dump.entry message) }
+pub(crate) fn put_head(
+    dump: DumpOptions<'_>,
+    message: u32,
+    lines: &mut LineBuffer,
+) -> Result<(), AllocError>
+    ensures { OnOk result (lines.new.octets.items ≡ lines.old.octets.items
+        ++ head dump.entry message) }
 {
     put_label(dump, lines)?;
     lines.text("message ")?;
@@ -287,7 +296,8 @@ fn put_head(dump: DumpOptions<'_>, message: u32, lines: &mut LineBuffer) -> Resu
 
 /// The name of the input, where the first line of a message begins with it.
 fn put_label(dump: DumpOptions<'_>, lines: &mut LineBuffer) -> Result<(), AllocError>
-    ensures { OnOk result (lines.new.octets.items ≡ lines.old.octets.items ++ label_of dump.entry.names_input dump.entry.name.now) }
+    ensures { OnOk result (lines.new.octets.items ≡ lines.old.octets.items
+        ++ label_of dump.entry.names_input dump.entry.name.now) }
 {
     if dump.names_input {
         lines.text(dump.name)?;
@@ -297,7 +307,7 @@ fn put_label(dump: DumpOptions<'_>, lines: &mut LineBuffer) -> Result<(), AllocE
 }
 
 /// The rest of the line of a message: its APDU, its size, and whether it is in normal form.
-fn put_check(
+pub(crate) fn put_check(
     dump: DumpOptions<'_>,
     octets: &[u8],
     normal: &[u8],

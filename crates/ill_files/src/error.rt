@@ -219,7 +219,7 @@ pub fn is_output_lost(done: &Result<Verdict, ProgramError>) -> bool
 }
 
 /// Tells whether an output that is a file stays as it was: some of the output was not written, the input could not be read, or memory ran out.
-/// Where it is replaced only as a `whole`, it stays as it was after any error, and where a message is refused.
+/// One that is replaced only as a `whole` stays as it was after any error, and where a message is refused.
 pub fn keeps_output(whole: bool, done: &Result<Verdict, ProgramError>) -> bool
     ensures { result ≡ keeps_output whole done.now }
 {

@@ -1,4 +1,4 @@
-//! What the program asks of a runtime beside its streams, its words and the names of files.
+//! The traits of a runtime that the program needs beside its streams, its words and the names of files.
 use std::fs::File;
 use std::io::{self, IsTerminal};
 use std::os::fd::AsFd;

@@ -243,8 +243,8 @@ pub enum OutputDestination {
     NewFile(String),
 }
 
-/// Opens the output of this name, `-` or `/dev/stdout` for standard output. Where it is to be replaced as a whole, nothing else is opened.
-/// Where a regular file is there that can't be replaced, it is written directly, and a line on standard error says so.
+/// Opens the output of this name, `-` or `/dev/stdout` for standard output. Nothing else is opened where it is to be replaced as a whole.
+/// A regular file that can't be replaced is written directly, and a line on standard error says so.
 ///
 /// # Errors
 ///

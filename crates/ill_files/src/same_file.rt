@@ -1,4 +1,4 @@
-//! Whether an input and an output are one file.
+//! Comparison of an input with an output: whether they are one file.
 use std::fs::{self, Metadata};
 use std::io;
 use std::os::unix::fs::MetadataExt;

@@ -21,7 +21,7 @@ use Rattle.ill_refusals.specs.Next.{part, octets, any, rows, items, due, due_in,
 use Rattle.ill_refusals.proofs.Rows.{two_cases}
 use Rattle.ill_grammar.specs.Cells as cells
 use Rattle.ill_grammar.specs.Cells.{BeginsDue, IsAlternative, is_strict, levels_in, wrapped}
-use Rattle.ill_grammar.specs.Places.{IsAtRow, IsDue, Where, due_of, element_found, next_at, node_in, node_of, part_in, part_of, place_after, row_of, slot_of, type_of}
+use Rattle.ill_grammar.specs.Places.{IsAtRow, IsDue, PlaceView, due_of, element_found, next_at, node_in, node_of, part_in, part_of, place_after, row_of, slot_of, type_of}
 use Rattle.ill_grammar.specs.code.Meant.{is_wrapped, opens_in}
 use Rattle.ill_grammar.specs.declared.place.Place.{Place}
 use Rattle.ill_grammar.specs.declared.place.Found.{Found as CellFound}
@@ -38,7 +38,7 @@ use Rattle.ill_grammar.specs.declared.due.Next.TheVariants.{Rows, Inner, Items, 
 use Rattle.ill_grammar.proofs.DueElements.{first_due}
 use Rattle.ill_grammar.specs.declared.due.Slot.{Slot}
 use Rattle.ill_grammar.specs.declared.due.Slot.TheVariants.{Row as AtRow, Item, Inner as Inside, Segment as InString, Foreign as InForeign}
-use Rattle.ill_grammar.specs.Found.{Found}
+use Rattle.ill_grammar.specs.Begun.{Begun}
 use Rattle.ill_grammar.specs.declared.element.Wrapped.{Wrapped}
 
 there : (node : NodeId) (k i : ℕ) (rs : List Row) (c : Component) (cs : List Component) → drop i (components_from profile_two node k rs) ≡ c ∷ cs
@@ -136,7 +136,7 @@ lacking t node D zero n r e h a = λ k row from until is must. absurd (omega (ar
 lacking t node D (suc m) n r e h a = lacking-on t node D m n r e h a (drop n (components profile_two node)) refl (λ k. lacking t node D m (n + 1) r (omega (arith, e)) k a)
 
 -- a row that is due
-pub row-due : (t : Tag) (node : NodeId) (n r : ℕ) (D : next.Due) (alt : Option ℕ) (found : Found) → due_in profile_two t (drop n (components profile_two node)) ≡ Some D → IsAtRow node r D → n ≤ r
+pub row-due : (t : Tag) (node : NodeId) (n r : ℕ) (D : next.Due) (alt : Option ℕ) (found : Begun) → due_in profile_two t (drop n (components profile_two node)) ≡ Some D → IsAtRow node r D → n ≤ r
     → BeginsDue t D alt → found_is found ≡ element_of D → IsRowDue t node n r alt found
 row-due t node n r D alt found h a from b is =
     let w = component-row node r a.component a.behind a.is_row in
@@ -501,7 +501,7 @@ found-placed t a f h = record {
     element_found f,
     ap (λ x. cells.due_at (part_in f.at) (node_in f.at) f.at.position x (element_found f)) s ∙ ap (λ n. part (wrapped (part_in f.at) n) (element_found f) (rows [])) h.parent,
   );
-  stays = λ any. ap (λ (w : Where). w.position) (h.stays any);
+  stays = λ any. ap (λ (w : PlaceView). w.position) (h.stays any);
 }
 
 -- what may come next by the cells may by the decoder's words
@@ -529,5 +529,5 @@ is-coming t a f h =
     let element = element-due (part_in f.at) (node_in f.at) f.at.position (slot_of f) (element_found f) in
     record {
       is_due = placed-due t k (part_in a) (node_in a) a.position f.at.position (row_of f) (slot_of f) (due_of f) (due_as f) refl placed h.begins refl (found-means (type_of f) (part_of f) (node_of f) ∙ sym element);
-      after = after-found f (slot_of f) (node_in a) h.parent ∙ after-is t k (part_in a) (part_in f.at) (node_in a) a.position f.at.position (row_of f) (slot_of f) (due_of f) (λ any. ap (λ (w : Where). w.part) (h.stays any)) placed;
+      after = after-found f (slot_of f) (node_in a) h.parent ∙ after-is t k (part_in a) (part_in f.at) (node_in a) a.position f.at.position (row_of f) (slot_of f) (due_of f) (λ any. ap (λ (w : PlaceView). w.part) (h.stays any)) placed;
     }

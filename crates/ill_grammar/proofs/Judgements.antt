@@ -28,7 +28,7 @@ use Rattle.ill_refusals.specs.Place.{Open, next_in, bound, innermost_end}
 use Rattle.ill_refusals.specs.Reading.{IdentifierRead, identified, part_identifier, no_identifier, read_identifier, read_number, tagged, definite, read_length}
 use Rattle.ill_grammar.specs.Standing.{StandsAt, next_at}
 use Rattle.ill_grammar.specs.Due.{Due as CodeDue}
-use Rattle.ill_grammar.specs.Found.{Found}
+use Rattle.ill_grammar.specs.Begun.{Begun}
 use Rattle.ill_grammar.specs.HeaderCode.{IsLengthRead, IsWholeLength}
 use Rattle.ill_grammar.specs.declared.due.Next.{Next}
 use Rattle.ill_grammar.specs.declared.due.Next.TheVariants.{Rows, Inner, Items, Either, Segments, BitSegments, Root, Foreigns, Nothing}
@@ -131,7 +131,7 @@ formed_judged frames place at id f h s e k g = record {
   shallow = s;
 }
   where
-    due_found : CellFound → Found → CodeDue
+    due_found : CellFound → Begun → CodeDue
     due_found f x = record { slot = slot_in f; alternative = alternative_of f; found = x }
 
 pub misformed_judged : (frames : Frames) (place : List Open) (at : Place) (k : ℕ) (id : Id) (f : CellFound) (cause : Cause) → StandsAt frames place → length place < 32 → shape at ≡ next_at frames.profile frames.open.items

@@ -22,14 +22,14 @@ use Rattle.ill_grammar.specs.Elements.{component_of, component_at, element_with,
 use Rattle.ill_grammar.specs.Due.{Begins, IsBegun, IsRowDue}
 use Rattle.ill_refusals.specs.Element.{Component, Element, Start, own_starts, tagged_starts, component_starts}
 use Rattle.ill_grammar.specs.Contents.{IsValueOf, with_alternative}
-use Rattle.ill_grammar.specs.Found.{Found}
+use Rattle.ill_grammar.specs.Begun.{Begun}
 use Rattle.ill_grammar.specs.declared.element.Wrapped.{Wrapped}
 use Rattle.ill_refusals.proofs.WholeElements.{element_at, own_start, implicit_start, one_start, improper_choice, own_of, own_is, leaf_value, explicit_means, bare_kind, choice_starts, carried_starts, left_found, carried_or_left, left_starts, IsProperComponent, untagged_carried}
 use Rattle.ill_refusals.proofs.OpenElements.{inner_proper, row_proper}
 use Rattle.ill_refusals.proofs.Rows.{starting}
 
 -- what a tag begins in a wrapper is no open type
-pub closed : (t : Tag) (w : Wrapped) (alt : Option ℕ) (f : Found) → IsBegun t (component_of w) alt f → kind_of w.node ≡ Kind.Any → ⊥
+pub closed : (t : Tag) (w : Wrapped) (alt : Option ℕ) (f : Begun) → IsBegun t (component_of w) alt f → kind_of w.node ≡ Kind.Any → ⊥
 closed t w alt f h = go alt h.begins
   where
     go : (alt : Option ℕ) → Begins t (component_of w) alt (found_is f) → kind_of w.node ≡ Kind.Any → ⊥
@@ -37,7 +37,7 @@ closed t w alt f h = go alt h.begins
     go (Some n) b k = let q : Kind.Choice ≡ Kind.Any = sym b.1 ∙ k in cc
 
 -- what an explicit tag is round is of no open type, since something begins it
-pub begun_proper : (t : Tag) (w : Wrapped) (alt : Option ℕ) (f : Found) → IsBegun t (component_of w) alt f → IsProperComponent profile_two (component_of w)
+pub begun_proper : (t : Tag) (w : Wrapped) (alt : Option ℕ) (f : Begun) → IsBegun t (component_of w) alt f → IsProperComponent profile_two (component_of w)
 begun_proper t w alt f h = inner_proper profile_two (component_of w) refl refl (closed t w alt f h)
 
 -- a whole element of a kind means its value, under a tagging that it suits
@@ -134,12 +134,12 @@ begins_means p w (Some n) e c T ok h m =
     )
 
 -- of an element that begins a component
-pub begun_means : (p : Named) (w : Component) (alt : Option ℕ) (f : Found) (c : Content) (T : Tree) → IsProperComponent profile_two w → IsBegun (tag_of T) w alt f → IsValueOf p (found_is f) c T
+pub begun_means : (p : Named) (w : Component) (alt : Option ℕ) (f : Begun) (c : Content) (T : Tree) → IsProperComponent profile_two w → IsBegun (tag_of T) w alt f → IsValueOf p (found_is f) c T
     → IsCarried w.presence × Means (profile_of p) (with_alternative alt c) w.node w.tagging T
 begun_means p w alt f c T ok h m = begins_means p w alt (found_is f) c T ok h.begins m
 
 -- of an element of a row
-pub row_means : (p : Named) (T : Tree) (node : NodeId) (position r : ℕ) (alt : Option ℕ) (f : Found) (c : Content) → (h : IsRowDue (tag_of T) node position r alt f) → IsValueOf p (found_is f) c T
+pub row_means : (p : Named) (T : Tree) (node : NodeId) (position r : ℕ) (alt : Option ℕ) (f : Begun) (c : Content) → (h : IsRowDue (tag_of T) node position r alt f) → IsValueOf p (found_is f) c T
     → IsCarried h.row.presence × Means (profile_of p) (with_alternative alt c) h.row.node (tagging profile_two h.row) T
 row_means p T node position r alt f c h m =
     begins_means p (component_at (record { node = node; row = r }) h.row) alt (found_is f) c T (row_proper node r h.row h.is_row) h.begins m

@@ -23,7 +23,7 @@ use Rattle.ill_grammar.specs.Due.{Begins, IsRowDue, IsItemDue, IsInnerDue}
 use Rattle.ill_grammar.specs.Contents.{IsValueOf, with_alternative}
 use Rattle.ill_grammar.specs.Written.{normal_element}
 use Rattle.ill_grammar.specs.Due.{Due}
-use Rattle.ill_grammar.specs.Found.{Found}
+use Rattle.ill_grammar.specs.Begun.{Begun}
 use Rattle.ill_grammar.proofs.Meanings.{begun_proper}
 use Rattle.ill_grammar.specs.declared.element.Wrapped.{Wrapped}
 
@@ -107,7 +107,7 @@ begins_normal p t w (Some n) e c T ok b m =
     ∙ component_normal p (component_at (record { node = w.node; row = n }) row) t e c T proper b.2.2 m
 
 -- of an element of a row
-pub row_normal : (p : Named) (t : Tag) (node : NodeId) (position r : ℕ) (alt : Option ℕ) (f : Found) (c : Content) (T : Tree) → (h : IsRowDue t node position r alt f) → IsValueOf p (found_is f) c T
+pub row_normal : (p : Named) (t : Tag) (node : NodeId) (position r : ℕ) (alt : Option ℕ) (f : Begun) (c : Content) (T : Tree) → (h : IsRowDue t node position r alt f) → IsValueOf p (found_is f) c T
     → normal_tree (with_alternative alt c) h.row.node (tagging profile_two h.row) ≡ normal_element (found_is f) t c
 row_normal p t node position r alt f c T h m =
     begins_normal p t (component_at (record { node = node; row = r }) h.row) alt (found_is f) c T (row_proper node r h.row h.is_row) h.begins m

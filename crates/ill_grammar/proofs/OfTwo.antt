@@ -7,7 +7,7 @@ use Rattle.ill_schema.specs.declared.part.PartId.{PartId}
 use Rattle.ill_schema.specs.declared.profile.Profile.{Profile as Named}
 use Rattle.ill_schema.specs.declared.profile.Profile.TheVariants.{Two, Module}
 use Rattle.ill_grammar.specs.Cells.{is_two_type}
-use Rattle.ill_grammar.specs.Places.{Where, first_place, is_two, node_in, node_of, part_of, place_after, slot_of, type_of, where_of}
+use Rattle.ill_grammar.specs.Places.{PlaceView, first_place, is_two, node_in, node_of, part_of, place_after, slot_of, type_of, place_view}
 use Rattle.ill_grammar.specs.declared.place.Found.{Found as CellFound}
 use Rattle.ill_grammar.specs.declared.place.Place.{Place}
 use Rattle.ill_grammar.specs.declared.cell.EntryRole.{EntryRole}
@@ -37,13 +37,13 @@ read_two f h =
     element_two (type_of f) (part_of f) (node_of f) (and_parts (is_of_two (node_of f)) _ cell).1
 
 -- the place in what is found, and the place after it, are of profile 2
-first_two : (f : CellFound) (at : Place) → IsTrue (is_two f) → where_of at ≡ first_place f → IsTrue (is_of_two (node_in at))
+first_two : (f : CellFound) (at : Place) → IsTrue (is_two f) → place_view at ≡ first_place f → IsTrue (is_of_two (node_in at))
 first_two f at h e =
-    let node : node_in at ≡ node_of f = ap (λ (w : Where). w.node) e in
+    let node : node_in at ≡ node_of f = ap (λ (w : PlaceView). w.node) e in
     subst (λ n. IsTrue (is_of_two n)) (sym node) (and_parts (is_of_two (node_of f)) _ (and_parts (is_of_two (node_in f.at)) _ h).1).0
 
-after_two : (f : CellFound) (at : Place) → IsTrue (is_two f) → where_of at ≡ place_after f (slot_of f) → IsTrue (is_of_two (node_in at))
-after_two f at h e = go (slot_of f) (ap (λ (w : Where). w.node) e)
+after_two : (f : CellFound) (at : Place) → IsTrue (is_two f) → place_view at ≡ place_after f (slot_of f) → IsTrue (is_of_two (node_in at))
+after_two f at h e = go (slot_of f) (ap (λ (w : PlaceView). w.node) e)
   where
     round : IsTrue (is_of_two (node_in f.at))
     round = (and_parts (is_of_two (node_in f.at)) _ h).0
@@ -60,11 +60,11 @@ after_two f at h e = go (slot_of f) (ap (λ (w : Where). w.node) e)
     go cell.Foreign s = there s
 
 -- the same of the profile of a message
-pub first_of : (p : Named) (f : CellFound) (at : Place) → IsTrue (is_found_of p f) → where_of at ≡ first_place f → IsTrue (is_place_of p at)
+pub first_of : (p : Named) (f : CellFound) (at : Place) → IsTrue (is_found_of p f) → place_view at ≡ first_place f → IsTrue (is_place_of p at)
 first_of Two f at h e = first_two f at h e
 first_of Module f at h e = refl
 
-pub after_of : (p : Named) (f : CellFound) (at : Place) → IsTrue (is_found_of p f) → where_of at ≡ place_after f (slot_of f) → IsTrue (is_place_of p at)
+pub after_of : (p : Named) (f : CellFound) (at : Place) → IsTrue (is_found_of p f) → place_view at ≡ place_after f (slot_of f) → IsTrue (is_place_of p at)
 after_of Two f at h e = after_two f at h e
 after_of Module f at h e = refl
 

@@ -241,10 +241,13 @@ tag-due t (anything c) d h = absurd cc
 tag-due t (foreigns n) d h = absurd cc
 
 -- in an open type nothing is due by its tag
-pub none-by-tag : (t : Tag) (p : PartId) (node : NodeId) (position : ℕ) (d : Due) → kind_of node ≡ Kind.Any → due_by_tag t (next_from p node position) ≡ Some d → ⊥
-none-by-tag t p node position d e h = let q : None ≡ Some d = sym (ap (λ k. due_by_tag t (next_of_kind k p node position)) e ∙ go position) ∙ h in cc
+pub any-by-tag : (t : Tag) (p : PartId) (node : NodeId) (position : ℕ) → kind_of node ≡ Kind.Any → due_by_tag t (next_from p node position) ≡ None
+any-by-tag t p node position e = ap (λ k. due_by_tag t (next_of_kind k p node position)) e ∙ go position
   where
     go : (n : ℕ) → due_by_tag t (next_of_kind Kind.Any p node n) ≡ None
     go zero = refl
     go (suc zero) = refl
     go (suc (suc n)) = refl
+
+pub none-by-tag : (t : Tag) (p : PartId) (node : NodeId) (position : ℕ) (d : Due) → kind_of node ≡ Kind.Any → due_by_tag t (next_from p node position) ≡ Some d → ⊥
+none-by-tag t p node position d e h = let q : None ≡ Some d = sym (any-by-tag t p node position e) ∙ h in cc

@@ -16,7 +16,7 @@ use Rattle.ill_schema.specs.Tagging.{untagged, same_tag, sequence_tag}
 use Rattle.ill_refusals.specs.Element.{Component, Element, foreign, list, segment, components, component_starts, starts}
 use Rattle.ill_refusals.specs.Next as next
 use Rattle.ill_grammar.specs.Cells.{is_strict, levels_in}
-use Rattle.ill_grammar.specs.Places.{Where, where_of, part_of, node_of, type_of, alternative_of, slot_of, row_of, place_after}
+use Rattle.ill_grammar.specs.Places.{PlaceView, place_view, part_of, node_of, type_of, alternative_of, slot_of, row_of, place_after}
 use Rattle.ill_grammar.specs.declared.place.Place.{Place}
 use Rattle.ill_grammar.specs.declared.place.Found.{Found as CellFound}
 use Rattle.ill_grammar.specs.declared.cell.EntryRole.{EntryRole}
@@ -31,8 +31,8 @@ use Rattle.ill_grammar.specs.declared.due.Next.TheVariants.{Rows, Inner, Items, 
 use Rattle.ill_grammar.specs.declared.due.Slot.{Slot}
 use Rattle.ill_grammar.specs.declared.element.Element.{Element as CodeElement}
 use Rattle.ill_grammar.specs.declared.element.Element.TheVariants.{Leaf, Sequence, List as ListOf, Wrapper, LooseWrapper, Segment as InString, ModuleLeaf, BitString, BitSegment as InBits, Foreign}
-use Rattle.ill_grammar.specs.Found.{Found}
-use Rattle.ill_grammar.specs.Found as found
+use Rattle.ill_grammar.specs.Begun.{Begun}
+use Rattle.ill_grammar.specs.Begun as begun
 use Rattle.ill_grammar.specs.declared.element.Wrapped.{Wrapped}
 use Rattle.ill_grammar.specs.declared.leaf_type.LeafType.TheVariants as leaf
 use Rattle.ill_grammar.specs.declared.leaf_type.ModuleLeaf.TheVariants as named
@@ -59,11 +59,11 @@ shape_of (Kind.Leaf l) p node (suc zero) = shape_in l
 shape_of Kind.IllString p node (suc zero) = Segments
 shape_of _ p node (suc _) = Nothing
 
-abbrev pub shape_at : Where → Next
+abbrev pub shape_at : PlaceView → Next
 shape_at w = shape_of (kind_of w.node) w.part w.node w.position
 
 abbrev pub shape : Place → Next
-shape at = shape_at (where_of at)
+shape at = shape_at (place_view at)
 
 -- what may come in an element when it opens
 abbrev pub first_of : CodeElement → Next
@@ -79,9 +79,9 @@ first_of InBits = BitSegments
 first_of (Foreign n) = Foreigns n
 
 -- what is found, if it is an element, begins at this place inside
-abbrev pub BeginsAt : Found → Where → Type 0
-BeginsAt (found.Element e) first = shape_at first ≡ first_of e
-BeginsAt (found.LeftOut part) first = Unit {0}
+abbrev pub BeginsAt : Begun → PlaceView → Type 0
+BeginsAt (begun.Element e) first = shape_at first ≡ first_of e
+BeginsAt (begun.LeftOut part) first = Unit {0}
 
 -- as what an element of a part with this node is read; one that is left out never is
 abbrev pub element_as : PartId → NodeId → ElementType → CodeElement
@@ -108,9 +108,9 @@ element_as p node element_type.Foreign = Foreign (levels_in p)
 element_as p node element_type.LeftOut = ListOf node
 
 -- what a part with this node is
-abbrev pub found_as : PartId → NodeId → ElementType → Found
-found_as p node element_type.LeftOut = found.LeftOut p
-found_as p node w = found.Element (element_as p node w)
+abbrev pub found_as : PartId → NodeId → ElementType → Begun
+found_as p node element_type.LeftOut = begun.LeftOut p
+found_as p node w = begun.Element (element_as p node w)
 
 -- where what is found is
 abbrev pub slot_as : ℕ → EntryRole → Slot
@@ -125,27 +125,27 @@ slot_as row cell.Foreign = InForeign
 abbrev pub read_as : CellFound → CodeElement
 read_as f = element_as (part_of f) (node_of f) (type_of f)
 
-abbrev pub found_in : CellFound → Found
+abbrev pub found_in : CellFound → Begun
 found_in f = found_as (part_of f) (node_of f) (type_of f)
 
 abbrev pub slot_in : CellFound → Slot
 slot_in f = slot_as (row_of f) (slot_of f)
 
-abbrev pub next_place : CellFound → Where
+abbrev pub next_place : CellFound → PlaceView
 next_place f = place_after f (slot_of f)
 
 -- what a tag begins, where that is, and the alternative of a choice without a tag that it is
 pub record Due : Type 0 where
   pub slot : Slot
   pub alternative : Option ℕ
-  pub found : Found
+  pub found : Begun
 
 abbrev pub due_as : CellFound → Due
 due_as f = record { slot = slot_in f; alternative = alternative_of f; found = found_in f }
 
 -- the same where it isn't left out
 abbrev pub read_due : CellFound → Due
-read_due f = record { slot = slot_in f; alternative = alternative_of f; found = found.Element (read_as f) }
+read_due f = record { slot = slot_in f; alternative = alternative_of f; found = begun.Element (read_as f) }
 
 abbrev pub next_is : Next → next.Next
 next_is (Rows node n) = next.rows (drop n (components profile_two node))
@@ -167,7 +167,7 @@ abbrev pub Begins : Tag → Component → Option ℕ → Element → Type 0
 Begins t c None e = element_with t (component_starts c) ≡ Some e
 Begins t c (Some n) e = (c.tagging ≡ untagged) × (kind_of c.node ≡ Kind.Choice) × IsRowStart t c.node n e
 
-pub record IsBegun (t : Tag) (c : Component) (alternative : Option ℕ) (found : Found) : Type 0 where
+pub record IsBegun (t : Tag) (c : Component) (alternative : Option ℕ) (found : Begun) : Type 0 where
   pub is : element_with t (starts profile_two c) ≡ Some (found_is found)
   pub begins : Begins t c alternative (found_is found)
 
@@ -176,7 +176,7 @@ abbrev pub MayAllLack : NodeId → ℕ → ℕ → Type 0
 MayAllLack node from until = (k : ℕ) (row : Row) → from ≤ k → k < until → slice_get (rows_of node) k ≡ Some row → row.presence ≡ Presence.Must → ⊥
 
 -- the row r from a position on is due with the tag
-pub record IsRowDue (t : Tag) (node : NodeId) (position r : ℕ) (alternative : Option ℕ) (found : Found) : Type 0 where
+pub record IsRowDue (t : Tag) (node : NodeId) (position r : ℕ) (alternative : Option ℕ) (found : Begun) : Type 0 where
   pub row : Row
   pub is_row : slice_get (rows_of node) r ≡ Some row
   pub behind : position ≤ r
@@ -243,4 +243,4 @@ pub record IsComing (t : Tag) (at : Place) (f : CellFound) : Type 0 where
 
 -- what is due, where it is an element
 abbrev pub due_with : Slot → Option ℕ → CodeElement → Due
-due_with slot alternative element = record { slot = slot; alternative = alternative; found = found.Element element }
+due_with slot alternative element = record { slot = slot; alternative = alternative; found = begun.Element element }

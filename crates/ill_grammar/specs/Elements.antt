@@ -13,8 +13,8 @@ use Rattle.ill_refusals.specs.Element.{Component, Element, leaf, sequence, list,
 use Rattle.ill_grammar.specs.LeafTypes.{leaf_is, module_leaf_is}
 use Rattle.ill_grammar.specs.declared.element.Element.{Element as CodeElement}
 use Rattle.ill_grammar.specs.declared.element.Element.TheVariants as code
-use Rattle.ill_grammar.specs.Found.{Found}
-use Rattle.ill_grammar.specs.Found as found
+use Rattle.ill_grammar.specs.Begun.{Begun}
+use Rattle.ill_grammar.specs.Begun as begun
 use Rattle.ill_grammar.specs.declared.element.Wrapped.{Wrapped}
 
 abbrev pub component_of : Wrapped → Component
@@ -32,9 +32,9 @@ element_is code.BitString = leaf bit_string
 element_is code.BitSegment = segment (segment_tag bit_string)
 element_is (code.Foreign n) = foreign n
 
-abbrev pub found_is : Found → Element
-found_is (found.Element e) = element_is e
-found_is (found.LeftOut part) = left_out part
+abbrev pub found_is : Begun → Element
+found_is (begun.Element e) = element_is e
+found_is (begun.LeftOut part) = left_out part
 
 -- the component that a row is
 abbrev pub component_at : PartId → Row → Component

@@ -1,7 +1,7 @@
 pub mod Cells
 pub mod Places
 pub mod LeafTypes
-pub mod Found
+pub mod Begun
 pub mod Elements
 pub mod Due
 pub mod Contents

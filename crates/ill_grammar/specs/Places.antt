@@ -19,7 +19,7 @@ use Rattle.ill_grammar.specs.declared.place.Place.{Place}
 use Rattle.ill_grammar.specs.declared.place.Found.{Found}
 
 -- the part of a wrapper, the node that is open or in the wrapper, and a position there
-pub record Where : Type 0 where
+pub record PlaceView : Type 0 where
   pub part : PartId
   pub node : NodeId
   pub position : ℕ
@@ -33,8 +33,8 @@ node_in at = at.parent.now.node
 abbrev pub position_in : Place → ℕ
 position_in at = at.position
 
-abbrev pub where_of : Place → Where
-where_of at = record { part = part_in at; node = node_in at; position = at.position }
+abbrev pub place_view : Place → PlaceView
+place_view at = record { part = part_in at; node = node_in at; position = at.position }
 
 -- what may come next there
 abbrev pub next_at : Place → Next
@@ -67,29 +67,29 @@ abbrev pub due_of : Found → Due
 due_of f = due_at (part_in f.at) (node_in f.at) f.at.position (slot_of f) (element_found f)
 
 -- the first place where the element that is found may begin inside
-abbrev pub first_place : Found → Where
+abbrev pub first_place : Found → PlaceView
 first_place f = record { part = part_of f; node = node_of f; position = first_position (type_of f) }
 
 -- where a message begins
-abbrev pub top : Where
+abbrev pub top : PlaceView
 top = record { part = record { node = IllApdu; row = 0 }; node = IllApdu; position = 0 }
 
 -- where a message of a profile begins
-abbrev pub top_in : Profile → Where
+abbrev pub top_in : Profile → PlaceView
 top_in p = record { part = record { node = root p; row = 0 }; node = root p; position = 0 }
 
 -- where nothing may come
-abbrev pub nowhere : Where
+abbrev pub nowhere : PlaceView
 nowhere = record { part = record { node = Boolean; row = 0 }; node = Boolean; position = 2 }
 
 -- the place after the element
-abbrev pub place_after : Found → EntryRole → Where
+abbrev pub place_after : Found → EntryRole → PlaceView
 place_after f slot.Row = record { part = part_in f.at; node = node_in f.at; position = f.at.position + 1 }
 place_after f slot.Inner = nowhere
-place_after f slot.Item = where_of f.at
-place_after f slot.Segment = where_of f.at
+place_after f slot.Item = place_view f.at
+place_after f slot.Segment = place_view f.at
 place_after f slot.Root = nowhere
-place_after f slot.Foreign = where_of f.at
+place_after f slot.Foreign = place_view f.at
 
 -- the row at which it is due
 abbrev pub row_of : Found → ℕ
@@ -118,4 +118,4 @@ pub record IsDue (t : Tag) (at : Place) (f : Found) : Type 0 where
   pub placed : IsTrue (is_placed (kind_of (parent_node f)) f.at.position (slot_of f))
   pub row : slot_of f ≡ slot.Row → IsAtRow (parent_node f) (row_of f) (due_of f)
   -- in an open type no position is passed
-  pub stays : kind_of (node_in at) ≡ Kind.Any → where_of f.at ≡ where_of at
+  pub stays : kind_of (node_in at) ≡ Kind.Any → place_view f.at ≡ place_view at

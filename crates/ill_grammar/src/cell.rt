@@ -63,7 +63,7 @@ pub struct Cell {
     pub slot: EntryRole,
     /// The tags are those of the node's alternatives.
     pub nested: bool,
-    /// Where the tag differs, nothing after this cell is due.
+    /// True if nothing after this cell is due where the tag differs.
     pub is_mandatory: bool,
     /// This row or one after it is mandatory.
     pub mandatory_follows: bool,

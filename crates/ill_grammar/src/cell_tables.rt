@@ -61,7 +61,7 @@ macro_rules! element_type {
     ($presence:ident, Implicit, $node:ident) => { own_what!($node) };
 }
 
-/// Whether the node is a choice that is in a sequence or list without a tag.
+/// True for a node that is a choice in a sequence or list without a tag.
 macro_rules! is_nested {
     (DeliveryService) => { true };
     (ShippedVia) => { true };
@@ -73,7 +73,7 @@ macro_rules! is_nested {
     ($node:ident) => { false };
 }
 
-/// Whether the node is a sequence in an explicit tag that may not be bare.
+/// True for a node that is a sequence in an explicit tag and may not be bare.
 macro_rules! is_strict {
     (PostalAddress) => { true };
     (ElectronicDelivery) => { true };
@@ -85,7 +85,7 @@ macro_rules! is_must {
     ($presence:ident) => { false };
 }
 
-/// Whether a row is mandatory.
+/// True where one of the rows is mandatory.
 macro_rules! mandatory_follows {
     () => { false };
     ((Must, $($row:tt)*) $($rest:tt)*) => { true };
@@ -756,7 +756,8 @@ pub fn alternatives_of(node: NodeId) -> &'static [Cell]
 /// The cell of an element of a foreign tree with this number of elements round it, None where the tree would have too many levels.
 #[cold]
 pub fn foreign_in(depth: u8) -> Option<&'static Cell>
-    ensures { MatchOption result (20 ≤ depth) (λ cell. (depth < 20) × (cell.now ≡ foreign_cell depth)) }
+    ensures { MatchOption result (20 ≤ depth)
+        (λ cell. (depth < 20) × (cell.now ≡ foreign_cell depth)) }
 {
     let cells: &'static [Cell] = &FOREIGN;
     cells.get(depth as usize)

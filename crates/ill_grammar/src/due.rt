@@ -1,4 +1,4 @@
-//! What may come next in an open element, and where an element is in it.
+//! Elements that may come next in an open element, and their roles in it.
 ghost use Rattle.std.specs.Prelude.{◌≡◌};
 ghost use Rattle.ill_grammar.specs.Due.{shape, slot_in};
 

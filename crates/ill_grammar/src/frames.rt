@@ -115,7 +115,8 @@ impl Frames {
     /// The offset that no octet may reach.
     pub fn bound(&self) -> u32
         ensures small { result ≤ 1_048_576 }
-        ensures exact { WhereItStands self.now (λ place. result ≡ bound (profile_of self.now.profile) place) }
+        ensures exact { WhereItStands self.now (λ place. result ≡ bound
+            (profile_of self.now.profile) place) }
     {
         match self.innermost() {
             Some(frame) => frame.bound,
@@ -170,7 +171,8 @@ impl Frames {
     /// Goes to a place in the innermost element.
     pub fn advance(&mut self, place: Place)
         requires is_of { IsTrue (is_place_of self.old.profile place) }
-        ensures frame { (outer : List Frame) (f : Frame) → self.old.open.items ≡ outer ++ f ∷ [] → self.new.open.items ≡ outer ++ record f { place = place } ∷ [] }
+        ensures frame { (outer : List Frame) (f : Frame) → self.old.open.items ≡ outer ++ f ∷ []
+            → self.new.open.items ≡ outer ++ record f { place = place } ∷ [] }
         ensures depth { depth_of self.new ≡ depth_of self.old }
         ensures profile { self.new.profile ≡ self.old.profile }
     {

@@ -75,7 +75,8 @@ pub fn read_any(octets: &[u8]) -> HeaderRead
 /// The length after an identifier of one octet (X.690, 8.1.3.3 to 8.1.3.6). None where it isn't whole.
 #[inline(always)]
 pub fn length_after(octets: &[u8], constructed: bool) -> Option<LengthRead>
-    ensures { IfSome result (λ read. IsLengthRead read (read_length constructed (drop 1 octets.now)) octets.now) }
+    ensures { IfSome result (λ read. IsLengthRead read (read_length constructed (drop 1 octets.now))
+        octets.now) }
 {
     let first = *octets.get(1)?;
     // Most lengths are of one octet, so that is asked first.
@@ -90,7 +91,8 @@ pub fn length_after(octets: &[u8], constructed: bool) -> Option<LengthRead>
 fn long_length(octets: &[u8], first: u8, constructed: bool) -> Option<LengthRead>
     requires first { slice_get octets.now 1 ≡ Some first }
     requires long { 128 ≤ first }
-    ensures { IfSome result (λ read. IsLengthRead read (read_length constructed (drop 1 octets.now)) octets.now) }
+    ensures { IfSome result (λ read. IsLengthRead read (read_length constructed (drop 1 octets.now))
+        octets.now) }
 {
     match first {
         132 => length_in_four(octets),
@@ -103,7 +105,8 @@ fn long_length(octets: &[u8], first: u8, constructed: bool) -> Option<LengthRead
 #[inline(always)]
 fn length_in_four(octets: &[u8]) -> Option<LengthRead>
     requires { slice_get octets.now 1 ≡ Some 132 }
-    ensures { IfSome result (λ read. (constructed : Bool) → IsLengthRead read (read_length constructed (drop 1 octets.now)) octets.now) }
+    ensures { IfSome result (λ read. (constructed : Bool)
+        → IsLengthRead read (read_length constructed (drop 1 octets.now)) octets.now) }
 {
     let [_, _, a, b, c, d, ..] = octets else {
         return None;
@@ -118,7 +121,8 @@ fn length_in(octets: &[u8], count: usize) -> Option<LengthRead>
     requires some { 0 < count }
     requires few { count ≤ 127 }
     requires first { slice_get octets.now 1 ≡ Some (128 + count) }
-    ensures { IfSome result (λ read. (constructed : Bool) → IsLengthRead read (read_length constructed (drop 1 octets.now)) octets.now) }
+    ensures { IfSome result (λ read. (constructed : Bool)
+        → IsLengthRead read (read_length constructed (drop 1 octets.now)) octets.now) }
 {
     // 127 is no number of octets (X.690, 8.1.3.5).
     if octets.len() < count + 2 || count == 127 {
@@ -131,7 +135,8 @@ fn length_in(octets: &[u8], count: usize) -> Option<LengthRead>
 /// The identifier at the front, where it is of one octet (X.690, 8.1.2.2 to 8.1.2.5). None where there is no such.
 #[inline(always)]
 pub fn first_identifier(octets: &[u8]) -> Option<Id>
-    ensures { IfSome result (λ id. read_identifier octets.now ≡ identified (tag_of_id id) (form_of_id id) (drop 1 octets.now)) }
+    ensures { IfSome result (λ id. read_identifier octets.now
+        ≡ identified (tag_of_id id) (form_of_id id) (drop 1 octets.now)) }
 {
     let first = *octets.first()?;
     if first % 32 == 31 {

@@ -55,11 +55,14 @@ impl Frames {
     ghost use Rattle.ill_refusals.specs.Reading.{read_length};
     ghost use Rattle.ill_schema.specs.Profiles.{profile_of};
     ghost use Rattle.ill_grammar.specs.Two.{is_found_of};
+    ghost use Rattle.ill_grammar.specs.declared.element.Element.TheVariants.{Foreign};
 
     /// The fault where an octet is missing: the bound comes first, or the input's end.
     #[cold]
     pub fn cut_fault(&self, at: u32, available_len: usize) -> Refusal
-        ensures { (rest : List ℕ) → length rest ≡ available_len → WhereItStands self.now (λ place. fault_of result ≡ cut_fault (profile_of self.now.profile) place at rest) }
+        ensures { (rest : List ℕ) → length rest ≡ available_len
+            → WhereItStands self.now (λ place. fault_of result ≡ cut_fault
+            (profile_of self.now.profile) place at rest) }
     {
         let room = self.bound().saturating_sub(at);
         if available_len >= room as usize {
@@ -79,7 +82,8 @@ impl Frames {
     #[inline(always)]
     pub fn lacks_part(&self) -> bool
         ensures exact { result ≡ lacks_part self.now }
-        ensures complete { 0 < depth_of self.now → result ≡ false → (at : ℕ) → WhereItStands self.now (λ place. EndsAs self.now.profile place at None) }
+        ensures complete { 0 < depth_of self.now → result ≡ false → (at : ℕ)
+            → WhereItStands self.now (λ place. EndsAs self.now.profile place at None) }
     {
         self.place().is_missing()
     }
@@ -104,7 +108,8 @@ impl Frames {
     // Makes no refusal, so that most elements do without its memory.
     #[inline(always)]
     pub fn find_usual(&self, id: Id) -> Option<Found>
-        ensures begun { IfSome result (λ found. WhereItStands self.now (λ place. IsBegin self.now place (tag_of_id id) found (form_of_id id))) }
+        ensures begun { IfSome result (λ found. WhereItStands self.now
+            (λ place. IsBegin self.now place (tag_of_id id) found (form_of_id id))) }
         ensures usual { IfSome result (λ found. IsTrue (is_usual (read_as found) (form_of_id id))) }
         ensures room { IfSome result (λ _. depth_of self.now < 32) }
         ensures is_of { IfSome result (λ found. IsTrue (is_found_of self.now.profile found)) }
@@ -117,6 +122,22 @@ impl Frames {
             return Some(found);
         }
         None
+    }
+
+    /// The element of a foreign tree that is due whatever its identifier, where one may begin. None otherwise.
+    // Makes no refusal, either.
+    #[inline(always)]
+    pub fn find_foreign(&self) -> Option<Found>
+        ensures begun { (id : Id) → IfSome result (λ found. WhereItStands self.now
+            (λ place. IsBegin self.now place (tag_of_id id) found (form_of_id id))) }
+        ensures foreign { IfSome result (λ found. (levels : ℕ) × (read_as found ≡ Foreign levels)) }
+        ensures room { IfSome result (λ _. depth_of self.now < 32) }
+        ensures is_of { IfSome result (λ found. IsTrue (is_found_of self.now.profile found)) }
+    {
+        if self.depth() == MAX_DEPTH {
+            return None;
+        }
+        self.place().find_any()
     }
 
     /// The depth, tag and form of an element.
@@ -168,10 +189,15 @@ impl Frames {
     ) -> Result<Extent, Refusal>
         requires fits { IsRoom at room window.now }
         requires header { HeaderIsIn length_read (length window.now) }
-        requires form { (header : ℕ) → length_read ≡ LengthRead.Whole Len.Indefinite header → form_of_id id ≡ true }
-        ensures exact { (rest front behind : List ℕ) → length rest ≡ available_len → window.now ≡ front ++ behind
-            → IsLengthRead length_read (read_length (form_of_id id) behind) window.now → Reaches self.now id at room window.now result
-            (λ found place. judge_length (profile_of self.now.profile) place (element_is (read_as found)) (tag_of_id id) (form_of_id id) at (length front) (cut_fault (profile_of self.now.profile) place at rest) behind) }
+        requires form { (header : ℕ) → length_read ≡ LengthRead.Whole Len.Indefinite header
+            → form_of_id id ≡ true }
+        ensures exact { (rest front behind : List ℕ) → length rest ≡ available_len
+            → window.now ≡ front ++ behind
+            → IsLengthRead length_read (read_length (form_of_id id) behind) window.now
+            → Reaches self.now id at room window.now result
+            (λ found place. judge_length (profile_of self.now.profile) place
+            (element_is (read_as found)) (tag_of_id id) (form_of_id id) at (length front)
+            (cut_fault (profile_of self.now.profile) place at rest) behind) }
         ensures fits { IfOk result (Fits id (length window.now)) }
     {
         match length_read {
@@ -199,10 +225,15 @@ impl Frames {
     ) -> Option<Extent>
         requires fits { IsRoom at room window.now }
         requires header { HeaderIsIn length_read (length window.now) }
-        requires form { (header : ℕ) → length_read ≡ LengthRead.Whole Len.Indefinite header → form_of_id id ≡ true }
-        ensures exact { IfSome result (λ extent. (rest front behind : List ℕ) → window.now ≡ front ++ behind
-            → IsLengthRead length_read (read_length (form_of_id id) behind) window.now → Reaches self.now id at room window.now (Ok extent)
-            (λ found place. judge_length (profile_of self.now.profile) place (element_is (read_as found)) (tag_of_id id) (form_of_id id) at (length front) (cut_fault (profile_of self.now.profile) place at rest) behind)) }
+        requires form { (header : ℕ) → length_read ≡ LengthRead.Whole Len.Indefinite header
+            → form_of_id id ≡ true }
+        ensures exact { IfSome result (λ extent. (rest front behind : List ℕ)
+            → window.now ≡ front ++ behind
+            → IsLengthRead length_read (read_length (form_of_id id) behind) window.now
+            → Reaches self.now id at room window.now (Ok extent)
+            (λ found place. judge_length (profile_of self.now.profile) place
+            (element_is (read_as found)) (tag_of_id id) (form_of_id id) at (length front)
+            (cut_fault (profile_of self.now.profile) place at rest) behind)) }
         ensures fits { IfSome result (Fits id (length window.now)) }
     {
         match length_read {
@@ -227,8 +258,12 @@ impl Frames {
     ) -> Option<Extent>
         requires fits { IsRoom at room window.now }
         requires header { (0 < header) × (header ≤ length window.now) }
-        ensures exact { IfSome result (λ extent. (rest : List ℕ) (n : ℕ) → size ≡ min n 4_294_967_295 → Reaches self.now id at room window.now (Ok extent)
-            (λ found place. judge_size (profile_of self.now.profile) place (element_is (read_as found)) (tag_of_id id) (form_of_id id) at header (cut_fault (profile_of self.now.profile) place at rest) n (drop header window.now))) }
+        ensures exact { IfSome result (λ extent. (rest : List ℕ) (n : ℕ)
+            → size ≡ min n 4_294_967_295 → Reaches self.now id at room window.now (Ok extent)
+            (λ found place. judge_size (profile_of self.now.profile) place
+            (element_is (read_as found)) (tag_of_id id) (form_of_id id) at header
+            (cut_fault (profile_of self.now.profile) place at rest) n
+            (drop header window.now))) }
         ensures fits { IfSome result (Fits id (length window.now)) }
     {
         if size > room - header {
@@ -257,8 +292,12 @@ impl Frames {
     ) -> Result<Extent, Refusal>
         requires fits { IsRoom at room window.now }
         requires header { (0 < header) × (header ≤ length window.now) }
-        ensures exact { (rest : List ℕ) (n : ℕ) → length rest ≡ available_len → size ≡ min n 4_294_967_295 → Reaches self.now id at room window.now result
-            (λ found place. judge_size (profile_of self.now.profile) place (element_is (read_as found)) (tag_of_id id) (form_of_id id) at header (cut_fault (profile_of self.now.profile) place at rest) n (drop header window.now)) }
+        ensures exact { (rest : List ℕ) (n : ℕ) → length rest ≡ available_len
+            → size ≡ min n 4_294_967_295 → Reaches self.now id at room window.now result
+            (λ found place. judge_size (profile_of self.now.profile) place
+            (element_is (read_as found)) (tag_of_id id) (form_of_id id) at header
+            (cut_fault (profile_of self.now.profile) place at rest) n
+            (drop header window.now)) }
         ensures fits { IfOk result (Fits id (length window.now)) }
     {
         if size > room - header {

@@ -124,14 +124,16 @@ impl ModuleLeaf {
 
     /// The reason why the octets are no content of it, None exactly where they are.
     pub fn fault(self, octets: &[u8]) -> Option<LeafFault>
-        ensures fault { (p : Named) → result ≡ content_fault (profile_of p) (module_leaf_is self) octets.now }
+        ensures fault { (p : Named)
+            → result ≡ content_fault (profile_of p) (module_leaf_is self) octets.now }
         ensures octets { IsTrue (are_octets octets.now) }
     {
         self.check(octets)
     }
 
     fn check(self, octets: &[u8]) -> Option<LeafFault>
-        ensures { (p : Named) → result ≡ content_fault (profile_of p) (module_leaf_is self) octets.now }
+        ensures { (p : Named) → result ≡ content_fault (profile_of p) (module_leaf_is self)
+            octets.now }
     {
         match self {
             ModuleLeaf::Null => Null::check(octets),

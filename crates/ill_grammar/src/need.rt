@@ -1,4 +1,4 @@
-//! How many octets at least still belong to a message.
+//! The least number of octets that still belong to a message.
 ghost use Rattle.std.specs.Prelude.{◌≡◌, ℕ, ◌≤◌, List, length};
 ghost use Rattle.ill_grammar.specs.Standing.{StandsAt, StandsLast};
 ghost use Rattle.ill_grammar.specs.HeaderCode.{need_read};
@@ -11,7 +11,8 @@ use ber_core::Len;
 /// The least number of octets that still belong to a message, after octets that don't reach the next place.
 pub fn need_at(frames: &Frames, at: u32, octets: &[u8]) -> u32
     requires { length octets.now ≤ 1_048_576 }
-    ensures { (s : List ℕ) (stands : StandsLast frames.now.profile (StandsAt frames.now) at s octets.now) → IsNeed stands.0.place at octets.now result }
+    ensures { (s : List ℕ) (stands : StandsLast frames.now.profile (StandsAt frames.now) at s
+        octets.now) → IsNeed stands.0.place at octets.now result }
 {
     let count = octets.len() as u32;
     if let Some(end) = frames.outermost_end() {

@@ -47,7 +47,8 @@ pub struct Found {
 /// Tells whether the identifier is the cell's.
 #[inline(always)]
 fn has_tag(cell: &Cell, id: Id) -> bool
-    ensures { result ≡ same_tag (record { class = cell.now.class; number = cell.now.number }) (tag_of_id id) }
+    ensures { result ≡ same_tag (record { class = cell.now.class; number = cell.now.number })
+        (tag_of_id id) }
 {
     id.number() == cell.number && id.class() == cell.class
 }
@@ -57,8 +58,10 @@ fn has_tag(cell: &Cell, id: Id) -> bool
 fn nested_start(node: NodeId, id: Id) -> Option<&'static Cell>
     requires { is_nested (kind_of node) ≡ true }
     ensures begins { MatchOption result (element_with (tag_of_id id) (node_starts node) ≡ None)
-        (λ tagged. IsBegunBy (tag_of_id id) (node_starts node) (node_choice node) (option_map (λ _. tagged.now.part.row) (node_choice node)) tagged.now) }
-    ensures two { IsTrue (is_of_two node) → IfSome result (λ tagged. IsTrue (is_two_cell tagged.now)) }
+        (λ tagged. IsBegunBy (tag_of_id id) (node_starts node) (node_choice node)
+        (option_map (λ _. tagged.now.part.row) (node_choice node)) tagged.now) }
+    ensures two { IsTrue (is_of_two node)
+        → IfSome result (λ tagged. IsTrue (is_two_cell tagged.now)) }
 {
     let cells = alternatives_of(node);
     for row in 0..cells.len() {
@@ -121,8 +124,10 @@ fn part_at(at: Place, position: usize, slot: EntryRole) -> PartId
 fn start(cell: &'static Cell, id: Id) -> Option<&'static Cell>
     requires { cell_opens cell.now ≡ true }
     ensures begins { MatchOption result (element_with (tag_of_id id) (cell_starts cell.now) ≡ None)
-        (λ tagged. IsBegunBy (tag_of_id id) (cell_starts cell.now) (cell_choice cell.now) (alternative_in cell.now tagged.now) tagged.now) }
-    ensures two { IsTrue (is_two_cell cell.now) → IfSome result (λ tagged. IsTrue (is_two_cell tagged.now)) }
+        (λ tagged. IsBegunBy (tag_of_id id) (cell_starts cell.now) (cell_choice cell.now)
+        (alternative_in cell.now tagged.now) tagged.now) }
+    ensures two { IsTrue (is_two_cell cell.now)
+        → IfSome result (λ tagged. IsTrue (is_two_cell tagged.now)) }
 {
     if cell.nested {
         return nested_start(cell.node, id);
@@ -139,12 +144,13 @@ impl Place {
     ghost use Rattle.ber_core.specs.Identifier.{Tag};
     ghost use Rattle.ill_schema.specs.declared.node.Kind.{Kind};
     ghost use Rattle.ill_schema.specs.Profiles.{profile_of};
-    ghost use Rattle.ill_grammar.specs.Places.{IsDue, is_two, next_at, node_in, nowhere, part_in, position_in, top, top_in, where_of};
+    ghost use Rattle.ill_grammar.specs.Places.{IsDue, is_two, next_at, node_in, nowhere, part_in, position_in, top, top_in, type_of, place_view};
+    ghost use Rattle.ill_grammar.specs.declared.cell.ElementType.{ElementType};
     ghost use Rattle.ill_grammar.specs.code.ByTag.{due_by_tag};
 
     /// The place where a message begins.
     pub fn top() -> Place
-        ensures place { where_of result ≡ top }
+        ensures place { place_view result ≡ top }
         ensures next { next_at result ≡ next_in profile_two [] }
     {
         Place {
@@ -155,7 +161,7 @@ impl Place {
 
     /// The place where a message of the profile begins.
     pub fn top_of(profile: Profile) -> Place
-        ensures place { where_of result ≡ top_in (profile_of profile) }
+        ensures place { place_view result ≡ top_in (profile_of profile) }
         ensures next { next_at result ≡ next_in (profile_of profile) [] }
     {
         match profile {
@@ -190,7 +196,7 @@ impl Place {
 
     /// A place where nothing may come.
     fn nowhere() -> Place
-        ensures { where_of result ≡ nowhere }
+        ensures { place_view result ≡ nowhere }
     {
         Place {
             parent: &NOWHERE,
@@ -203,7 +209,8 @@ impl Place {
     pub fn find(self, id: Id) -> Option<Found>
         ensures due { MatchOption result (due profile_two (tag_of_id id) (next_at self) ≡ None)
             (λ found. IsDue (tag_of_id id) self found) }
-        ensures two { IsTrue (is_of_two (node_in self)) → IfSome result (λ found. IsTrue (is_two found)) }
+        ensures two { IsTrue (is_of_two (node_in self))
+            → IfSome result (λ found. IsTrue (is_two found)) }
     {
         match self.find_tag(id) {
             Some(found) => Some(found),
@@ -213,10 +220,12 @@ impl Place {
 
     /// The element that is due whatever its tag: one of a foreign tree.
     #[inline(always)]
-    fn find_any(self) -> Option<Found>
+    pub fn find_any(self) -> Option<Found>
         ensures due { (t : Tag) → due_by_tag t (next_at self) ≡ None
-            → MatchOption result (due profile_two t (next_at self) ≡ None) (λ found. IsDue t self found) }
+            → MatchOption result (due profile_two t (next_at self) ≡ None)
+            (λ found. IsDue t self found) }
         ensures open { IfSome result (λ _. kind_of (node_in self) ≡ Kind.Any) }
+        ensures foreign { IfSome result (λ found. type_of found ≡ ElementType.Foreign) }
     {
         let depth = match (kind(self.parent.node), self.position) {
             (Kind::Any, 0) => 0,
@@ -236,7 +245,8 @@ impl Place {
     pub fn find_tag(self, id: Id) -> Option<Found>
         ensures due { MatchOption result (due_by_tag (tag_of_id id) (next_at self) ≡ None)
             (λ found. IsDue (tag_of_id id) self found) }
-        ensures two { IsTrue (is_of_two (node_in self)) → IfSome result (λ found. IsTrue (is_two found)) }
+        ensures two { IsTrue (is_of_two (node_in self))
+            → IfSome result (λ found. IsTrue (is_two found)) }
     {
         let cells = cells_of(self.parent.node);
         for position in self.position..cells.len() {
@@ -309,13 +319,13 @@ impl Default for Found {
 
 impl Found {
     ghost use Rattle.ill_refusals.specs.Next.{element_of, next_of, opening};
-    ghost use Rattle.ill_grammar.specs.Places.{IsAtRow, alternative_of, due_of, first_place, next_at, node_of, parent_node, part_of, place_after, row_of, slot_of, type_of, where_of};
+    ghost use Rattle.ill_grammar.specs.Places.{IsAtRow, alternative_of, due_of, first_place, next_at, node_of, parent_node, part_of, place_after, row_of, slot_of, type_of, place_view};
     ghost use Rattle.ill_grammar.specs.Cells.{default_due, element_in};
 
     /// The place in the element, once it is open.
     #[inline(always)]
     pub fn first(self) -> Place
-        ensures place { where_of result ≡ first_place self }
+        ensures place { place_view result ≡ first_place self }
         ensures next { next_at result ≡ opening profile_two (element_of (due_of self)) }
     {
         Place {
@@ -327,7 +337,7 @@ impl Found {
     /// The place after the element.
     #[inline(always)]
     pub fn after(self) -> Place
-        ensures place { where_of result ≡ place_after self (slot_of self) }
+        ensures place { place_view result ≡ place_after self (slot_of self) }
         ensures next { next_at result ≡ next_of (due_of self) }
     {
         match self.cell.slot {
@@ -343,7 +353,8 @@ impl Found {
     /// The element type.
     pub fn element_type(self) -> ElementType
         ensures element_type { result ≡ type_of self }
-        ensures element { element_of (due_of self) ≡ element_in (part_of self) (node_of self) result }
+        ensures element { element_of (due_of self)
+            ≡ element_in (part_of self) (node_of self) result }
     {
         self.tagged.element_type
     }

@@ -11,7 +11,8 @@ const DIGITS: &[u8; 16] = b"0123456789abcdef";
 
 /// Adds the octets of the marks in hexadecimal.
 pub fn add_hexadecimal(text: &mut String, octets: &[Mark]) -> Result<(), AllocError>
-    ensures { OnOk result (string_bytes text.new ≡ string_bytes text.old ++ hexadecimal (octets_in octets.now)) }
+    ensures { OnOk result (string_bytes text.new ≡ string_bytes text.old
+        ++ hexadecimal (octets_in octets.now)) }
 {
     for mark in octets {
         add_mark(text, *mark)?;
@@ -20,7 +21,8 @@ pub fn add_hexadecimal(text: &mut String, octets: &[Mark]) -> Result<(), AllocEr
 }
 
 fn add_mark(text: &mut String, mark: Mark) -> Result<(), AllocError>
-    ensures { OnOk result (string_bytes text.new ≡ string_bytes text.old ++ hexadecimal (octets_in (mark ∷ []))) }
+    ensures { OnOk result (string_bytes text.new ≡ string_bytes text.old
+        ++ hexadecimal (octets_in (mark ∷ []))) }
 {
     match mark {
         Mark::Octet(octet) => add_octet(text, octet),
@@ -30,7 +32,8 @@ fn add_mark(text: &mut String, mark: Mark) -> Result<(), AllocError>
 
 /// Adds the octets in hexadecimal.
 pub fn add_octets(text: &mut String, octets: &[u8]) -> Result<(), AllocError>
-    ensures { OnOk result (string_bytes text.new ≡ string_bytes text.old ++ hexadecimal octets.now) }
+    ensures { OnOk result (string_bytes text.new ≡ string_bytes text.old
+        ++ hexadecimal octets.now) }
 {
     for octet in octets {
         add_octet(text, *octet)?;
@@ -40,7 +43,8 @@ pub fn add_octets(text: &mut String, octets: &[u8]) -> Result<(), AllocError>
 
 /// Adds an octet in hexadecimal.
 fn add_octet(text: &mut String, octet: u8) -> Result<(), AllocError>
-    ensures { OnOk result (string_bytes text.new ≡ string_bytes text.old ++ hexadecimal (octet ∷ [])) }
+    ensures { OnOk result (string_bytes text.new ≡ string_bytes text.old
+        ++ hexadecimal (octet ∷ [])) }
 {
     text.push(digit(octet / 16))?;
     text.push(digit(octet % 16))

@@ -24,7 +24,8 @@ use std::alloc::AllocError;
 /// add_identifier(&mut text, &[Mark::Octet(0x2A), Mark::Octet(0x03)])?; // 1.2.3
 /// ```
 pub fn add_identifier(text: &mut String, octets: &[Mark]) -> Result<(), AllocError>
-    ensures { OnOk result (string_bytes text.new ≡ string_bytes text.old ++ oid_text (octets_in octets.now)) }
+    ensures { OnOk result (string_bytes text.new ≡ string_bytes text.old
+        ++ oid_text (octets_in octets.now)) }
 {
     if are_short(octets) {
         add_components(text, octets)
@@ -51,7 +52,8 @@ pub fn are_short(octets: &[Mark]) -> bool
 /// Adds the components of an OBJECT IDENTIFIER whose subidentifiers are short, with dots between them.
 fn add_components(text: &mut String, octets: &[Mark]) -> Result<(), AllocError>
     requires { IsTrue (list_all is_short (numbers_after 0 (octets_in octets.now))) }
-    ensures { OnOk result (string_bytes text.new ≡ string_bytes text.old ++ with_dots (components (numbers_after 0 (octets_in octets.now)))) }
+    ensures { OnOk result (string_bytes text.new ≡ string_bytes text.old
+        ++ with_dots (components (numbers_after 0 (octets_in octets.now)))) }
 {
     let Some((first, rest)) = next_number(octets) else {
         return Ok(());
@@ -101,7 +103,8 @@ fn next_number(octets: &[Mark]) -> Option<(u64, &[Mark])>
 
 /// A number with seven more bits, or 2 ^ 64 - 1 where it is greater.
 fn number_with(number: u64, mark: Mark) -> u64
-    ensures { (n : ℕ) → number ≡ min n 18_446_744_073_709_551_615 → result ≡ min (number_with n mark) 18_446_744_073_709_551_615 }
+    ensures { (n : ℕ) → number ≡ min n 18_446_744_073_709_551_615
+        → result ≡ min (number_with n mark) 18_446_744_073_709_551_615 }
 {
     match mark {
         Mark::Octet(octet) => number

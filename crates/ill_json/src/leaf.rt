@@ -22,7 +22,9 @@ use json::Token;
 
 /// Puts a leaf with these octets, in a row of this name.
 pub fn put_leaf(leaf: LeafType, octets: &[Mark], name: &str, out: &mut LineWriter)
-    ensures { (p : Named) → IsContentIn p (leaf_is leaf) (octets_in octets.now) → Adds (json_tokens (leaf_json name.now (value (leaf_is leaf) (octets_in octets.now)))) out.old out.new }
+    ensures { (p : Named) → IsContentIn p (leaf_is leaf) (octets_in octets.now)
+        → Adds (json_tokens (leaf_json name.now (value (leaf_is leaf) (octets_in octets.now))))
+        out.old out.new }
 {
     match leaf {
         LeafType::Boolean => out.put(Token::Bool(is_set(octets))),
@@ -48,7 +50,8 @@ pub fn has_default(part: PartId) -> bool
 
 /// Puts the default of a row that was passed, if it has one.
 pub fn put_default(part: PartId, name: &str, out: &mut LineWriter)
-    ensures { (e : Option Content) (node : NodeId) → IsPassed part e → Adds (value_tokens name.now node e) out.old out.new }
+    ensures { (e : Option Content) (node : NodeId) → IsPassed part e
+        → Adds (value_tokens name.now node e) out.old out.new }
 {
     let Some(row) = row(part) else {
         return;
@@ -61,7 +64,8 @@ pub fn put_default(part: PartId, name: &str, out: &mut LineWriter)
 
 /// Puts the value that the number of a default stands for.
 fn put_value_of(node: NodeId, number: i64, name: &str, out: &mut LineWriter)
-    ensures { Adds (json_tokens (leaf_json name.now (default_value (kind_of node) number))) out.old out.new }
+    ensures { Adds (json_tokens (leaf_json name.now (default_value (kind_of node) number))) out.old
+        out.new }
 {
     match kind(node) {
         Kind::Leaf(LeafKind::Boolean) => out.put(Token::Bool(number == 1)),

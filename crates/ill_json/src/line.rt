@@ -54,7 +54,9 @@ pub fn json_line(
     head: LineHead,
     outline: &Outline,
 ) -> Result<Vec<u8>, AllocError>
-    ensures { (a : Apdu) → IsOutlineOf outline.now a → IfOk result (λ line. line.items ≡ json_line_of (option_map (λ name. name.now) file.entry) head a) }
+    ensures { (a : Apdu) → IsOutlineOf outline.now a
+        → IfOk result (λ line. line.items ≡ json_line_of (option_map (λ name. name.now) file.entry)
+        head a) }
 {
     json_line_as(alloc, Profile::Two, buffer, file, head, outline)
 }
@@ -101,7 +103,8 @@ fn put_line(
     out: &mut LineWriter,
 )
     ensures { (a : Apdu) → IsMarked (choice_of a) marks.now
-        → Adds (json_tokens (line_json_in (profile_of profile) (option_map (λ name. name.now) file.entry) head a)) out.old out.new }
+        → Adds (json_tokens (line_json_in (profile_of profile)
+        (option_map (λ name. name.now) file.entry) head a)) out.old out.new }
 {
     match alternative(marks) {
         Some(row) => {

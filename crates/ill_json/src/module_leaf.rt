@@ -25,8 +25,10 @@ use std::alloc::{AllocError, Global};
 
 /// Puts a leaf with these octets.
 pub fn put_module_leaf(leaf: ModuleLeaf, octets: &[Mark], out: &mut LineWriter)
-    ensures { (p : Named) (name : List ℕ) → IsContentIn p (module_leaf_is leaf) (octets_in octets.now)
-        → Adds (json_tokens (leaf_json name (value (module_leaf_is leaf) (octets_in octets.now)))) out.old out.new }
+    ensures { (p : Named) (name : List ℕ)
+        → IsContentIn p (module_leaf_is leaf) (octets_in octets.now)
+        → Adds (json_tokens (leaf_json name (value (module_leaf_is leaf) (octets_in octets.now))))
+        out.old out.new }
 {
     match leaf {
         ModuleLeaf::Null => out.put(Token::Null),
@@ -39,7 +41,8 @@ pub fn put_module_leaf(leaf: ModuleLeaf, octets: &[Mark], out: &mut LineWriter)
 /// Puts a BIT STRING with these octets.
 pub fn put_bits(octets: &[Mark], out: &mut LineWriter)
     ensures { (p : Named) (name : List ℕ) → IsContentIn p bit_string (octets_in octets.now)
-        → Adds (json_tokens (leaf_json name (value bit_string (octets_in octets.now)))) out.old out.new }
+        → Adds (json_tokens (leaf_json name (value bit_string (octets_in octets.now)))) out.old
+        out.new }
 {
     match octets_of(out.alloc(), octets) {
         Ok(content) => put_bits_of(content, out),
@@ -60,7 +63,8 @@ fn put_bits_of(content: Vec<u8>, out: &mut LineWriter)
 
 /// Puts an object of the number of bits, and the octets that they fill.
 fn put_counted(count: u128, octets: &[u8], out: &mut LineWriter)
-    ensures { (name : List ℕ) → Adds (json_tokens (leaf_json name (bits count octets.now))) out.old out.new }
+    ensures { (name : List ℕ)
+        → Adds (json_tokens (leaf_json name (bits count octets.now))) out.old out.new }
 {
     out.put(Token::BeginObject);
     out.put(Token::Key("bits"));
@@ -100,7 +104,9 @@ pub fn put_foreign(octets: &[Mark], out: &mut LineWriter)
 
 /// Puts an object of one member: the octets in hexadecimal.
 fn put_hexadecimal(name: &str, octets: &[Mark], out: &mut LineWriter)
-    ensures { Adds (json_tokens (object (member name.now (string (hexadecimal (octets_in octets.now))) no_members))) out.old out.new }
+    ensures { Adds (json_tokens
+        (object (member name.now (string (hexadecimal (octets_in octets.now))) no_members))) out.old
+        out.new }
 {
     out.put(Token::BeginObject);
     out.put(Token::Key(name));

@@ -29,7 +29,8 @@ pub fn put_value<'m>(
     node: NodeId,
     out: &mut LineWriter,
 ) -> &'m [Mark]
-    ensures adds { (c : Content) (ms rest : List Mark) → IsMarked c ms → marks.now ≡ ms ++ rest → (result.now ≡ rest)
+    ensures adds { (c : Content) (ms rest : List Mark) → IsMarked c ms → marks.now ≡ ms ++ rest
+        → (result.now ≡ rest)
         × Adds (json_tokens (value_json name.now node c)) out.old out.new }
     ensures shorter { 0 < length marks.now → length result.now < length marks.now }
     ensures no_longer { length result.now ≤ length marks.now }
@@ -62,7 +63,9 @@ fn put_marked_leaf<'m>(
     name: &str,
     out: &mut LineWriter,
 ) -> &'m [Mark]
-    ensures adds { (p : Named) (octets : List ℕ) (rest : List Mark) → IsContentIn p (leaf_is leaf) octets → marks.now ≡ map Mark.Octet octets ++ (Mark.End ∷ rest) → (result.now ≡ rest)
+    ensures adds { (p : Named) (octets : List ℕ) (rest : List Mark)
+        → IsContentIn p (leaf_is leaf) octets
+        → marks.now ≡ map Mark.Octet octets ++ (Mark.End ∷ rest) → (result.now ≡ rest)
         × Adds (json_tokens (leaf_json name.now (value (leaf_is leaf) octets))) out.old out.new }
     ensures shorter { length result.now ≤ length marks.now }
 {
@@ -73,8 +76,10 @@ fn put_marked_leaf<'m>(
 
 /// Puts what only the module profile has: a leaf, or a foreign tree, whose octets come after this mark. Returns the marks after it.
 fn put_module_value<'m>(first: Mark, marks: &'m [Mark], out: &mut LineWriter) -> &'m [Mark]
-    ensures adds { (c : Content) (name octets : List ℕ) (node : NodeId) (rest : List Mark) → SaysOctets first c octets
-        → marks.now ≡ map Mark.Octet octets ++ (Mark.End ∷ rest) → (result.now ≡ rest) × Adds (json_tokens (value_json name node c)) out.old out.new }
+    ensures adds { (c : Content) (name octets : List ℕ) (node : NodeId) (rest : List Mark)
+        → SaysOctets first c octets
+        → marks.now ≡ map Mark.Octet octets ++ (Mark.End ∷ rest) → (result.now ≡ rest)
+        × Adds (json_tokens (value_json name node c)) out.old out.new }
     ensures shorter { length result.now ≤ length marks.now }
 {
     let count = leading_octets(marks);
@@ -84,7 +89,9 @@ fn put_module_value<'m>(first: Mark, marks: &'m [Mark], out: &mut LineWriter) ->
 
 /// Puts what these octets say after the mark.
 fn put_module_octets(first: Mark, octets: &[Mark], out: &mut LineWriter)
-    ensures { (c : Content) (name : List ℕ) (node : NodeId) → SaysOctets first c (octets_in octets.now) → Adds (json_tokens (value_json name node c)) out.old out.new }
+    ensures { (c : Content) (name : List ℕ) (node : NodeId)
+        → SaysOctets first c (octets_in octets.now)
+        → Adds (json_tokens (value_json name node c)) out.old out.new }
 {
     match first {
         Mark::ModuleLeaf(leaf) => put_module_leaf(leaf, octets, out),
@@ -102,7 +109,8 @@ fn put_alternative<'m>(
     i: usize,
     out: &mut LineWriter,
 ) -> &'m [Mark]
-    ensures adds { (c : Content) (name : List ℕ) (ms rest : List Mark) → IsMarked c ms → marks.now ≡ ms ++ rest → (result.now ≡ rest)
+    ensures adds { (c : Content) (name : List ℕ) (ms rest : List Mark) → IsMarked c ms
+        → marks.now ≡ ms ++ rest → (result.now ≡ rest)
         × Adds (json_tokens (value_json name node (alternative i c))) out.old out.new }
     ensures shorter { 0 < length marks.now → length result.now < length marks.now }
     ensures no_longer { length result.now ≤ length marks.now }
@@ -120,7 +128,8 @@ fn put_alternative<'m>(
 /// Puts the member that the value in row i is, and returns the marks after it.
 #[cycle(value)]
 fn put_part<'m>(marks: &'m [Mark], node: NodeId, i: usize, out: &mut LineWriter) -> &'m [Mark]
-    ensures adds { (c : Content) (ms rest : List Mark) → IsMarked c ms → marks.now ≡ ms ++ rest → (result.now ≡ rest)
+    ensures adds { (c : Content) (ms rest : List Mark) → IsMarked c ms → marks.now ≡ ms ++ rest
+        → (result.now ≡ rest)
         × Adds (part_tokens node i c) out.old out.new }
     ensures shorter { 0 < length marks.now → length result.now < length marks.now }
     ensures no_longer { length result.now ≤ length marks.now }
@@ -133,7 +142,8 @@ fn put_part<'m>(marks: &'m [Mark], node: NodeId, i: usize, out: &mut LineWriter)
 /// Puts the member of row i, if it has an entry, and returns the marks after it.
 #[cycle(value)]
 fn put_entry<'m>(marks: &'m [Mark], node: NodeId, i: usize, out: &mut LineWriter) -> &'m [Mark]
-    ensures adds { (e : Option Content) (ms rest : List Mark) → IsEntry e ms → marks.now ≡ ms ++ rest → (result.now ≡ rest)
+    ensures adds { (e : Option Content) (ms rest : List Mark) → IsEntry e ms
+        → marks.now ≡ ms ++ rest → (result.now ≡ rest)
         × Adds (entry_tokens node i e) out.old out.new }
     ensures shorter { 0 < length marks.now → length result.now < length marks.now }
 {
@@ -148,7 +158,8 @@ fn put_entry<'m>(marks: &'m [Mark], node: NodeId, i: usize, out: &mut LineWriter
 
 /// Puts the member of row i, which was passed, if it has a default.
 fn put_passed(part: PartId, node: NodeId, i: usize, out: &mut LineWriter)
-    ensures { (e : Option Content) → IsPassed part e → Adds (entry_tokens node i e) out.old out.new }
+    ensures { (e : Option Content) → IsPassed part e
+        → Adds (entry_tokens node i e) out.old out.new }
 {
     if !has_default(part) {
         return;
@@ -161,7 +172,8 @@ fn put_passed(part: PartId, node: NodeId, i: usize, out: &mut LineWriter)
 /// Puts an object of the entries that the marks begin with, up to their end, and returns the marks after it.
 #[cycle(value)]
 fn put_entries<'m>(marks: &'m [Mark], node: NodeId, out: &mut LineWriter) -> &'m [Mark]
-    ensures adds { (es : Entries) (name : List ℕ) (ms rest : List Mark) → AreEntries es ms → marks.now ≡ ms ++ (Mark.End ∷ rest) → (result.now ≡ rest)
+    ensures adds { (es : Entries) (name : List ℕ) (ms rest : List Mark) → AreEntries es ms
+        → marks.now ≡ ms ++ (Mark.End ∷ rest) → (result.now ≡ rest)
         × Adds (json_tokens (value_json name node (sequence es))) out.old out.new }
     ensures shorter { length result.now ≤ length marks.now }
 {
@@ -179,7 +191,8 @@ fn put_entries<'m>(marks: &'m [Mark], node: NodeId, out: &mut LineWriter) -> &'m
 /// Puts an array of the items that the marks begin with, up to their end, and returns the marks after it.
 #[cycle(value)]
 fn put_items<'m>(marks: &'m [Mark], name: &str, node: NodeId, out: &mut LineWriter) -> &'m [Mark]
-    ensures adds { (is : Items) (ms rest : List Mark) → AreItems is ms → marks.now ≡ ms ++ (Mark.End ∷ rest) → (result.now ≡ rest)
+    ensures adds { (is : Items) (ms rest : List Mark) → AreItems is ms
+        → marks.now ≡ ms ++ (Mark.End ∷ rest) → (result.now ≡ rest)
         × Adds (json_tokens (value_json name.now node (list is))) out.old out.new }
     ensures shorter { length result.now ≤ length marks.now }
 {

@@ -50,7 +50,8 @@ impl LineWriter {
 
     /// The text as a line of ASCII.
     pub fn into_line(self, alloc: Global) -> Result<Vec<u8>, AllocError>
-        ensures { IfOk result (λ line. (self.failed ≡ false) × (line.items ≡ flat_map plain (chars (print self.writer.tokens)) ++ codes "\n")) }
+        ensures { IfOk result (λ line. (self.failed ≡ false)
+            × (line.items ≡ flat_map plain (chars (print self.writer.tokens)) ++ codes "\n")) }
     {
         let LineWriter {
             writer,
@@ -139,7 +140,8 @@ impl LineWriter {
 
     /// Puts the characters as a string, or notes that memory was refused for them.
     fn put_made(&mut self, made: Result<(), AllocError>)
-        ensures { (text : List ℕ) → OnOk made (string_bytes self.old.characters ≡ text) → Adds (string text ∷ []) self.old self.new }
+        ensures { (text : List ℕ) → OnOk made (string_bytes self.old.characters ≡ text)
+            → Adds (string text ∷ []) self.old self.new }
     {
         if made.is_err() || self.writer.token(Token::String(&self.characters)).is_err() {
             self.failed = true;
@@ -163,7 +165,8 @@ impl LineWriter {
 
 /// Adds the characters whose numbers the octets are.
 fn add_characters(text: &mut String, octets: &[Mark]) -> Result<(), AllocError>
-    ensures { OnOk result (string_bytes text.new ≡ string_bytes text.old ++ characters (octets_in octets.now)) }
+    ensures { OnOk result (string_bytes text.new ≡ string_bytes text.old
+        ++ characters (octets_in octets.now)) }
 {
     for mark in octets {
         add_character(text, *mark)?;
@@ -172,7 +175,8 @@ fn add_characters(text: &mut String, octets: &[Mark]) -> Result<(), AllocError>
 }
 
 fn add_character(text: &mut String, mark: Mark) -> Result<(), AllocError>
-    ensures { OnOk result (string_bytes text.new ≡ string_bytes text.old ++ characters (octets_in (mark ∷ []))) }
+    ensures { OnOk result (string_bytes text.new ≡ string_bytes text.old
+        ++ characters (octets_in (mark ∷ []))) }
 {
     match mark {
         Mark::Octet(octet) => text.push(octet as char),

@@ -1,11 +1,11 @@
-//! What is to be done with each line, and why it was not done.
+//! Jobs on lines, and the reasons why one was not done.
 use ill_schema::Profile;
 use std::alloc::AllocError;
 
 /// The result for the message of a line.
 #[derive(Clone, Copy, Debug, PartialEq, Eq)]
 pub enum LineJob {
-    /// Whether it is its normal form.
+    /// A line that says whether it is its normal form.
     Check,
     /// Its digest: SHA-256 of its normal form.
     Digest,

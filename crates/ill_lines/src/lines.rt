@@ -48,8 +48,10 @@ impl LineReader {
         work: LineOptions,
         octets: &[u8],
     ) -> Result<(), AllocError>
-        ensures all { (s put : List ℕ) → StandsAfter work s put self.old → OnOk result (StandsAfter work (s ++ octets.now) put self.new) }
-        ensures some { (s put : List ℕ) → StandsAfter work s put self.old → OnErr result ((n : ℕ) × StandsAfter work (s ++ take n octets.now) put self.new) }
+        ensures all { (s put : List ℕ) → StandsAfter work s put self.old
+            → OnOk result (StandsAfter work (s ++ octets.now) put self.new) }
+        ensures some { (s put : List ℕ) → StandsAfter work s put self.old
+            → OnErr result ((n : ℕ) × StandsAfter work (s ++ take n octets.now) put self.new) }
     {
         let mut at = 0;
         'lines: while at < octets.len() {
@@ -68,8 +70,10 @@ impl LineReader {
     ) -> Result<usize, AllocError>
         ensures bound { IfOk result (λ n. n ≤ length octets.now) }
         ensures more { 0 < length octets.now → IfOk result (λ n. 0 < n) }
-        ensures done { (s put : List ℕ) → StandsAfter work s put self.old → IfOk result (λ n. StandsAfter work (s ++ take n octets.now) put self.new) }
-        ensures some { (s put : List ℕ) → StandsAfter work s put self.old → OnErr result ((n : ℕ) × StandsAfter work (s ++ take n octets.now) put self.new) }
+        ensures done { (s put : List ℕ) → StandsAfter work s put self.old
+            → IfOk result (λ n. StandsAfter work (s ++ take n octets.now) put self.new) }
+        ensures some { (s put : List ℕ) → StandsAfter work s put self.old
+            → OnErr result ((n : ℕ) × StandsAfter work (s ++ take n octets.now) put self.new) }
     {
         let size = line_size(octets);
         self.keep(&octets[..size])?;
@@ -83,7 +87,8 @@ impl LineReader {
     /// Keeps octets of the line, unless more are there than it may have.
     #[inline(always)]
     fn keep(&mut self, octets: &[u8]) -> Result<(), AllocError>
-        ensures kept { (rest : List ℕ) → self.old.part.items ≡ take 4_194_305 rest → OnOk result (self.new.part.items ≡ take 4_194_305 (rest ++ octets.now)) }
+        ensures kept { (rest : List ℕ) → self.old.part.items ≡ take 4_194_305 rest
+            → OnOk result (self.new.part.items ≡ take 4_194_305 (rest ++ octets.now)) }
         ensures same { OnErr result (self.new.part.items ≡ self.old.part.items) }
         ensures ready { self.new.ready.items ≡ self.old.ready.items }
         ensures good { self.new.is_good ≡ self.old.is_good }

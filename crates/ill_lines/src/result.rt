@@ -28,7 +28,8 @@ pub fn result_of(
     work: LineOptions,
     text: &[u8],
 ) -> Result<LineResult, AllocError>
-    ensures { IfOk result (λ found. IsResult work (hex_octets text.now) found.words.items found.is_good) }
+    ensures { IfOk result (λ found. IsResult work (hex_octets text.now) found.words.items
+        found.is_good) }
 {
     match text_octets(alloc, text) {
         Ok(octets) => message_result(alloc, reader, work, &octets),
@@ -66,8 +67,10 @@ fn form_result(
     octets: &[u8],
     normal: &[u8],
 ) -> Result<LineResult, AllocError>
-    ensures { (a : Apdu) → SpellsApdu (profile_of work.profile) a octets.now → normal.now ≡ normal_form_in (profile_of work.profile) a
-        → IfOk result (λ found. IsSaid work (spelling a octets.now) found.words.items found.is_good) }
+    ensures { (a : Apdu) → SpellsApdu (profile_of work.profile) a octets.now
+        → normal.now ≡ normal_form_in (profile_of work.profile) a
+        → IfOk result (λ found. IsSaid work (spelling a octets.now) found.words.items
+        found.is_good) }
 {
     match work.job {
         LineJob::Check => check_result(alloc, work.profile, octets, normal),
@@ -77,7 +80,8 @@ fn form_result(
 }
 
 fn digits_result(alloc: Global, octets: &[u8]) -> Result<LineResult, AllocError>
-    ensures { IfOk result (λ found. (found.words.items ≡ encode_lower octets.now) × (found.is_good ≡ true)) }
+    ensures { IfOk result (λ found. (found.words.items ≡ encode_lower octets.now)
+        × (found.is_good ≡ true)) }
 {
     let digits = hex::encode(alloc, octets)?;
     Ok(LineResult {
@@ -92,8 +96,10 @@ fn check_result(
     octets: &[u8],
     normal: &[u8],
 ) -> Result<LineResult, AllocError>
-    ensures { (a : Apdu) → SpellsApdu (profile_of profile) a octets.now → normal.now ≡ normal_form_in (profile_of profile) a
-        → IfOk result (λ found. IsSaid (line_options profile Job.Check) (spelling a octets.now) found.words.items found.is_good) }
+    ensures { (a : Apdu) → SpellsApdu (profile_of profile) a octets.now
+        → normal.now ≡ normal_form_in (profile_of profile) a
+        → IfOk result (λ found. IsSaid (line_options profile Job.Check) (spelling a octets.now)
+        found.words.items found.is_good) }
 {
     let is_normal = octets == normal;
     let words = check_words(

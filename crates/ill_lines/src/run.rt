@@ -35,8 +35,10 @@ pub fn run_lines<R: Source, W: Sink>(
     source: &mut R,
     sink: &mut W,
 ) -> Result<bool, LinesFault>
-    ensures done { IfOk result (LinesDone (line_options Named.Two job) (R.left source.old) (R.left source.new) (W.contents sink.old) (W.contents sink.new)) }
-    ensures fails { IfErr result (LinesFail (line_options Named.Two job) (taking (R.left source.old) (R.left source.new) (R.is_broken source.new))
+    ensures done { IfOk result (LinesDone (line_options Named.Two job) (R.left source.old)
+        (R.left source.new) (W.contents sink.old) (W.contents sink.new)) }
+    ensures fails { IfErr result (LinesFail (line_options Named.Two job)
+        (taking (R.left source.old) (R.left source.new) (R.is_broken source.new))
         (putting (W.contents sink.old) (W.contents sink.new) (W.is_broken sink.new))) }
     ensures source_stays { IsTrue (R.is_broken source.old) → IsTrue (R.is_broken source.new) }
     ensures sink_stays { IsTrue (W.is_broken sink.old) → IsTrue (W.is_broken sink.new) }
@@ -62,8 +64,10 @@ pub fn run_lines_as<R: Source, W: Sink>(
     source: &mut R,
     sink: &mut W,
 ) -> Result<bool, LinesFault>
-    ensures done { IfOk result (LinesDone (line_options profile job) (R.left source.old) (R.left source.new) (W.contents sink.old) (W.contents sink.new)) }
-    ensures fails { IfErr result (LinesFail (line_options profile job) (taking (R.left source.old) (R.left source.new) (R.is_broken source.new))
+    ensures done { IfOk result (LinesDone (line_options profile job) (R.left source.old)
+        (R.left source.new) (W.contents sink.old) (W.contents sink.new)) }
+    ensures fails { IfErr result (LinesFail (line_options profile job)
+        (taking (R.left source.old) (R.left source.new) (R.is_broken source.new))
         (putting (W.contents sink.old) (W.contents sink.new) (W.is_broken sink.new))) }
     ensures source_stays { IsTrue (R.is_broken source.old) → IsTrue (R.is_broken source.new) }
     ensures sink_stays { IsTrue (W.is_broken sink.old) → IsTrue (W.is_broken sink.new) }
@@ -78,8 +82,10 @@ fn run_with<R: Source, W: Sink>(
     source: &mut R,
     sink: &mut W,
 ) -> Result<bool, LinesFault>
-    ensures done { IfOk result (LinesDone work (R.left source.old) (R.left source.new) (W.contents sink.old) (W.contents sink.new)) }
-    ensures fails { IfErr result (LinesFail work (taking (R.left source.old) (R.left source.new) (R.is_broken source.new))
+    ensures done { IfOk result (LinesDone work (R.left source.old) (R.left source.new)
+        (W.contents sink.old) (W.contents sink.new)) }
+    ensures fails { IfErr result
+        (LinesFail work (taking (R.left source.old) (R.left source.new) (R.is_broken source.new))
         (putting (W.contents sink.old) (W.contents sink.new) (W.is_broken sink.new))) }
     ensures source_stays { IsTrue (R.is_broken source.old) → IsTrue (R.is_broken source.new) }
     ensures sink_stays { IsTrue (W.is_broken sink.old) → IsTrue (W.is_broken sink.new) }
@@ -106,10 +112,13 @@ fn pass<W: Sink>(
     lines: &mut LineReader,
     sink: &mut W,
 ) -> Result<(), LinesFault>
-    ensures done { (s : List ℕ) (first : Option (List ℕ)) → HasWritten work s first (W.contents sink.old) lines.old
+    ensures done { (s : List ℕ) (first : Option (List ℕ))
+        → HasWritten work s first (W.contents sink.old) lines.old
         → OnOk result (HasWritten work (s ++ octets.now) first (W.contents sink.new) lines.new) }
-    ensures fails { (s : List ℕ) (first : Option (List ℕ)) (x : Bool) → HasWritten work s first (W.contents sink.old) lines.old
-        → IfErr result (EndsWithin work (s ++ octets.now) x (putting first (W.contents sink.new) (W.is_broken sink.new))) }
+    ensures fails { (s : List ℕ) (first : Option (List ℕ)) (x : Bool)
+        → HasWritten work s first (W.contents sink.old) lines.old
+        → IfErr result (EndsWithin work (s ++ octets.now) x
+        (putting first (W.contents sink.new) (W.is_broken sink.new))) }
     ensures stays { IsTrue (W.is_broken sink.old) → IsTrue (W.is_broken sink.new) }
 {
     let fed = lines.feed(alloc, work, octets);
@@ -127,10 +136,13 @@ fn finish<W: Sink>(
     lines: &mut LineReader,
     sink: &mut W,
 ) -> Result<bool, LinesFault>
-    ensures done { (s : List ℕ) (first left left' : Option (List ℕ)) → Consumes left left' s → IsAtEnd left' → HasWritten work s first (W.contents sink.old) lines.old
+    ensures done { (s : List ℕ) (first left left' : Option (List ℕ)) → Consumes left left' s
+        → IsAtEnd left' → HasWritten work s first (W.contents sink.old) lines.old
         → IfOk result (LinesDone work left left' first (W.contents sink.new)) }
-    ensures fails { (s : List ℕ) (first : Option (List ℕ)) (x : Bool) → HasWritten work s first (W.contents sink.old) lines.old
-        → IfErr result (EndsWithin work s x (putting first (W.contents sink.new) (W.is_broken sink.new))) }
+    ensures fails { (s : List ℕ) (first : Option (List ℕ)) (x : Bool)
+        → HasWritten work s first (W.contents sink.old) lines.old
+        → IfErr result (EndsWithin work s x (putting first (W.contents sink.new)
+        (W.is_broken sink.new))) }
     ensures stays { IsTrue (W.is_broken sink.old) → IsTrue (W.is_broken sink.new) }
 {
     if lines.part.is_empty() {
@@ -143,10 +155,13 @@ fn finish<W: Sink>(
 
 /// Writes the results that are there.
 fn put_ready<W: Sink>(lines: &mut LineReader, sink: &mut W) -> Result<(), LinesFault>
-    ensures all { OnOk result (Appends (W.contents sink.old) (W.contents sink.new) lines.old.ready.items) }
+    ensures all { OnOk result (Appends (W.contents sink.old) (W.contents sink.new)
+        lines.old.ready.items) }
     ensures ready { OnOk result (lines.new.ready.items ≡ []) }
-    ensures some { IfErr result (λ fault. (fault ≡ LinesFault.WriteFault) × IsTrue (W.is_broken sink.new)
-        × ((n : ℕ) × (n < length lines.old.ready.items) × Appends (W.contents sink.old) (W.contents sink.new) (take n lines.old.ready.items))) }
+    ensures some { IfErr result (λ fault. (fault ≡ LinesFault.WriteFault)
+        × IsTrue (W.is_broken sink.new)
+        × ((n : ℕ) × (n < length lines.old.ready.items)
+        × Appends (W.contents sink.old) (W.contents sink.new) (take n lines.old.ready.items))) }
     ensures part { lines.new.part.items ≡ lines.old.part.items }
     ensures good { lines.new.is_good ≡ lines.old.is_good }
     ensures stays { IsTrue (W.is_broken sink.old) → IsTrue (W.is_broken sink.new) }

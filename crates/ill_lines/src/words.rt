@@ -71,7 +71,8 @@ pub fn check_words(
     is_normal: bool,
     normal: usize,
 ) -> Result<Vec<u8>, AllocError>
-    ensures { IfOk result (λ words. words.items ≡ check_words (profile_of profile) apdu octets is_normal normal) }
+    ensures { IfOk result (λ words. words.items
+        ≡ check_words (profile_of profile) apdu octets is_normal normal) }
 {
     let name = match apdu_name_as(profile, apdu) {
         Some(name) => name,

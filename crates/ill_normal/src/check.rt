@@ -1,4 +1,4 @@
-//! What there is to say of a message.
+//! The facts of a message: its octets, its APDU and its normal form.
 ghost use Rattle.std.specs.Prelude.{◌≡◌, ℕ, List, IfSome};
 ghost use Rattle.ber_leaf.specs.Profile.{profile_two};
 ghost use Rattle.ill_schema.specs.Apdu.{Apdu, Accepts, SpellsApdu, normal_form_in};
@@ -32,9 +32,11 @@ pub struct Checked {
 ///
 /// The one refusal of an input that begins with no message, out of memory, or the source's fault.
 pub fn check_one<R: Source>(alloc: Global, source: &mut R) -> Result<Option<Checked>, ReadFailure>
-    ensures next { ReadsNext (R.left source.old) (R.left source.new) (R.is_broken source.old) (R.is_broken source.new) Describes result }
+    ensures next { ReadsNext (R.left source.old) (R.left source.new) (R.is_broken source.old)
+        (R.is_broken source.new) Describes result }
     // A spelling at the front is checked, unless memory or the source failed.
-    ensures accepts { IfSome (R.left source.old) (λ s. (a : Apdu) (n : ℕ) → Accepts profile_two s a n → AnswersSome result) }
+    ensures accepts { IfSome (R.left source.old)
+        (λ s. (a : Apdu) (n : ℕ) → Accepts profile_two s a n → AnswersSome result) }
 {
     check_one_as(alloc, Profile::Two, source)
 }
@@ -49,10 +51,12 @@ pub fn check_one_as<R: Source>(
     profile: Profile,
     source: &mut R,
 ) -> Result<Option<Checked>, ReadFailure>
-    ensures next { ReadsNextIn (profile_of profile) (R.left source.old) (R.left source.new) (R.is_broken source.old) (R.is_broken source.new)
+    ensures next { ReadsNextIn (profile_of profile) (R.left source.old) (R.left source.new)
+        (R.is_broken source.old) (R.is_broken source.new)
         (DescribesIn (profile_of profile)) result }
     // A spelling at the front is checked, unless memory or the source failed.
-    ensures accepts { IfSome (R.left source.old) (λ s. (a : Apdu) (n : ℕ) → Accepts (profile_of profile) s a n → AnswersSome result) }
+    ensures accepts { IfSome (R.left source.old)
+        (λ s. (a : Apdu) (n : ℕ) → Accepts (profile_of profile) s a n → AnswersSome result) }
 {
     let mut reader = NormalReader::new(alloc);
     let buffer = Vec::new(alloc);
@@ -72,9 +76,11 @@ pub fn check_one_peeking<R: Source, L: Lookahead<R>>(
     alloc: Global,
     source: &mut R,
 ) -> Result<Option<Checked>, ReadFailure>
-    ensures next { ReadsNext (R.left source.old) (R.left source.new) (R.is_broken source.old) (R.is_broken source.new) Describes result }
+    ensures next { ReadsNext (R.left source.old) (R.left source.new) (R.is_broken source.old)
+        (R.is_broken source.new) Describes result }
     // A spelling at the front is checked, unless memory or the source failed.
-    ensures accepts { IfSome (R.left source.old) (λ s. (a : Apdu) (n : ℕ) → Accepts profile_two s a n → AnswersSome result) }
+    ensures accepts { IfSome (R.left source.old)
+        (λ s. (a : Apdu) (n : ℕ) → Accepts profile_two s a n → AnswersSome result) }
 {
     let mut reader = NormalReader::new(alloc);
     let Some(found) = check_one_in::<R, L>(alloc, &mut reader, source, Vec::new(alloc))? else {
@@ -95,10 +101,12 @@ pub fn check_one_in<R: Source, L: Lookahead<R>>(
     source: &mut R,
     buffer: Vec<u8>,
 ) -> Result<Option<(Checked, Vec<u8>)>, ReadFailure>
-    ensures next { ReadsNext (R.left source.old) (R.left source.new) (R.is_broken source.old) (R.is_broken source.new)
+    ensures next { ReadsNext (R.left source.old) (R.left source.new) (R.is_broken source.old)
+        (R.is_broken source.new)
         (λ found octets. Describes found.0 octets × IsFormOf found.1.items octets) result }
     // A spelling at the front is checked, unless memory or the source failed.
-    ensures accepts { IfSome (R.left source.old) (λ s. (a : Apdu) (n : ℕ) → Accepts profile_two s a n → AnswersSome result) }
+    ensures accepts { IfSome (R.left source.old)
+        (λ s. (a : Apdu) (n : ℕ) → Accepts profile_two s a n → AnswersSome result) }
 {
     check_one_in_as::<R, L>(alloc, Profile::Two, reader, source, buffer)
 }
@@ -116,10 +124,13 @@ pub fn check_one_in_as<R: Source, L: Lookahead<R>>(
     source: &mut R,
     buffer: Vec<u8>,
 ) -> Result<Option<(Checked, Vec<u8>)>, ReadFailure>
-    ensures next { ReadsNextIn (profile_of profile) (R.left source.old) (R.left source.new) (R.is_broken source.old) (R.is_broken source.new)
-        (λ found octets. DescribesIn (profile_of profile) found.0 octets × IsFormIn (profile_of profile) found.1.items octets) result }
+    ensures next { ReadsNextIn (profile_of profile) (R.left source.old) (R.left source.new)
+        (R.is_broken source.old) (R.is_broken source.new)
+        (λ found octets. DescribesIn (profile_of profile) found.0 octets
+        × IsFormIn (profile_of profile) found.1.items octets) result }
     // A spelling at the front is checked, unless memory or the source failed.
-    ensures accepts { IfSome (R.left source.old) (λ s. (a : Apdu) (n : ℕ) → Accepts (profile_of profile) s a n → AnswersSome result) }
+    ensures accepts { IfSome (R.left source.old)
+        (λ s. (a : Apdu) (n : ℕ) → Accepts (profile_of profile) s a n → AnswersSome result) }
 {
     let mut kept = Vec::new(alloc);
     let Some(normal) = reader.read_recording_as::<R, L>(profile, source, buffer, &mut kept)? else {
@@ -140,7 +151,8 @@ pub fn check_one_in_as<R: Source, L: Lookahead<R>>(
 /// apdu_number(&normal.octets) // 20: an Expired
 /// ```
 pub fn apdu_number(normal: &[u8]) -> u8
-    ensures { (p : Named) (a : Apdu) (b : List ℕ) → SpellsApdu (profile_of p) a b → normal.now ≡ normal_form_in (profile_of p) a
+    ensures { (p : Named) (a : Apdu) (b : List ℕ) → SpellsApdu (profile_of p) a b
+        → normal.now ≡ normal_form_in (profile_of p) a
         → result ≡ a.number }
 {
     match normal {

@@ -23,12 +23,14 @@ pub enum Side {
 ///
 /// The first side that is not exactly one message, and why; or out of memory.
 pub fn same_message(alloc: Global, first: &[u8], second: &[u8]) -> Result<bool, (Side, Failure)>
-    ensures same { IfOk result (λ same. (a : Apdu) × (b : Apdu) × SpellsApdu profile_two a first.now × SpellsApdu profile_two b second.now
+    ensures same { IfOk result (λ same. (a : Apdu) × (b : Apdu) × SpellsApdu profile_two a first.now
+        × SpellsApdu profile_two b second.now
         × (IsTrue same ↔ (a ≡ b)) × (IsTrue same ↔ (normal_form a ≡ normal_form b))) }
     // A refusal is that of the first side that isn't one whole spelling.
     ensures refused { IfErr result (λ e. IfRefused e.1 (RefusesSide first.now second.now e.0)) }
     // Two spellings are compared, unless memory runs out.
-    ensures accepts { (a b : Apdu) → SpellsApdu profile_two a first.now → SpellsApdu profile_two b second.now
+    ensures accepts { (a b : Apdu) → SpellsApdu profile_two a first.now
+        → SpellsApdu profile_two b second.now
         → IfErr result (λ e. e.1 ≡ Failure.OutOfMemory) }
 {
     same_message_as(alloc, Profile::Two, first, second)
@@ -45,12 +47,17 @@ pub fn same_message_as(
     first: &[u8],
     second: &[u8],
 ) -> Result<bool, (Side, Failure)>
-    ensures same { IfOk result (λ same. (a : Apdu) × (b : Apdu) × SpellsApdu (profile_of profile) a first.now × SpellsApdu (profile_of profile) b second.now
-        × (IsTrue same ↔ (a ≡ b)) × (IsTrue same ↔ (normal_form_in (profile_of profile) a ≡ normal_form_in (profile_of profile) b))) }
+    ensures same { IfOk result (λ same. (a : Apdu) × (b : Apdu)
+        × SpellsApdu (profile_of profile) a first.now × SpellsApdu (profile_of profile) b second.now
+        × (IsTrue same ↔ (a ≡ b))
+        × (IsTrue same ↔ (normal_form_in (profile_of profile) a
+        ≡ normal_form_in (profile_of profile) b))) }
     // A refusal is that of the first side that isn't one whole spelling.
-    ensures refused { IfErr result (λ e. IfRefused e.1 (RefusesSideIn (profile_of profile) first.now second.now e.0)) }
+    ensures refused { IfErr result
+        (λ e. IfRefused e.1 (RefusesSideIn (profile_of profile) first.now second.now e.0)) }
     // Two spellings are compared, unless memory runs out.
-    ensures accepts { (a b : Apdu) → SpellsApdu (profile_of profile) a first.now → SpellsApdu (profile_of profile) b second.now
+    ensures accepts { (a b : Apdu) → SpellsApdu (profile_of profile) a first.now
+        → SpellsApdu (profile_of profile) b second.now
         → IfErr result (λ e. e.1 ≡ Failure.OutOfMemory) }
 {
     let one = match decode_normal_as(alloc, profile, first) {
@@ -70,10 +77,12 @@ pub fn same_message_as(
 ///
 /// The reason why they are not exactly one message; or out of memory.
 pub fn is_normal(alloc: Global, octets: &[u8]) -> Result<bool, Failure>
-    ensures normal { IfOk result (λ yes. (a : Apdu) × SpellsApdu profile_two a octets.now × (IsTrue yes ↔ (octets.now ≡ normal_form a))) }
+    ensures normal { IfOk result (λ yes. (a : Apdu) × SpellsApdu profile_two a octets.now
+        × (IsTrue yes ↔ (octets.now ≡ normal_form a))) }
     ensures refused { IfErr result (λ e. IfRefused e (RefusesWhole octets.now)) }
     // A spelling is compared, unless memory runs out.
-    ensures accepts { (a : Apdu) → SpellsApdu profile_two a octets.now → IfErr result (λ e. e ≡ Failure.OutOfMemory) }
+    ensures accepts { (a : Apdu) → SpellsApdu profile_two a octets.now
+        → IfErr result (λ e. e ≡ Failure.OutOfMemory) }
 {
     is_normal_as(alloc, Profile::Two, octets)
 }
@@ -84,10 +93,13 @@ pub fn is_normal(alloc: Global, octets: &[u8]) -> Result<bool, Failure>
 ///
 /// Those of [`is_normal`], in the profile.
 pub fn is_normal_as(alloc: Global, profile: Profile, octets: &[u8]) -> Result<bool, Failure>
-    ensures normal { IfOk result (λ yes. (a : Apdu) × SpellsApdu (profile_of profile) a octets.now × (IsTrue yes ↔ (octets.now ≡ normal_form_in (profile_of profile) a))) }
-    ensures refused { IfErr result (λ e. IfRefused e (RefusesWholeIn (profile_of profile) octets.now)) }
+    ensures normal { IfOk result (λ yes. (a : Apdu) × SpellsApdu (profile_of profile) a octets.now
+        × (IsTrue yes ↔ (octets.now ≡ normal_form_in (profile_of profile) a))) }
+    ensures refused { IfErr result
+        (λ e. IfRefused e (RefusesWholeIn (profile_of profile) octets.now)) }
     // A spelling is compared, unless memory runs out.
-    ensures accepts { (a : Apdu) → SpellsApdu (profile_of profile) a octets.now → IfErr result (λ e. e ≡ Failure.OutOfMemory) }
+    ensures accepts { (a : Apdu) → SpellsApdu (profile_of profile) a octets.now
+        → IfErr result (λ e. e ≡ Failure.OutOfMemory) }
 {
     let normal = decode_normal_as(alloc, profile, octets)?;
     Ok(normal.octets.as_slice() == octets)

@@ -33,10 +33,12 @@ pub fn normal_digest(normal: &[u8]) -> [u8; 32]
 ///
 /// The reason why the octets are not exactly one message, as of [`decode_normal`](crate::decode_normal); or out of memory.
 pub fn message_digest(alloc: Global, octets: &[u8]) -> Result<[u8; 32], Failure>
-    ensures digest { IfOk result (λ digest. (a : Apdu) × SpellsApdu profile_two a octets.now × (digest ≡ sha256 (normal_form a))) }
+    ensures digest { IfOk result (λ digest. (a : Apdu) × SpellsApdu profile_two a octets.now
+        × (digest ≡ sha256 (normal_form a))) }
     ensures refused { IfErr result (λ e. IfRefused e (RefusesWhole octets.now)) }
     // A spelling has a digest, unless memory runs out.
-    ensures accepts { (a : Apdu) → SpellsApdu profile_two a octets.now → IfErr result (λ e. e ≡ Failure.OutOfMemory) }
+    ensures accepts { (a : Apdu) → SpellsApdu profile_two a octets.now
+        → IfErr result (λ e. e ≡ Failure.OutOfMemory) }
 {
     message_digest_as(alloc, Profile::Two, octets)
 }
@@ -55,10 +57,14 @@ pub fn message_digest_as(
     profile: Profile,
     octets: &[u8],
 ) -> Result<[u8; 32], Failure>
-    ensures digest { IfOk result (λ digest. (a : Apdu) × SpellsApdu (profile_of profile) a octets.now × (digest ≡ sha256 (normal_form_in (profile_of profile) a))) }
-    ensures refused { IfErr result (λ e. IfRefused e (RefusesWholeIn (profile_of profile) octets.now)) }
+    ensures digest { IfOk result (λ digest. (a : Apdu)
+        × SpellsApdu (profile_of profile) a octets.now
+        × (digest ≡ sha256 (normal_form_in (profile_of profile) a))) }
+    ensures refused { IfErr result
+        (λ e. IfRefused e (RefusesWholeIn (profile_of profile) octets.now)) }
     // A spelling has a digest, unless memory runs out.
-    ensures accepts { (a : Apdu) → SpellsApdu (profile_of profile) a octets.now → IfErr result (λ e. e ≡ Failure.OutOfMemory) }
+    ensures accepts { (a : Apdu) → SpellsApdu (profile_of profile) a octets.now
+        → IfErr result (λ e. e ≡ Failure.OutOfMemory) }
 {
     let normal = decode_normal_as(alloc, profile, octets)?;
     Ok(normal_digest(&normal.octets))

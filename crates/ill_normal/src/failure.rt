@@ -1,4 +1,4 @@
-//! Why a message or a stream was not normalised.
+//! The reasons why a message or a stream was not normalised.
 ghost use Rattle.std.specs.Prelude.{◌≡◌};
 ghost use Rattle.ill_normal.specs.Failures.{of_read};
 

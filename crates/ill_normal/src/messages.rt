@@ -48,13 +48,19 @@ pub trait Rendered: Drop {
     ///
     /// # Errors
     ///
-    /// Where the sink breaks: the number of octets that it took, the first ones. They are not all.
+    /// The number of octets that the sink took, the first ones, where it breaks. They are not all.
     fn put<W: Sink>(&self, sink: &mut W) -> Result<usize, usize>
-        ensures all { (octets : List ℕ) → is self.now octets → OnOk result (Appends (W.contents sink.old) (W.contents sink.new) octets) }
-        ensures count { (octets : List ℕ) → is self.now octets → IfOk result (λ n. (n ≡ length octets) × (n ≤ 2 ^ 63)) }
-        ensures some { (octets : List ℕ) → is self.now octets → IfErr result (λ n. Appends (W.contents sink.old) (W.contents sink.new) (take n octets)) }
-        ensures fewer { (octets : List ℕ) → is self.now octets → IfErr result (λ n. n < length octets) }
-        ensures breaks { (octets : List ℕ) → is self.now octets → IsErr result → IsTrue (W.is_broken sink.new) }
+        ensures all { (octets : List ℕ) → is self.now octets
+            → OnOk result (Appends (W.contents sink.old) (W.contents sink.new) octets) }
+        ensures count { (octets : List ℕ) → is self.now octets
+            → IfOk result (λ n. (n ≡ length octets) × (n ≤ 2 ^ 63)) }
+        ensures some { (octets : List ℕ) → is self.now octets
+            → IfErr result (λ n. Appends (W.contents sink.old) (W.contents sink.new)
+            (take n octets)) }
+        ensures fewer { (octets : List ℕ) → is self.now octets
+            → IfErr result (λ n. n < length octets) }
+        ensures breaks { (octets : List ℕ) → is self.now octets → IsErr result
+            → IsTrue (W.is_broken sink.new) }
         ensures stays { IsTrue (W.is_broken sink.old) → IsTrue (W.is_broken sink.new) };
 }
 
@@ -105,8 +111,10 @@ pub trait Render {
         source: &mut R,
         buffer: Self::Out,
     ) -> Result<Option<RenderedMessage<Self::Out>>, ReadFailure>
-        ensures { ReadsNextIn (profile_of (profile self.now)) (R.left source.old) (R.left source.new) (R.is_broken source.old) (R.is_broken source.new)
-            (MakesIn (profile_of (profile self.now)) Self.Out.is (text self.now position) (is_good self.now)) result };
+        ensures { ReadsNextIn (profile_of (profile self.now)) (R.left source.old)
+            (R.left source.new) (R.is_broken source.old) (R.is_broken source.new)
+            (MakesIn (profile_of (profile self.now)) Self.Out.is (text self.now position)
+            (is_good self.now)) result };
 }
 
 /// Messages to the end of an input.
@@ -153,7 +161,7 @@ pub struct StreamError {
 ///
 /// # Errors
 ///
-/// How far it came, and why no further, where the input goes on after 1,000,000 messages, too. Of what follows the messages that were
+/// The place that was reached and the reason why it went no further; also where the input goes on after 1,000,000 messages. Of what follows the messages that were
 /// written, at most 1,048,576 octets are taken.
 pub fn for_each_message<M: Render, R: Source, L: Lookahead<R>, W: Sink>(
     alloc: Global,
@@ -161,9 +169,12 @@ pub fn for_each_message<M: Render, R: Source, L: Lookahead<R>, W: Sink>(
     source: &mut R,
     sink: &mut W,
 ) -> Result<StreamCounts, StreamError>
-    ensures passes { IfOk result (PassesAllIn (profile_of (M.profile maker.now)) (M.text maker.now) (M.is_good maker.now) (R.left source.old) (R.left source.new)
+    ensures passes { IfOk result (PassesAllIn (profile_of (M.profile maker.now)) (M.text maker.now)
+        (M.is_good maker.now) (R.left source.old) (R.left source.new)
         (W.contents sink.old) (W.contents sink.new)) }
-    ensures ends { IfErr result (EndsAfterIn (profile_of (M.profile maker.now)) (M.text maker.now) (M.is_good maker.now) (taking (R.left source.old) (R.left source.new) (R.is_broken source.new))
+    ensures ends { IfErr result (EndsAfterIn (profile_of (M.profile maker.now)) (M.text maker.now)
+        (M.is_good maker.now) (taking (R.left source.old) (R.left source.new)
+        (R.is_broken source.new))
         (putting (W.contents sink.old) (W.contents sink.new) (W.is_broken sink.new))) }
     ensures source_stays { IsTrue (R.is_broken source.old) → IsTrue (R.is_broken source.new) }
     ensures sink_stays { IsTrue (W.is_broken sink.old) → IsTrue (W.is_broken sink.new) }
@@ -237,8 +248,10 @@ fn ended(whole: u32, good: u32, before: u64, written: u128, why: StreamErrorKind
 
 /// One octet more is one too many, whatever it begins.
 fn end_of_input<R: Source>(source: &mut R) -> Result<(), StreamErrorKind>
-    ensures end { OnOk result (Consumes (R.left source.old) (R.left source.new) [] × IsAtEnd (R.left source.new)) }
-    ensures more { IfErr result (GoesOn (R.left source.old) (R.left source.new) (R.is_broken source.new)) }
+    ensures end { OnOk result (Consumes (R.left source.old) (R.left source.new) []
+        × IsAtEnd (R.left source.new)) }
+    ensures more { IfErr result (GoesOn (R.left source.old) (R.left source.new)
+        (R.is_broken source.new)) }
     ensures stays { IsTrue (R.is_broken source.old) → IsTrue (R.is_broken source.new) }
 {
     let mut buffer = [0];

@@ -58,9 +58,12 @@ pub fn next_message<M: Render, R: Source, L: Lookahead<R>>(
     kept: &mut Vec<u8>,
     buffer: M::Out,
 ) -> Result<Option<NextMessage<M::Out>>, TakeError>
-    ensures next { IfOk result (λ found. MatchOption found (Consumes (R.left source.old) (R.left source.new) [] × IsAtEnd (R.left source.new))
-        (IsNext (profile_of (M.profile maker.now)) M.Out.is (M.text maker.now position) (M.is_good maker.now) (R.left source.old) (R.left source.new))) }
-    ensures broken { IfErr result (λ e. e ≡ TakeError.Broken → IsTrue (R.is_broken source.new) × TakesPart (R.left source.old) (R.left source.new)) }
+    ensures next { IfOk result (λ found. MatchOption found
+        (Consumes (R.left source.old) (R.left source.new) [] × IsAtEnd (R.left source.new))
+        (IsNext (profile_of (M.profile maker.now)) M.Out.is (M.text maker.now position)
+        (M.is_good maker.now) (R.left source.old) (R.left source.new))) }
+    ensures broken { IfErr result (λ e. e ≡ TakeError.Broken → IsTrue (R.is_broken source.new)
+        × TakesPart (R.left source.old) (R.left source.new)) }
     ensures stays { IsTrue (R.is_broken source.old) → IsTrue (R.is_broken source.new) }
 {
     let taken = match take_element::<R, L>(source, kept) {
@@ -103,8 +106,10 @@ fn take_element<R: Source, L: Lookahead<R>>(
     source: &mut R,
     kept: &mut Vec<u8>,
 ) -> Result<TakenElement, TakeError>
-    ensures element { IfOk result (λ taken. Took (R.left source.old) (R.left source.new) kept.new.items taken.octets taken.framing) }
-    ensures broken { IfErr result (λ e. e ≡ TakeError.Broken → IsTrue (R.is_broken source.new) × TakesPart (R.left source.old) (R.left source.new)) }
+    ensures element { IfOk result (λ taken. Took (R.left source.old) (R.left source.new)
+        kept.new.items taken.octets taken.framing) }
+    ensures broken { IfErr result (λ e. e ≡ TakeError.Broken → IsTrue (R.is_broken source.new)
+        × TakesPart (R.left source.old) (R.left source.new)) }
     ensures stays { IsTrue (R.is_broken source.old) → IsTrue (R.is_broken source.new) }
 {
     let (framer, octets) = match take_framed::<R, L>(source, kept) {
@@ -136,9 +141,11 @@ fn take_framed<R: Source, L: Lookahead<R>>(
     source: &mut R,
     kept: &mut Vec<u8>,
 ) -> Result<(Framer, u64), TakeError>
-    ensures element { IfOk result (λ taken. (frame : Framing) → ((b : List ℕ) → IsFed taken.0 b → Judged b frame)
+    ensures element { IfOk result (λ taken. (frame : Framing)
+        → ((b : List ℕ) → IsFed taken.0 b → Judged b frame)
         → TakesElement (R.left source.old) (R.left source.new) kept.new.items taken.1 frame) }
-    ensures broken { IfErr result (λ e. e ≡ TakeError.Broken → IsTrue (R.is_broken source.new) × TakesPart (R.left source.old) (R.left source.new)) }
+    ensures broken { IfErr result (λ e. e ≡ TakeError.Broken → IsTrue (R.is_broken source.new)
+        × TakesPart (R.left source.old) (R.left source.new)) }
     ensures stays { IsTrue (R.is_broken source.old) → IsTrue (R.is_broken source.new) }
 {
     kept.clear();
@@ -157,7 +164,8 @@ fn take_framed<R: Source, L: Lookahead<R>>(
 
 /// Takes `count` octets more, or fewer where the input ends, and keeps them.
 fn take_rest<R: Source>(source: &mut R, kept: &mut Vec<u8>, count: u8) -> Result<(), TakeError>
-    ensures rest { OnOk result (TakesRest (R.left source.old) (R.left source.new) kept.old.items kept.new.items) }
+    ensures rest { OnOk result (TakesRest (R.left source.old) (R.left source.new) kept.old.items
+        kept.new.items) }
     ensures broken { IfErr result (λ e. e ≡ TakeError.Broken → IsTrue (R.is_broken source.new)
         × TakesRest (R.left source.old) (R.left source.new) kept.old.items kept.new.items) }
     ensures stays { IsTrue (R.is_broken source.old) → IsTrue (R.is_broken source.new) }
@@ -185,9 +193,12 @@ fn take_some<R: Source, L: Lookahead<R>>(
     buffer: &mut [u8],
 ) -> Result<usize, TakeError>
     requires { 0 < length buffer.old }
-    ensures takes { IfOk result (Takes (R.left source.old) (R.left source.new) framer.old framer.new kept.old.items kept.new.items) }
-    ensures broken { IfErr result (λ e. e ≡ TakeError.Broken → IsTrue (R.is_broken source.new) × Keeps (R.left source.old) (R.left source.new)) }
-    ensures part { IfErr result (λ e. e ≡ TakeError.Broken → (b : List ℕ) → IsFed framer.old b → IsPart b) }
+    ensures takes { IfOk result (Takes (R.left source.old) (R.left source.new) framer.old framer.new
+        kept.old.items kept.new.items) }
+    ensures broken { IfErr result (λ e. e ≡ TakeError.Broken → IsTrue (R.is_broken source.new)
+        × Keeps (R.left source.old) (R.left source.new)) }
+    ensures part { IfErr result (λ e. e ≡ TakeError.Broken → (b : List ℕ) → IsFed framer.old b
+        → IsPart b) }
     ensures stays { IsTrue (R.is_broken source.old) → IsTrue (R.is_broken source.new) }
     ensures room { length buffer.new ≡ length buffer.old }
 {
@@ -202,7 +213,7 @@ fn take_some<R: Source, L: Lookahead<R>>(
             Err(AllocError) => Err(TakeError::OutOfMemory),
         };
     }
-    let wanted = (framer.need() as usize).min(buffer.len());
+    let wanted = (framer.missing_len() as usize).min(buffer.len());
     if wanted == 0 {
         return Ok(0);
     }
@@ -219,7 +230,8 @@ fn take_some<R: Source, L: Lookahead<R>>(
 
 /// Keeps octets, as far as a message may have more.
 fn keep(kept: &mut Vec<u8>, octets: &[u8]) -> Result<(), AllocError>
-    ensures { OnOk result (kept.new.items ≡ kept.old.items ++ take (1_048_576 - length kept.old.items) octets.now) }
+    ensures { OnOk result (kept.new.items ≡ kept.old.items
+        ++ take (1_048_576 - length kept.old.items) octets.now) }
 {
     let room = (LIMIT as usize).saturating_sub(kept.len());
     let count = octets.len().min(room);

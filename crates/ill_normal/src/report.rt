@@ -1,4 +1,4 @@
-//! What is reported of a message that is refused.
+//! The report on a message that is refused.
 ghost use Rattle.std.specs.Prelude.{List, [], ◌∷◌, Option};
 ghost use Rattle.ill_normal.specs.declared.report.RefusalReport.{RefusalReport};
 

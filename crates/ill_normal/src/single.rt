@@ -31,11 +31,14 @@ pub(crate) fn forward<R: Source, W: Sink>(
     source: &mut R,
     sink: &mut W,
 ) -> Result<Option<Forwarded>, NormalFailure>
-    ensures forwarded { IfOk result (λ found. IfSome found (λ size. ForwardsIn (profile_of profile) (R.left source.old) (R.left source.new)
+    ensures forwarded { IfOk result (λ found. IfSome found
+        (λ size. ForwardsIn (profile_of profile) (R.left source.old) (R.left source.new)
         (W.contents sink.old) (W.contents sink.new) size.read size.written)) }
-    ensures none { IfOk result (λ found. IfNone found (Consumes (R.left source.old) (R.left source.new) []
+    ensures none { IfOk result (λ found. IfNone found
+        (Consumes (R.left source.old) (R.left source.new) []
         × IsAtEnd (R.left source.new) × Keeps (W.contents sink.old) (W.contents sink.new))) }
-    ensures fails { IfErr result (FailsIn (profile_of profile) (taking (R.left source.old) (R.left source.new) (R.is_broken source.new))
+    ensures fails { IfErr result (FailsIn (profile_of profile)
+        (taking (R.left source.old) (R.left source.new) (R.is_broken source.new))
         (putting (W.contents sink.old) (W.contents sink.new) (W.is_broken sink.new))) }
     ensures taken { TakesFront (R.left source.old) (R.left source.new) }
     ensures source_stays { IsTrue (R.is_broken source.old) → IsTrue (R.is_broken source.new) }
@@ -66,18 +69,25 @@ pub fn normalise<R: Source, W: Sink>(
     sink: &mut W,
 ) -> Result<Option<u32>, NormalFailure>
     // The octets that were taken spell an APDU, and its normal form was written.
-    ensures normalised { IfOk result (λ found. IfSome found (λ n. (a : Apdu) × (b : List ℕ) × SpellsApdu profile_two a b
+    ensures normalised { IfOk result (λ found. IfSome found
+        (λ n. (a : Apdu) × (b : List ℕ) × SpellsApdu profile_two a b
         × Consumes (R.left source.old) (R.left source.new) b
-        × Appends (W.contents sink.old) (W.contents sink.new) (normal_form a) × (n ≡ length (normal_form a)))) }
+        × Appends (W.contents sink.old) (W.contents sink.new) (normal_form a)
+        × (n ≡ length (normal_form a)))) }
     // There was nothing left, and nothing was written.
-    ensures none { IfOk result (λ found. IfNone found (Consumes (R.left source.old) (R.left source.new) []
+    ensures none { IfOk result (λ found. IfNone found
+        (Consumes (R.left source.old) (R.left source.new) []
         × IsAtEnd (R.left source.new) × Keeps (W.contents sink.old) (W.contents sink.new))) }
-    ensures fails { IfErr result (Fails (taking (R.left source.old) (R.left source.new) (R.is_broken source.new))
+    ensures fails { IfErr result
+        (Fails (taking (R.left source.old) (R.left source.new) (R.is_broken source.new))
         (putting (W.contents sink.old) (W.contents sink.new) (W.is_broken sink.new))) }
     // What begins with a spelling is normalised, what is empty is no message, and what is refused is refused so.
-    ensures accepts { IfSome (R.left source.old) (λ s. (a : Apdu) (n : ℕ) → Accepts profile_two s a n → Answers result (Some (length (normal_form a)))) }
+    ensures accepts { IfSome (R.left source.old)
+        (λ s. (a : Apdu) (n : ℕ) → Accepts profile_two s a n
+        → Answers result (Some (length (normal_form a)))) }
     ensures empty { IfSome (R.left source.old) (λ s. s ≡ [] → Answers result None) }
-    ensures refuses { IfSome (R.left source.old) (λ s. (f : Fault) → 0 < length s → OnlyRefuses profile_two s f → AnswersRefused result f) }
+    ensures refuses { IfSome (R.left source.old)
+        (λ s. (f : Fault) → 0 < length s → OnlyRefuses profile_two s f → AnswersRefused result f) }
     ensures taken { TakesFront (R.left source.old) (R.left source.new) }
     ensures source_stays { IsTrue (R.is_broken source.old) → IsTrue (R.is_broken source.new) }
     ensures sink_stays { IsTrue (W.is_broken sink.old) → IsTrue (W.is_broken sink.new) }
@@ -97,18 +107,27 @@ pub fn normalise_as<R: Source, W: Sink>(
     sink: &mut W,
 ) -> Result<Option<u32>, NormalFailure>
     // The octets that were taken spell an APDU, and its normal form was written.
-    ensures normalised { IfOk result (λ found. IfSome found (λ n. (a : Apdu) × (b : List ℕ) × SpellsApdu (profile_of profile) a b
+    ensures normalised { IfOk result (λ found. IfSome found
+        (λ n. (a : Apdu) × (b : List ℕ) × SpellsApdu (profile_of profile) a b
         × Consumes (R.left source.old) (R.left source.new) b
-        × Appends (W.contents sink.old) (W.contents sink.new) (normal_form_in (profile_of profile) a) × (n ≡ length (normal_form_in (profile_of profile) a)))) }
+        × Appends (W.contents sink.old) (W.contents sink.new)
+        (normal_form_in (profile_of profile) a)
+        × (n ≡ length (normal_form_in (profile_of profile) a)))) }
     // There was nothing left, and nothing was written.
-    ensures none { IfOk result (λ found. IfNone found (Consumes (R.left source.old) (R.left source.new) []
+    ensures none { IfOk result (λ found. IfNone found
+        (Consumes (R.left source.old) (R.left source.new) []
         × IsAtEnd (R.left source.new) × Keeps (W.contents sink.old) (W.contents sink.new))) }
-    ensures fails { IfErr result (FailsIn (profile_of profile) (taking (R.left source.old) (R.left source.new) (R.is_broken source.new))
+    ensures fails { IfErr result (FailsIn (profile_of profile)
+        (taking (R.left source.old) (R.left source.new) (R.is_broken source.new))
         (putting (W.contents sink.old) (W.contents sink.new) (W.is_broken sink.new))) }
     // What begins with a spelling is normalised, what is empty is no message, and what is refused is refused so.
-    ensures accepts { IfSome (R.left source.old) (λ s. (a : Apdu) (n : ℕ) → Accepts (profile_of profile) s a n → Answers result (Some (length (normal_form_in (profile_of profile) a)))) }
+    ensures accepts { IfSome (R.left source.old)
+        (λ s. (a : Apdu) (n : ℕ) → Accepts (profile_of profile) s a n
+        → Answers result (Some (length (normal_form_in (profile_of profile) a)))) }
     ensures empty { IfSome (R.left source.old) (λ s. s ≡ [] → Answers result None) }
-    ensures refuses { IfSome (R.left source.old) (λ s. (f : Fault) → 0 < length s → OnlyRefuses (profile_of profile) s f → AnswersRefused result f) }
+    ensures refuses { IfSome (R.left source.old)
+        (λ s. (f : Fault) → 0 < length s → OnlyRefuses (profile_of profile) s f
+        → AnswersRefused result f) }
     ensures taken { TakesFront (R.left source.old) (R.left source.new) }
     ensures source_stays { IsTrue (R.is_broken source.old) → IsTrue (R.is_broken source.new) }
     ensures sink_stays { IsTrue (W.is_broken sink.old) → IsTrue (W.is_broken sink.new) }

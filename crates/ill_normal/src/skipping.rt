@@ -66,7 +66,7 @@ pub struct SkippingError {
 ///
 /// # Errors
 ///
-/// How far it came, and why no further, where the input goes on after 1,000,000 messages, too.
+/// The place that was reached and the reason why it went no further; also where the input goes on after 1,000,000 messages.
 pub fn for_each_accepted_message<M: Render, R: Source, L: Lookahead<R>, W: Sink, T: ReportRefusals>(
     alloc: Global,
     maker: &M,
@@ -74,10 +74,16 @@ pub fn for_each_accepted_message<M: Render, R: Source, L: Lookahead<R>, W: Sink,
     sink: &mut W,
     reports: &mut T,
 ) -> Result<SkippingCounts, SkippingError>
-    ensures through { IfOk result (SkipsToEnd (profile_of (M.profile maker.now)) (M.text maker.now) (M.is_good maker.now) (taking (R.left source.old) (R.left source.new) (R.is_broken source.new))
-        (putting (W.contents sink.old) (W.contents sink.new) (W.is_broken sink.new)) (reporting (T.reported reports.old) (T.reported reports.new))) }
-    ensures halts { IfErr result (SkipsAndStops (profile_of (M.profile maker.now)) (M.text maker.now) (M.is_good maker.now) (taking (R.left source.old) (R.left source.new) (R.is_broken source.new))
-        (putting (W.contents sink.old) (W.contents sink.new) (W.is_broken sink.new)) (reporting (T.reported reports.old) (T.reported reports.new))) }
+    ensures through { IfOk result (SkipsToEnd (profile_of (M.profile maker.now)) (M.text maker.now)
+        (M.is_good maker.now) (taking (R.left source.old) (R.left source.new)
+        (R.is_broken source.new))
+        (putting (W.contents sink.old) (W.contents sink.new) (W.is_broken sink.new))
+        (reporting (T.reported reports.old) (T.reported reports.new))) }
+    ensures halts { IfErr result (SkipsAndStops (profile_of (M.profile maker.now))
+        (M.text maker.now) (M.is_good maker.now)
+        (taking (R.left source.old) (R.left source.new) (R.is_broken source.new))
+        (putting (W.contents sink.old) (W.contents sink.new) (W.is_broken sink.new))
+        (reporting (T.reported reports.old) (T.reported reports.new))) }
     ensures source_stays { IsTrue (R.is_broken source.old) → IsTrue (R.is_broken source.new) }
     ensures sink_stays { IsTrue (W.is_broken sink.old) → IsTrue (W.is_broken sink.new) }
 {
@@ -192,8 +198,10 @@ fn report(message: u32, refusal: Refusal, end: Option<u64>) -> RefusalReport
 
 /// One octet more is one too many, whatever it begins.
 fn end_of_input<R: Source>(source: &mut R) -> Result<(), SkippingErrorKind>
-    ensures end { OnOk result (Consumes (R.left source.old) (R.left source.new) [] × IsAtEnd (R.left source.new)) }
-    ensures more { IfErr result (GoesOn (R.left source.old) (R.left source.new) (R.is_broken source.new)) }
+    ensures end { OnOk result (Consumes (R.left source.old) (R.left source.new) []
+        × IsAtEnd (R.left source.new)) }
+    ensures more { IfErr result (GoesOn (R.left source.old) (R.left source.new)
+        (R.is_broken source.new)) }
     ensures stays { IsTrue (R.is_broken source.old) → IsTrue (R.is_broken source.new) }
 {
     let mut buffer = [0];

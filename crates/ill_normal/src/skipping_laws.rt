@@ -1,4 +1,4 @@
-//! What holds of the definitions alone.
+//! Laws of the definitions alone.
 ghost use Rattle.std.specs.Prelude.{◌≡◌, ◌≢◌, ℕ, ◌<◌, List, ◌++◌, length, Some};
 ghost use Rattle.ill_schema.specs.Profiles.{profile_of};
 ghost use Rattle.ill_schema.specs.declared.profile.Profile.{Profile as Named};
@@ -13,23 +13,28 @@ use ill_schema::Cause;
 
 /// The output for the accepted messages of an input is the output for them alone, if it doesn't depend on their positions.
 pub fn accepted_messages_are_written()
-    ensures { (text : MessagePlace → Spelling → List ℕ) (p : MessagePlace) (items : List Item) → ((q r : MessagePlace) (m : Spelling) → text q m ≡ text r m)
+    ensures { (text : MessagePlace → Spelling → List ℕ) (p : MessagePlace) (items : List Item)
+        → ((q r : MessagePlace) (m : Spelling) → text q m ≡ text r m)
         → written_from text p items ≡ output_from text first (good_ones items) }
 {}
 
 /// In each profile an input is messages in one way, as far as their ends can be known.
 pub fn one_reading_of_an_input()
-    ensures { (p : Named) (s rest over : List ℕ) (items others : List Item) → AreItems (profile_of p) s items rest → HasNoMore rest → AreItems (profile_of p) s others over → HasNoMore over
+    ensures { (p : Named) (s rest over : List ℕ) (items others : List Item)
+        → AreItems (profile_of p) s items rest → HasNoMore rest
+        → AreItems (profile_of p) s others over → HasNoMore over
         → (items ≡ others) × (rest ≡ over) }
 {}
 
-/// Where an end can't be known no message ends, so the work has come as far as it can.
+/// An input has no more messages after one whose end can't be known.
 pub fn unknown_ends_are_last()
-    ensures { (octets rest : List ℕ) → HasNoEnd octets (Some rest) → length octets < 18_446_744_073_709_551_615 → HasNoMore (octets ++ rest) }
+    ensures { (octets rest : List ℕ) → HasNoEnd octets (Some rest)
+        → length octets < 18_446_744_073_709_551_615 → HasNoMore (octets ++ rest) }
 {}
 
 /// A refusal that says more than that the octets end is that of the input that they begin, so it is what a call returns that stops there.
 pub fn refusals_are_of_the_input()
-    ensures { (p : Named) (octets rest : List ℕ) (refusal : Refusal) → refusal.cause ≢ Cause.Truncated → IsRefusedFor (profile_of p) octets refusal
+    ensures { (p : Named) (octets rest : List ℕ) (refusal : Refusal)
+        → refusal.cause ≢ Cause.Truncated → IsRefusedFor (profile_of p) octets refusal
         → Refuses (profile_of p) (octets ++ rest) (fault_of refusal) }
 {}

@@ -112,25 +112,32 @@ fn cause(why: StreamErrorKind) -> StreamCause
 ///
 /// # Errors
 ///
-/// Where a message is not normalised, or the input goes on after 1,000,000 messages, how many
-/// messages were normalised before, how many octets they had in the input, and the cause. After
-/// those messages at most 1,048,576 octets of the input were taken.
+/// The cause, the number of messages that were normalised before, and the number of octets that they
+/// have in the input: where a message is not normalised, or the input goes on after 1,000,000
+/// messages. After those messages at most 1,048,576 octets of the input were taken.
 pub fn normalise_stream<R: Source, W: Sink>(
     alloc: Global,
     source: &mut R,
     sink: &mut W,
 ) -> Result<u32, StreamFailure>
     // The input was this number of messages and nothing else, and their normal forms were written.
-    ensures streamed { IfOk result (λ whole. (before : ℕ) × Passes (R.left source.old) (R.left source.new)
-        (W.contents sink.old) (W.contents sink.new) whole before × IsAtEnd (R.left source.new) × (whole ≤ 1_000_000)) }
-    ensures stops { IfErr result (StopsAfter (taking (R.left source.old) (R.left source.new) (R.is_broken source.new))
+    ensures streamed { IfOk result (λ whole. (before : ℕ)
+        × Passes (R.left source.old) (R.left source.new)
+        (W.contents sink.old) (W.contents sink.new) whole before × IsAtEnd (R.left source.new)
+        × (whole ≤ 1_000_000)) }
+    ensures stops { IfErr result
+        (StopsAfter (taking (R.left source.old) (R.left source.new) (R.is_broken source.new))
         (putting (W.contents sink.old) (W.contents sink.new) (W.is_broken sink.new))) }
     // A stream of messages is normalised, unless they are too many or what follows is refused.
-    ensures accepts { IfSome (R.left source.old) (λ s. (as' : List Apdu) → IsStream profile_two s as' [] → length as' ≤ 1_000_000
+    ensures accepts { IfSome (R.left source.old)
+        (λ s. (as' : List Apdu) → IsStream profile_two s as' [] → length as' ≤ 1_000_000
         → AnswersCount result (length as')) }
-    ensures refuses { IfSome (R.left source.old) (λ s. (as' : List Apdu) (rest : List ℕ) (f : Fault) → IsStream profile_two s as' rest
-        → length as' < 1_000_000 → 0 < length rest → OnlyRefuses profile_two rest f → AnswersRefusedAfter result (length as') f) }
-    ensures too_many { IfSome (R.left source.old) (λ s. (as' : List Apdu) (rest : List ℕ) → IsStream profile_two s as' rest
+    ensures refuses { IfSome (R.left source.old)
+        (λ s. (as' : List Apdu) (rest : List ℕ) (f : Fault) → IsStream profile_two s as' rest
+        → length as' < 1_000_000 → 0 < length rest → OnlyRefuses profile_two rest f
+        → AnswersRefusedAfter result (length as') f) }
+    ensures too_many { IfSome (R.left source.old)
+        (λ s. (as' : List Apdu) (rest : List ℕ) → IsStream profile_two s as' rest
         → length as' ≡ 1_000_000 → 0 < length rest → AnswersTooMany result) }
     ensures source_stays { IsTrue (R.is_broken source.old) → IsTrue (R.is_broken source.new) }
     ensures sink_stays { IsTrue (W.is_broken sink.old) → IsTrue (W.is_broken sink.new) }
@@ -150,16 +157,24 @@ pub fn normalise_stream_as<R: Source, W: Sink>(
     sink: &mut W,
 ) -> Result<u32, StreamFailure>
     // The input was this number of messages and nothing else, and their normal forms were written.
-    ensures streamed { IfOk result (λ whole. (before : ℕ) × PassesIn (profile_of profile) (R.left source.old) (R.left source.new)
-        (W.contents sink.old) (W.contents sink.new) whole before × IsAtEnd (R.left source.new) × (whole ≤ 1_000_000)) }
-    ensures stops { IfErr result (StopsAfterIn (profile_of profile) (taking (R.left source.old) (R.left source.new) (R.is_broken source.new))
+    ensures streamed { IfOk result (λ whole. (before : ℕ)
+        × PassesIn (profile_of profile) (R.left source.old) (R.left source.new)
+        (W.contents sink.old) (W.contents sink.new) whole before × IsAtEnd (R.left source.new)
+        × (whole ≤ 1_000_000)) }
+    ensures stops { IfErr result (StopsAfterIn (profile_of profile)
+        (taking (R.left source.old) (R.left source.new) (R.is_broken source.new))
         (putting (W.contents sink.old) (W.contents sink.new) (W.is_broken sink.new))) }
     // A stream of messages is normalised, unless they are too many or what follows is refused.
-    ensures accepts { IfSome (R.left source.old) (λ s. (as' : List Apdu) → IsStream (profile_of profile) s as' [] → length as' ≤ 1_000_000
+    ensures accepts { IfSome (R.left source.old)
+        (λ s. (as' : List Apdu) → IsStream (profile_of profile) s as' [] → length as' ≤ 1_000_000
         → AnswersCount result (length as')) }
-    ensures refuses { IfSome (R.left source.old) (λ s. (as' : List Apdu) (rest : List ℕ) (f : Fault) → IsStream (profile_of profile) s as' rest
-        → length as' < 1_000_000 → 0 < length rest → OnlyRefuses (profile_of profile) rest f → AnswersRefusedAfter result (length as') f) }
-    ensures too_many { IfSome (R.left source.old) (λ s. (as' : List Apdu) (rest : List ℕ) → IsStream (profile_of profile) s as' rest
+    ensures refuses { IfSome (R.left source.old)
+        (λ s. (as' : List Apdu) (rest : List ℕ) (f : Fault)
+        → IsStream (profile_of profile) s as' rest
+        → length as' < 1_000_000 → 0 < length rest → OnlyRefuses (profile_of profile) rest f
+        → AnswersRefusedAfter result (length as') f) }
+    ensures too_many { IfSome (R.left source.old)
+        (λ s. (as' : List Apdu) (rest : List ℕ) → IsStream (profile_of profile) s as' rest
         → length as' ≡ 1_000_000 → 0 < length rest → AnswersTooMany result) }
     ensures source_stays { IsTrue (R.is_broken source.old) → IsTrue (R.is_broken source.new) }
     ensures sink_stays { IsTrue (W.is_broken sink.old) → IsTrue (W.is_broken sink.new) }

@@ -1,4 +1,4 @@
-//! What each APDU begins with.
+//! The rows that each APDU begins with.
 ghost use Rattle.std.specs.Prelude.{◌≡◌, ◌++◌, IfOk, OnOk, [], Some, drop, option_map};
 ghost use Rattle.ill_schema.specs.declared.node.Kind.{Kind};
 ghost use Rattle.ill_schema.specs.declared.node.NodeId.TheVariants.{Integer, TransactionId as TransactionNode, ServiceDateTime as TimeNode, SystemId as SystemNode};
@@ -37,11 +37,16 @@ pub fn read_head(alloc: Global, entries: &[Option<Value>]) -> Result<Head, Alloc
     requires time { Must (Is TimeNode) (entry_at entries.now 2) }
     requires requester { May (Is SystemNode) (entry_at entries.now 3) }
     requires responder { May (Is SystemNode) (entry_at entries.now 4) }
-    ensures version { IfOk result (λ h. Some (number_content h.protocol_version_num) ≡ entry_at entries.now 0) }
-    ensures transaction { IfOk result (λ h. Some (transaction_id h.transaction_id) ≡ entry_at entries.now 1) }
-    ensures time { IfOk result (λ h. Some (service_date_time h.service_date_time) ≡ entry_at entries.now 2) }
-    ensures requester { IfOk result (λ h. option_map system_id h.requester_id ≡ entry_at entries.now 3) }
-    ensures responder { IfOk result (λ h. option_map system_id h.responder_id ≡ entry_at entries.now 4) }
+    ensures version { IfOk result (λ h. Some (number_content h.protocol_version_num) ≡ entry_at
+        entries.now 0) }
+    ensures transaction { IfOk result (λ h. Some (transaction_id h.transaction_id) ≡ entry_at
+        entries.now 1) }
+    ensures time { IfOk result (λ h. Some (service_date_time h.service_date_time) ≡ entry_at
+        entries.now 2) }
+    ensures requester { IfOk result (λ h. option_map system_id h.requester_id ≡ entry_at entries.now
+        3) }
+    ensures responder { IfOk result (λ h. option_map system_id h.responder_id ≡ entry_at entries.now
+        4) }
 {
     let protocol_version_num = required(alloc, entries, 0)?;
     let transaction = both(required(alloc, entries, 1), required(alloc, entries, 2));

@@ -11,9 +11,9 @@ pub struct RequesterOptionalMessages {
     pub can_send_received: bool,
     /// True if it can send RETURNED (row 1).
     pub can_send_returned: bool,
-    /// Whether it wants SHIPPED: 1 requires, 2 desires, 3 neither (row 2).
+    /// The wish for SHIPPED: 1 requires, 2 desires, 3 neither (row 2).
     pub requester_shipped: i64,
-    /// Whether it wants CHECKED-IN: 1 requires, 2 desires, 3 neither (row 3).
+    /// The wish for CHECKED-IN: 1 requires, 2 desires, 3 neither (row 3).
     pub requester_checked_in: i64,
 }
 
@@ -76,9 +76,9 @@ pub struct ResponderOptionalMessages {
     pub can_send_shipped: bool,
     /// True if it can send CHECKED-IN (row 1).
     pub can_send_checked_in: bool,
-    /// Whether it wants RECEIVED: 1 requires, 2 desires, 3 neither (row 2).
+    /// The wish for RECEIVED: 1 requires, 2 desires, 3 neither (row 2).
     pub responder_received: i64,
-    /// Whether it wants RETURNED: 1 requires, 2 desires, 3 neither (row 3).
+    /// The wish for RETURNED: 1 requires, 2 desires, 3 neither (row 3).
     pub responder_returned: i64,
 }
 

@@ -1,4 +1,4 @@
-//! How a request is searched.
+//! Search-Type: the way in which a request is searched.
 use ber_leaf::{DateText, IllString};
 use ill_schema::{NodeId, Value};
 use ill_typed::{

@@ -1,4 +1,4 @@
-//! What was supplied.
+//! Parts about the supply of an item.
 use crate::cost::Amount;
 use crate::delivery::ShippedVia;
 use crate::medium::UnitsPerMedium;

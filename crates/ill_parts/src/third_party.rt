@@ -1,4 +1,4 @@
-//! What third parties may do.
+//! Third-Party-Info-Type: the rights of third parties.
 use crate::address::SystemAddress;
 use crate::party::SystemId;
 use ber_leaf::IllString;
@@ -83,9 +83,9 @@ pub struct ThirdPartyInfo {
     pub permission_to_change_send_to_list: bool,
     /// The address of the party that began the transaction (row 4).
     pub initial_requester_address: Option<SystemAddress>,
-    /// Whether those to ask have an order: 1 ordered, 2 unordered (row 5, by default 2).
+    /// The order of those to ask: 1 ordered, 2 unordered (row 5, by default 2).
     pub preference: i64,
-    /// Whom to ask (row 6).
+    /// Those to ask (row 6).
     pub send_to_list: Option<Vec<SendTo>>,
     /// Who was asked before (row 7).
     pub already_tried_list: Option<Vec<SystemId>>,

@@ -33,7 +33,7 @@ use Rattle.ill_grammar.specs.declared.due.Slot.{Slot}
 use Rattle.ill_grammar.specs.declared.due.Slot.TheVariants.{Row as AtRow, Item, Inner as Inside, Segment as InString, Foreign as InForeign}
 use Rattle.ill_grammar.specs.declared.element.Element.{Element as CodeElement}
 use Rattle.ill_grammar.specs.declared.element.Element.TheVariants.{Leaf, Sequence, List as ListOf, Wrapper, LooseWrapper, Segment, ModuleLeaf, BitString, BitSegment, Foreign}
-use Rattle.ill_grammar.specs.Found.{Found}
+use Rattle.ill_grammar.specs.Begun.{Begun}
 use Rattle.ill_grammar.specs.declared.element.Wrapped.{Wrapped}
 use Rattle.ill_grammar.proofs.Entries.{row_added, item_added}
 use Rattle.ill_grammar.proofs.Meanings.{begun_means, begun_proper, row_means}
@@ -41,7 +41,7 @@ use Rattle.ill_refusals.proofs.OpenElements.{row_proper}
 use Rattle.ill_refusals.proofs.WholeElements.{IsProperComponent}
 
 -- in the rows of a sequence
-in_row : (p : Named) (T : Tree) (node : NodeId) (n r : ℕ) (alt : Option ℕ) (f : Found) (c : Content) (held : List (Option Content)) (ts : Trees) → IsRowDue (tag_of T) node n r alt f → IsValueOf p (found_is f) c T
+in_row : (p : Named) (T : Tree) (node : NodeId) (n r : ℕ) (alt : Option ℕ) (f : Begun) (c : Content) (held : List (Option Content)) (ts : Trees) → IsRowDue (tag_of T) node n r alt f → IsValueOf p (found_is f) c T
     → Matches (profile_of p) (entries_of held) (take n (rows_of node)) ts
     → Matches (profile_of p) (entries_of (held ++ (map absent_content (drop n (take r (rows_of node))) ++ Some (with_alternative alt c) ∷ []))) (take (r + 1) (rows_of node)) (snoc ts T)
 in_row p T node n r alt f c held ts h m k =
@@ -83,7 +83,7 @@ held_added p Segment Segments entries ts T slot alt el c h d m = absurd (subst (
 held_added p (Sequence node) (Rows own n) entries ts T (AtRow r) alt el c h d m = (
   h.0,
   subst (λ x. Matches (profile_of p) (entries_of (entries ++ (map absent_content (drop n (take r (rows_of own))) ++ Some (with_alternative alt c) ∷ []))) (take (r + 1) (rows_of x)) (snoc ts T)) h.0
-      (in_row p T own n r alt (Found.Element el) c entries ts d m (subst (λ x. Matches (profile_of p) (entries_of entries) (take n (rows_of x)) ts) (sym h.0) h.1)),
+      (in_row p T own n r alt (Begun.Element el) c entries ts d m (subst (λ x. Matches (profile_of p) (entries_of entries) (take n (rows_of x)) ts) (sym h.0) h.1)),
 )
 held_added p (Sequence node) (Rows own n) entries ts T _ alt el c h d m = absurd d
 held_added p (ListOf node) (Items own) entries ts T slot alt el c h d m = (
@@ -104,7 +104,7 @@ held_added p (LooseWrapper w) (Either own) entries ts T (AtRow r) alt el c h (in
       subst (λ xs. Matches (profile_of p) (entries_of (xs ++ (map absent_content (drop 0 (take r (rows_of own.node))) ++ Some (with_alternative alt c) ∷ []))) (take (r + 1) (rows_of w.node)) (snoc ts T)) (sym h.1)
       (subst (λ us. Matches (profile_of p) (entries_of (map absent_content (drop 0 (take r (rows_of own.node))) ++ Some (with_alternative alt c) ∷ [])) (take (r + 1) (rows_of w.node)) (snoc us T)) (sym h.2)
       (subst (λ x. Matches (profile_of p) (entries_of (map absent_content (drop 0 (take r (rows_of own.node))) ++ Some (with_alternative alt c) ∷ [])) (take (r + 1) (rows_of x)) (snoc none T)) same
-      (in_row p T own.node 0 r alt (Found.Element el) c [] none d.1 m refl))),
+      (in_row p T own.node 0 r alt (Begun.Element el) c [] none d.1 m refl))),
 )
 held_added p (LooseWrapper w) (Either own) entries ts T Inside alt el c h (inl d) m =
     let part = in_wrapper p T w (due_with Inside alt el) c (subst (λ x. IsInnerDue (tag_of T) x (due_with Inside alt el)) h.0 d.1) m in
@@ -117,7 +117,7 @@ held_added p (LooseWrapper w) (Either own) entries ts T _ alt el c h (inr d) m =
 held_added p (LooseWrapper w) (Rows own n) entries ts T (AtRow r) alt el c h d m = (
   h.0,
   subst (λ x. Matches (profile_of p) (entries_of (entries ++ (map absent_content (drop n (take r (rows_of own))) ++ Some (with_alternative alt c) ∷ []))) (take (r + 1) (rows_of x)) (snoc ts T)) h.0
-      (in_row p T own n r alt (Found.Element el) c entries ts d m (subst (λ x. Matches (profile_of p) (entries_of entries) (take n (rows_of x)) ts) (sym h.0) h.1)),
+      (in_row p T own n r alt (Begun.Element el) c entries ts d m (subst (λ x. Matches (profile_of p) (entries_of entries) (take n (rows_of x)) ts) (sym h.0) h.1)),
 )
 held_added p (LooseWrapper w) (Rows own n) entries ts T _ alt el c h d m = absurd d
 held_added p (LooseWrapper w) Nothing entries ts T slot alt el c h d m = absurd d
@@ -138,10 +138,10 @@ held_added p _ _ entries ts T slot alt el c h d m = absurd h
 
 -- ---- what is due for a tree is one thing: its slot, and the value that it gives
 
-one_begun : (p : Named) (T : Tree) (w : Component) (a b : Option ℕ) (el : CodeElement) (c : Content) → IsProperComponent profile_two w → IsBegun (tag_of T) w a (Found.Element el) → IsBegun (tag_of T) w b (Found.Element el)
+one_begun : (p : Named) (T : Tree) (w : Component) (a b : Option ℕ) (el : CodeElement) (c : Content) → IsProperComponent profile_two w → IsBegun (tag_of T) w a (Begun.Element el) → IsBegun (tag_of T) w b (Begun.Element el)
     → IsValueOf p (element_is el) c T → with_alternative a c ≡ with_alternative b c
 one_begun p T w a b el c ok h k v =
-    means_unique (profile_of p) _ _ w.node w.tagging T ok.proper ((begun_means p w a (Found.Element el) c T ok h v).1) ((begun_means p w b (Found.Element el) c T ok k v).1)
+    means_unique (profile_of p) _ _ w.node w.tagging T ok.proper ((begun_means p w a (Begun.Element el) c T ok h v).1) ((begun_means p w b (Begun.Element el) c T ok k v).1)
 
 -- the row of the component that is due
 abbrev row_due : Option next.Due → ℕ
@@ -155,8 +155,8 @@ one_row p T node n (AtRow q) (AtRow r) a b el c h k v =
     let is : Some h.row ≡ Some k.row = sym h.is_row ∙ ap (slice_get (rows_of node)) row ∙ k.is_row in
     let same : k.row ≡ h.row = cc in (
       ap AtRow row,
-      means_unique (profile_of p) _ _ h.row.node (tagging profile_two h.row) T (row_proper node q h.row h.is_row).proper ((row_means p T node n q a (Found.Element el) c h v).1)
-          (subst (λ (x : Row). Means (profile_of p) (with_alternative b c) x.node (tagging profile_two x) T) same ((row_means p T node n r b (Found.Element el) c k v).1)),
+      means_unique (profile_of p) _ _ h.row.node (tagging profile_two h.row) T (row_proper node q h.row h.is_row).proper ((row_means p T node n q a (Begun.Element el) c h v).1)
+          (subst (λ (x : Row). Means (profile_of p) (with_alternative b c) x.node (tagging profile_two x) T) same ((row_means p T node n r b (Begun.Element el) c k v).1)),
     )
 one_row p T node n (AtRow q) _ a b el c h k v = absurd k
 one_row p T node n _ t a b el c h k v = absurd h
@@ -164,13 +164,13 @@ one_row p T node n _ t a b el c h k v = absurd h
 pub one_due : (p : Named) (T : Tree) (n : Next) (s t : Slot) (a b : Option ℕ) (el : CodeElement) (c : Content) → IsDueIn (tag_of T) n (due_with s a el) → IsDueIn (tag_of T) n (due_with t b el)
     → IsValueOf p (element_is el) c T → (s ≡ t) × (with_alternative a c ≡ with_alternative b c)
 one_due p T (Rows node n) s t a b el c h k v = one_row p T node n s t a b el c h k v
-one_due p T (Inner w) s t a b el c h k v = (h.slot ∙ sym k.slot, one_begun p T (component_of w) a b el c (begun_proper (tag_of T) w a (Found.Element el) h.begun) h.begun k.begun v)
+one_due p T (Inner w) s t a b el c h k v = (h.slot ∙ sym k.slot, one_begun p T (component_of w) a b el c (begun_proper (tag_of T) w a (Begun.Element el) h.begun) h.begun k.begun v)
 one_due p T (Items node) s t a b el c h k v =
     let is : Some k.row ≡ Some h.row = sym k.is_row ∙ h.is_row in
     let same : k.row ≡ h.row = cc in
     let at : Row → Component = component_at (record { node = node; row = 0 }) in
-    (h.slot ∙ sym k.slot, one_begun p T (at h.row) a b el c (row_proper node 0 h.row h.is_row) h.begun (subst (λ (x : Row). IsBegun (tag_of T) (at x) b (Found.Element el)) same k.begun) v)
-one_due p T (Either w) s t a b el c (inl h) (inl k) v = (h.1.slot ∙ sym k.1.slot, one_begun p T (component_of w) a b el c (begun_proper (tag_of T) w a (Found.Element el) h.1.begun) h.1.begun k.1.begun v)
+    (h.slot ∙ sym k.slot, one_begun p T (at h.row) a b el c (row_proper node 0 h.row h.is_row) h.begun (subst (λ (x : Row). IsBegun (tag_of T) (at x) b (Begun.Element el)) same k.begun) v)
+one_due p T (Either w) s t a b el c (inl h) (inl k) v = (h.1.slot ∙ sym k.1.slot, one_begun p T (component_of w) a b el c (begun_proper (tag_of T) w a (Begun.Element el) h.1.begun) h.1.begun k.1.begun v)
 one_due p T (Either w) s t a b el c (inr h) (inr k) v = one_row p T w.node 0 s t a b el c h.1 k.1 v
 one_due p T (Either w) s t a b el c (inl h) (inr k) v = absurd (let q : true ≡ false = sym h.0 ∙ k.0 in cc)
 one_due p T (Either w) s t a b el c (inr h) (inl k) v = absurd (let q : false ≡ true = sym h.0 ∙ k.0 in cc)

@@ -27,7 +27,7 @@ use Rattle.ill_refusals.specs.Fault.{fault, element_fault, string_fault}
 use Rattle.ill_refusals.specs.Place.{Open, next_in}
 use Rattle.ill_refusals.specs.code.Judge.{Judgement, closes, or_faulty}
 use Rattle.ill_refusals.specs.code.Step.{moved}
-use Rattle.ill_grammar.specs.Places.{alternative_of, where_of}
+use Rattle.ill_grammar.specs.Places.{alternative_of, place_view}
 use Rattle.ill_grammar.specs.Elements.{element_is}
 use Rattle.ill_read.specs.code.Drafts.{ChecksText, HasClosed, IsNoSegment, IsRightText, with_entry}
 use Rattle.ill_grammar.specs.Due.{due_with}
@@ -141,7 +141,7 @@ right_text p _ text h = refl
 pub element_closed : {D : Type 0} (p : Named) (holds : D → List Level → List ℕ → Type 0) (old : Path D) (shorter : List Frame) (f : Frame) (middle : D) (new : Path D) (place : List Open) (marks at : ℕ) (rest : List ℕ)
     (j : Judgement) (result : Bool) → HoldsAt p holds old place → IsEnd p place marks j → shorter ≡ take (length old.frames.open.items - 1) old.frames.open.items
     → slice_get old.frames.open.items (length old.frames.open.items - 1) ≡ Some f → IsNoSegment (read_as f.found) → ((x : ⊤) → ChecksText p holds old.draft f (Ok x)) → HasClosed p holds old.draft f (next_at p shorter) middle
-    → (after : Place) → where_of after ≡ next_place f.found → GoesOn after shorter new.frames.open.items result → new.frames.profile ≡ old.frames.profile → new.draft ≡ middle → IsStep p holds new (Ok result) (moved j place at rest)
+    → (after : Place) → place_view after ≡ next_place f.found → GoesOn after shorter new.frames.open.items result → new.frames.profile ≡ old.frames.profile → new.draft ≡ middle → IsStep p holds new (Ok result) (moved j place at rest)
 element_closed p holds old shorter f middle new place marks at rest j result stands end frames last apart checks closed after there goes same draft =
     let o = end.innermost in
     let path = end.outer in

@@ -29,7 +29,7 @@ use Rattle.ill_grammar.specs.declared.due.Next.{Next}
 use Rattle.ill_grammar.specs.declared.due.Slot.{Slot}
 use Rattle.ill_grammar.specs.declared.element.Element.{Element as CodeElement}
 use Rattle.ill_grammar.specs.declared.element.Element.TheVariants.{Segment, BitSegment}
-use Rattle.ill_grammar.specs.Found.{Found}
+use Rattle.ill_grammar.specs.Begun.{Begun}
 use Rattle.ill_grammar.specs.declared.frame.Frame.{Frame}
 use Rattle.ill_read.specs.declared.path.Path.{Path}
 use Rattle.ill_read.proofs.AddedEntries.{held_added}
@@ -79,7 +79,7 @@ entry_added p holds frames levels new [] slot alt el c T at rest true same h d a
     let next : top p ≡ next_at p frames = sym (ap (next_at p) h.0) in
     let due : IsDueIn (tag_of T) (top p) (due_with slot alt el) = subst (λ n. IsDueIn (tag_of T) n (due_with slot alt el)) (sym next) d in
     let x = given (top_level p) [] h.1 (record { trees = none; held = (refl, refl, refl); next = next; is_due = due }) in
-    let q = begun_means p (component_of (top_part p)) alt (Found.Element el) c T (inner_proper profile_two (component_of (top_part p)) refl refl (λ e. let q : Kind.Choice ≡ Kind.Any = sym (root_choice p) ∙ e in cc)) due.begun x.0 in
+    let q = begun_means p (component_of (top_part p)) alt (Begun.Element el) c T (inner_proper profile_two (component_of (top_part p)) refl refl (λ e. let q : Kind.Choice ≡ Kind.Any = sym (root_choice p) ∙ e in cc)) due.begun x.0 in
     (with_alternative alt c, x.1, q.1)
 entry_added p holds frames levels new (o ∷ path) slot alt el c T at rest true same h d apart after on goes given =
     absurd (let q : h.0 ++ h.1 ∷ [] ≡ [] = sym h.4 ∙ goes.0 in some_frame h.0 h.1 q)

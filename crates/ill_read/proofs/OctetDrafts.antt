@@ -422,6 +422,7 @@ usual_form (Sequence node) h = refl
 usual_form (ListOf node) h = refl
 usual_form (Wrapper w) h = refl
 usual_form (LooseWrapper w) h = refl
+usual_form (Foreign levels) h = refl
 usual_form _ h = absurd cc
 
 pub not_segment : (e : CodeElement) → IsTrue (is_usual e true) → e ≡ Segment → ⊥

@@ -15,7 +15,7 @@ use Rattle.ber_leaf.specs.Leaf.{Leaf as LeafKind, bit_string}
 use Rattle.std.proofs.Common.{◌⊎◌, ap₂}
 use Rattle.std.proofs.Math.Seq.{drop-append_seam}
 use Rattle.ill_grammar.specs.Contents.{IsValueOf}
-use Rattle.ill_grammar.specs.Found.{Found}
+use Rattle.ill_grammar.specs.Begun.{Begun}
 use Rattle.ill_grammar.specs.LeafTypes.{IsContentIn, module_leaf_is}
 use Rattle.ill_grammar.specs.Standing.{level_of, top_part}
 use Rattle.ill_grammar.proofs.DueTags.{AwaitsForeign, IsForeign, awaited, foreign_due}
@@ -201,7 +201,7 @@ open_awaits : (p : Named) (e : CodeElement) (n : Next) (entries : List (Option C
 open_awaits p (Foreign m) (Foreigns k) entries ts t s a el q h d = tt
 open_awaits p (Foreign m) _ entries ts t s a el q h d = absurd h
 open_awaits p (Wrapper w) (Root same) entries ts t s a el q h d = d.0
-open_awaits p (Wrapper w) (Inner same) entries ts t s a el q h d = absurd (closed t same a (Found.Element el) d.begun (subst (λ (x : Wrapped). kind_of x.node ≡ Kind.Any) (sym h.0) (any_is (kind_of w.node) q)))
+open_awaits p (Wrapper w) (Inner same) entries ts t s a el q h d = absurd (closed t same a (Begun.Element el) d.begun (subst (λ (x : Wrapped). kind_of x.node ≡ Kind.Any) (sym h.0) (any_is (kind_of w.node) q)))
 open_awaits p (Wrapper w) Nothing entries ts t s a el q h d = absurd d
 open_awaits p (Wrapper w) _ entries ts t s a el q h d = absurd h
 open_awaits p _ n entries ts t s a el q h d = absurd cc

@@ -27,7 +27,7 @@ use Rattle.ill_refusals.specs.Fault.{element_fault}
 use Rattle.ill_refusals.specs.Place.{Open, allows}
 use Rattle.ill_refusals.specs.code.Judge.{Judgement, or_faulty, reads}
 use Rattle.ill_refusals.specs.code.Step.{Step, moved}
-use Rattle.ill_grammar.specs.Places.{alternative_of, where_of}
+use Rattle.ill_grammar.specs.Places.{alternative_of, place_view}
 use Rattle.ill_grammar.specs.Elements.{element_is}
 use Rattle.ill_grammar.specs.declared.place.Place.{Place}
 use Rattle.ill_grammar.specs.Due.{IsDueIn, behind, read_as, shape_at, slot_in, next_place}
@@ -64,7 +64,7 @@ element_read : {D : Type 0} (p : Named) (holds : D → List Level → List ℕ �
     → (shape_at (next_place r.found) ≡ behind (next_at p old.frames.open.items) (slot_in r.found) → (l : Level) (below : List Level) → holds old.draft (l ∷ below) []
     → IsDueAt p l (next_at p old.frames.open.items) (tag_of_id r.id) (slot_in r.found) (alternative_of r.found) (read_as r.found)
     → holds new.draft (with_entry l (slot_in r.found) (with_alternative (alternative_of r.found) c) ∷ below) [])
-    → new.frames.profile ≡ old.frames.profile → (after : Place) → where_of after ≡ next_place r.found → GoesOn after old.frames.open.items new.frames.open.items result
+    → new.frames.profile ≡ old.frames.profile → (after : Place) → place_view after ≡ next_place r.found → GoesOn after old.frames.open.items new.frames.open.items result
     → IsStep p holds new (Ok result) (content_read p (read_as r.found) place (tag_of_id r.id) header octets start at rest)
 element_read p holds old new place r c start octets result header at rest stands begin whole sound value has kept after there goes =
     let tag = tag_of_id r.id in
@@ -83,7 +83,7 @@ element_read p holds old new place r c start octets result header at rest stands
 pub leaf_read : {D : Type 0} (p : Named) (holds : D → List Level → List ℕ → Type 0) (old new : Path D) (place : List Open) (r : Reading) (l : LeafType) (start : ℕ) (octets : List ℕ) (result : Bool) (header at : ℕ) (rest : List ℕ)
     → HoldsAt p holds old place → IsBegin old.frames place (tag_of_id r.id) r.found false → read_as r.found ≡ Leaf l → IsContentIn p (leaf_is l) octets
     → HasLeaf p holds old.draft (next_at p old.frames.open.items) r l octets new.draft
-    → new.frames.profile ≡ old.frames.profile → (after : Place) → where_of after ≡ next_place r.found → GoesOn after old.frames.open.items new.frames.open.items result
+    → new.frames.profile ≡ old.frames.profile → (after : Place) → place_view after ≡ next_place r.found → GoesOn after old.frames.open.items new.frames.open.items result
     → IsStep p holds new (Ok result) (content_read p (read_as r.found) place (tag_of_id r.id) header octets start at rest)
 leaf_read p holds old new place r l start octets result header at rest stands begin is right has kept after there goes =
     let c = simple (value (leaf_is l) octets) in
@@ -116,7 +116,7 @@ primitive_means p _ tag octets c tagged right is = absurd is
 pub module_element_read : {D : Type 0} (p : Named) (holds : D → List Level → List ℕ → Type 0) (old new : Path D) (place : List Open) (r : Reading) (start : ℕ) (octets : List ℕ) (result : Bool) (header at : ℕ) (rest : List ℕ)
     → HoldsAt p holds old place → IsBegin old.frames place (tag_of_id r.id) r.found false → IsModuleElement (read_as r.found) → IsRightContent p (read_as r.found) octets
     → HasModuleElement p holds old.draft (next_at p old.frames.open.items) r octets new.draft
-    → new.frames.profile ≡ old.frames.profile → (after : Place) → where_of after ≡ next_place r.found → GoesOn after old.frames.open.items new.frames.open.items result
+    → new.frames.profile ≡ old.frames.profile → (after : Place) → place_view after ≡ next_place r.found → GoesOn after old.frames.open.items new.frames.open.items result
     → IsStep p holds new (Ok result) (content_read p (read_as r.found) place (tag_of_id r.id) header octets start at rest)
 module_element_read p holds old new place r start octets result header at rest stands begin other right has kept after there goes =
     let tag = tag_of_id r.id in

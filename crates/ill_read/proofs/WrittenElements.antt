@@ -33,7 +33,7 @@ use Rattle.ill_grammar.specs.declared.due.Slot.{Slot}
 use Rattle.ill_grammar.specs.declared.due.Slot.TheVariants.{Row as AtRow, Item, Inner as Inside, Segment as InString, Foreign as InForeign}
 use Rattle.ill_grammar.specs.declared.element.Element.{Element as CodeElement}
 use Rattle.ill_grammar.specs.declared.element.Element.TheVariants.{Leaf as LeafElement, Sequence, List as ListOf, Wrapper, LooseWrapper, Segment, ModuleLeaf, BitString, BitSegment, Foreign}
-use Rattle.ill_grammar.specs.Found.{Found}
+use Rattle.ill_grammar.specs.Begun.{Begun}
 use Rattle.ill_grammar.specs.declared.element.Wrapped.{Wrapped}
 use Rattle.std.proofs.lemmas.Option.{slice_get_within}
 use Rattle.ill_grammar.proofs.NormalElements.{row_normal, item_normal, inner_normal}
@@ -58,7 +58,7 @@ entry_is row o c U e n =
     ∙ sym (ap (λ x. elim (elim x as (λ _. Bool) [ Some y ↦ is_default y c | None ↦ false ]) as (λ _. List ℕ) [ true ↦ [] | false ↦ encoding U ]) e)
 
 -- in the rows of a sequence
-row_written : (p : Named) (T : Tree) (node : NodeId) (n r : ℕ) (alt : Option ℕ) (el : CodeElement) (c : Content) (entries : List (Option Content)) (ts : Trees) → IsRowDue (tag_of T) node n r alt (Found.Element el)
+row_written : (p : Named) (T : Tree) (node : NodeId) (n r : ℕ) (alt : Option ℕ) (el : CodeElement) (c : Content) (entries : List (Option Content)) (ts : Trees) → IsRowDue (tag_of T) node n r alt (Begun.Element el)
     → IsValueOf p (element_is el) c T → Matches (profile_of p) (entries_of entries) (take n (rows_of node)) ts
     → encodings (normal_trees (entries_of (entries ++ (map absent_content (drop n (take r (rows_of node))) ++ Some (with_alternative alt c) ∷ []))) (rows_of node))
     ≡ encodings (normal_trees (entries_of entries) (rows_of node)) ++ unless_left (Rows node n) (AtRow r) (with_alternative alt c) (encoding (normal_element (element_is el) (tag_of T) c))
@@ -69,7 +69,7 @@ row_written p T node n r alt el c entries ts d m h =
     let size : length entries ≡ n = matches_length p entries (take n rows) ts h ∙ length-take-le n rows (omega (arith, behind, below)) in
     normal_added rows n r d.row entries (with_alternative alt c) size d.behind d.is_row
     ∙ ap (λ x. encodings (normal_trees (entries_of entries) rows) ++ x)
-    (entry_is d.row (slice_get rows r) (with_alternative alt c) _ d.is_row (row_normal p (tag_of T) node n r alt (Found.Element el) c T d m))
+    (entry_is d.row (slice_get rows r) (with_alternative alt c) _ d.is_row (row_normal p (tag_of T) node n r alt (Begun.Element el) c T d m))
 
 -- in a wrapper
 part_written : (p : Named) (T : Tree) (w : Wrapped) (slot : Slot) (alt : Option ℕ) (el : CodeElement) (c : Content) → IsInnerDue (tag_of T) w (due_with slot alt el) → IsValueOf p (element_is el) c T

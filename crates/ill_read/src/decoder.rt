@@ -27,7 +27,7 @@ pub struct Decoder {
 impl fmt::Debug for Decoder {
     fn fmt<W: fmt::Write>(&self, f: &mut fmt::Formatter<W>) -> fmt::Result {
         f.debug_struct("Decoder")
-            .field("at", &self.reader.at())
+            .field("at", &self.reader.offset())
             .field("pending", &self.reader.pending_len())
             .finish_non_exhaustive()
     }
@@ -59,7 +59,8 @@ impl Decoder {
     pub fn need(&self) -> u32
         ensures needs { Needs self.now result }
         ensures some { (fed : List ℕ) → IsOpenAfter self.now fed → 0 < result }
-        ensures at_least { (fed more : List ℕ) (a : Apdu) (n : ℕ) → IsOpenAfter self.now fed → IsTrue (are_octets (fed ++ more))
+        ensures at_least { (fed more : List ℕ) (a : Apdu) (n : ℕ) → IsOpenAfter self.now fed
+            → IsTrue (are_octets (fed ++ more))
             → Accepts profile_two (fed ++ more) a n → length fed + result ≤ n }
     {
         self.reader.need()
@@ -84,13 +85,17 @@ impl Decoder {
     #[inline(always)]
     pub fn feed(&mut self, piece: &[u8]) -> Result<Progress, Failure>
         requires { MayTake self.old piece.now }
-        ensures open { (fed : List ℕ) → IsOpenAfter self.old fed → FeedsTo self.new (fed ++ piece.now) result }
-        ensures done { (fed : List ℕ) (a : Apdu) → IsOpenAfter self.old fed → SpellsApdu profile_two a (fed ++ piece.now) → IsDone result }
-        ensures whole { (m : Message) → IsWholeWith self.old m → (result ≡ Ok Progress.Done) × (self.new ≡ self.old) }
-        ensures failed { (failure : Failure) → HasFailedWith self.old failure → (result ≡ Err failure) × (self.new ≡ self.old) }
+        ensures open { (fed : List ℕ) → IsOpenAfter self.old fed
+            → FeedsTo self.new (fed ++ piece.now) result }
+        ensures done { (fed : List ℕ) (a : Apdu) → IsOpenAfter self.old fed
+            → SpellsApdu profile_two a (fed ++ piece.now) → IsDone result }
+        ensures whole { (m : Message) → IsWholeWith self.old m → (result ≡ Ok Progress.Done)
+            × (self.new ≡ self.old) }
+        ensures failed { (failure : Failure) → HasFailedWith self.old failure
+            → (result ≡ Err failure) × (self.new ≡ self.old) }
         ensures few { open_in self.new ≤ 32 }
     {
-        self.reader.take(piece);
+        self.reader.read_piece(piece);
         match self.reader.state() {
             State::Failed(failure) => Err(failure),
             State::Whole => Ok(Progress::Done),

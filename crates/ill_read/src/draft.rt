@@ -1,4 +1,4 @@
-//! What is made of a message while its elements are read.
+//! Drafts: results that are built while the elements of a message are read.
 ghost use Rattle.std.specs.Prelude.{◌≡◌, ℕ, List, true, IfOk, IsTrue, OnOk};
 ghost use Rattle.ill_schema.specs.Apdu.{Apdu};
 ghost use Rattle.ill_schema.specs.declared.profile.Profile.{Profile as Named};
@@ -35,9 +35,10 @@ pub trait Draft: Drop {
     ) -> Result<usize, AllocError>
         requires takes { takes profile }
         requires is_of { IsTrue (is_found_of profile opening.found) }
-        ensures { IfOk result (λ contents_start. HasOpened holds self.old (shape place) opening contents_start self.new) };
+        ensures { IfOk result (λ contents_start. HasOpened holds self.old (shape place) opening
+            contents_start self.new) };
 
-    /// A usual element opens, at this place: a SEQUENCE, a SEQUENCE OF or an explicit tag.
+    /// A usual element opens, at this place: a SEQUENCE, a SEQUENCE OF, an explicit tag or an element of a foreign tree.
     fn open_usual(
         &mut self,
         profile: Profile,
@@ -47,7 +48,8 @@ pub trait Draft: Drop {
         requires takes { takes profile }
         requires is_of { IsTrue (is_found_of profile opening.found) }
         requires usual { IsTrue (is_usual (read_as opening.found) true) }
-        ensures { IfOk result (λ contents_start. HasOpened holds self.old (shape place) opening contents_start self.new) };
+        ensures { IfOk result (λ contents_start. HasOpened holds self.old (shape place) opening
+            contents_start self.new) };
 
     /// More octets of the string that is open.
     fn text(&mut self, octets: &[u8]) -> Result<(), AllocError>
@@ -71,7 +73,8 @@ pub trait Draft: Drop {
     ) -> Result<(), AllocError>
         requires takes { takes profile }
         requires content { IsContentIn profile (leaf_is leaf) content.now }
-        ensures { OnOk result (HasLeaf profile holds self.old (shape place) reading leaf content.now self.new) };
+        ensures { OnOk result (HasLeaf profile holds self.old (shape place) reading leaf content.now
+            self.new) };
 
     /// A primitive element that only the module profile has, at this place.
     fn module_element(
@@ -85,7 +88,8 @@ pub trait Draft: Drop {
         requires is_of { IsTrue (is_found_of profile reading.found) }
         requires other { IsModuleElement (read_as reading.found) }
         requires content { IsRightContent profile (read_as reading.found) content.now }
-        ensures { OnOk result (HasModuleElement profile holds self.old (shape place) reading content.now self.new) };
+        ensures { OnOk result (HasModuleElement profile holds self.old (shape place) reading
+            content.now self.new) };
 
     /// The innermost element ends, which began at this place.
     ///
@@ -96,7 +100,8 @@ pub trait Draft: Drop {
         requires takes { takes profile }
         requires is_of { IsTrue (is_found_of profile frame.found) }
         ensures text { ChecksText profile holds self.old frame result }
-        ensures closed { OnOk result (HasClosed profile holds self.old frame (shape place) self.new) };
+        ensures closed { OnOk result (HasClosed profile holds self.old frame (shape place)
+            self.new) };
 
     /// The message is whole, and has as many octets. Returns whether its normal form is within the limit.
     fn end(&mut self, octets: u32) -> bool

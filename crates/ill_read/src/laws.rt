@@ -1,4 +1,4 @@
-//! What holds of each decoder. A law is the contract of a function that does nothing.
+//! Laws of each decoder. A law is the contract of a function that does nothing.
 ghost use Rattle.ill_read.specs.Feeding.{StatesAreApart};
 ghost use Rattle.ill_read.specs.declared.decoder.Decoder.{Decoder};
 

@@ -67,7 +67,8 @@ impl NormalReader {
         source: &mut R,
         buffer: Vec<u8>,
     ) -> Result<Option<NormalForm>, ReadFailure>
-        ensures next { ReadsNext (R.left source.old) (R.left source.new) (R.is_broken source.old) (R.is_broken source.new) IsNormalOf result }
+        ensures next { ReadsNext (R.left source.old) (R.left source.new) (R.is_broken source.old)
+            (R.is_broken source.new) IsNormalOf result }
         ensures few { open_count self.new.reader ≤ 32 }
     {
         self.read_as::<R, L>(Profile::Two, source, buffer)
@@ -85,7 +86,8 @@ impl NormalReader {
         source: &mut R,
         buffer: Vec<u8>,
     ) -> Result<Option<NormalForm>, ReadFailure>
-        ensures next { ReadsNextIn (profile_of profile) (R.left source.old) (R.left source.new) (R.is_broken source.old) (R.is_broken source.new)
+        ensures next { ReadsNextIn (profile_of profile) (R.left source.old) (R.left source.new)
+            (R.is_broken source.old) (R.is_broken source.new)
             (IsNormalIn (profile_of profile)) result }
         ensures few { open_count self.new.reader ≤ 32 }
     {
@@ -104,7 +106,8 @@ impl NormalReader {
         buffer: Vec<u8>,
         kept: &mut Vec<u8>,
     ) -> Result<Option<NormalForm>, ReadFailure>
-        ensures next { ReadsNext (R.left source.old) (R.left source.new) (R.is_broken source.old) (R.is_broken source.new)
+        ensures next { ReadsNext (R.left source.old) (R.left source.new) (R.is_broken source.old)
+            (R.is_broken source.new)
             (λ n octets. IsNormalOf n octets × (kept.new.items ≡ kept.old.items ++ octets)) result }
         ensures few { open_count self.new.reader ≤ 32 }
     {
@@ -124,8 +127,10 @@ impl NormalReader {
         buffer: Vec<u8>,
         kept: &mut Vec<u8>,
     ) -> Result<Option<NormalForm>, ReadFailure>
-        ensures next { ReadsNextIn (profile_of profile) (R.left source.old) (R.left source.new) (R.is_broken source.old) (R.is_broken source.new)
-            (λ n octets. IsNormalIn (profile_of profile) n octets × (kept.new.items ≡ kept.old.items ++ octets)) result }
+        ensures next { ReadsNextIn (profile_of profile) (R.left source.old) (R.left source.new)
+            (R.is_broken source.old) (R.is_broken source.new)
+            (λ n octets. IsNormalIn (profile_of profile) n octets
+            × (kept.new.items ≡ kept.old.items ++ octets)) result }
         ensures few { open_count self.new.reader ≤ 32 }
     {
         self.read_into::<R, L, Vec<u8>>(profile, source, buffer, kept)
@@ -140,8 +145,10 @@ impl NormalReader {
         buffer: Vec<u8>,
         recorder: &mut K,
     ) -> Result<Option<NormalForm>, ReadFailure>
-        ensures next { ReadsNextIn (profile_of profile) (R.left source.old) (R.left source.new) (R.is_broken source.old) (R.is_broken source.new)
-            (λ n octets. IsNormalIn (profile_of profile) n octets × Appends (K.kept recorder.old) (K.kept recorder.new) octets) result }
+        ensures next { ReadsNextIn (profile_of profile) (R.left source.old) (R.left source.new)
+            (R.is_broken source.old) (R.is_broken source.new)
+            (λ n octets. IsNormalIn (profile_of profile) n octets
+            × Appends (K.kept recorder.old) (K.kept recorder.new) octets) result }
         ensures few { open_count self.new.reader ≤ 32 }
     {
         self.reader
@@ -183,11 +190,11 @@ impl NormalReader {
     {
         self.reader
             .restart(profile, NormalFormDraft::new(self.alloc, buffer));
-        let _ = self.reader.run(octets);
+        let _ = self.reader.read_elements(octets);
         if !self.reader.outcome()? {
             return Err(Failure::refused(octets.len() as u32, Cause::Truncated));
         }
-        let input_len = self.reader.at();
+        let input_len = self.reader.offset();
         if input_len as usize != octets.len() {
             return Err(Failure::refused(input_len, Cause::TrailingBytes));
         }
@@ -218,7 +225,8 @@ pub fn read_normal_peeking<R: Source, L: Lookahead<R>>(
     alloc: Global,
     source: &mut R,
 ) -> Result<Option<NormalForm>, ReadFailure>
-    ensures next { ReadsNext (R.left source.old) (R.left source.new) (R.is_broken source.old) (R.is_broken source.new) IsNormalOf result }
+    ensures next { ReadsNext (R.left source.old) (R.left source.new) (R.is_broken source.old)
+        (R.is_broken source.new) IsNormalOf result }
     ensures few { IfSome (R.left source.old) HasFewOpen }
 {
     read_normal_in::<R, L>(alloc, source, Vec::new(alloc))
@@ -238,7 +246,8 @@ pub fn read_normal_as<R: Source, L: Lookahead<R>>(
     profile: Profile,
     source: &mut R,
 ) -> Result<Option<NormalForm>, ReadFailure>
-    ensures next { ReadsNextIn (profile_of profile) (R.left source.old) (R.left source.new) (R.is_broken source.old) (R.is_broken source.new)
+    ensures next { ReadsNextIn (profile_of profile) (R.left source.old) (R.left source.new)
+        (R.is_broken source.old) (R.is_broken source.new)
         (IsNormalIn (profile_of profile)) result }
     ensures few { IfSome (R.left source.old) (HasFewOpenIn (profile_of profile)) }
 {
@@ -255,7 +264,8 @@ pub fn read_normal_in<R: Source, L: Lookahead<R>>(
     source: &mut R,
     buffer: Vec<u8>,
 ) -> Result<Option<NormalForm>, ReadFailure>
-    ensures next { ReadsNext (R.left source.old) (R.left source.new) (R.is_broken source.old) (R.is_broken source.new) IsNormalOf result }
+    ensures next { ReadsNext (R.left source.old) (R.left source.new) (R.is_broken source.old)
+        (R.is_broken source.new) IsNormalOf result }
     ensures few { IfSome (R.left source.old) HasFewOpen }
 {
     NormalReader::new(alloc).read::<R, L>(source, buffer)
@@ -271,7 +281,8 @@ pub fn read_normal_recording_peeking<R: Source, L: Lookahead<R>>(
     source: &mut R,
     kept: &mut Vec<u8>,
 ) -> Result<Option<NormalForm>, ReadFailure>
-    ensures next { ReadsNext (R.left source.old) (R.left source.new) (R.is_broken source.old) (R.is_broken source.new)
+    ensures next { ReadsNext (R.left source.old) (R.left source.new) (R.is_broken source.old)
+        (R.is_broken source.new)
         (λ n octets. IsNormalOf n octets × (kept.new.items ≡ kept.old.items ++ octets)) result }
     ensures few { IfSome (R.left source.old) HasFewOpen }
 {

@@ -87,7 +87,8 @@ impl NormalFormDraft {
     #[inline(always)]
     fn open_module_string(&mut self, opening: Opening) -> Result<usize, AllocError>
         requires { IsModuleString (read_as opening.found) }
-        ensures { (next : Next) → IfOk result (λ contents_start. HasOpened AreOctets self.old next opening contents_start self.new) }
+        ensures { (next : Next) → IfOk result (λ contents_start. HasOpened AreOctets self.old next
+            opening contents_start self.new) }
     {
         self.open_out_of_line(opening)
     }
@@ -96,7 +97,8 @@ impl NormalFormDraft {
     #[inline(never)]
     fn open_out_of_line(&mut self, opening: Opening) -> Result<usize, AllocError>
         requires { IsModuleString (read_as opening.found) }
-        ensures { (next : Next) → IfOk result (λ contents_start. HasOpened AreOctets self.old next opening contents_start self.new) }
+        ensures { (next : Next) → IfOk result (λ contents_start. HasOpened AreOctets self.old next
+            opening contents_start self.new) }
     {
         match Element::of(opening.found) {
             Element::BitSegment => {
@@ -117,9 +119,12 @@ impl NormalFormDraft {
     /// The fault of its content, at its start; or out of memory.
     #[inline(never)]
     fn put_bits(&mut self, start: u32) -> Result<(), Failure>
-        ensures fault { IfErr result (λ failure. (p : Named) → IsTextFault p CodeElement.BitString start self.old.bits failure) }
-        ensures right { OnOk result ((p : Named) → IsRightText p CodeElement.BitString self.old.bits) }
-        ensures put { OnOk result (self.new.octets ≡ self.old.octets ++ cleared_content self.old.bits) }
+        ensures fault { IfErr result (λ failure. (p : Named)
+            → IsTextFault p CodeElement.BitString start self.old.bits failure) }
+        ensures right { OnOk result
+            ((p : Named) → IsRightText p CodeElement.BitString self.old.bits) }
+        ensures put { OnOk result (self.new.octets ≡ self.old.octets ++ cleared_content
+            self.old.bits) }
     {
         if let Some(fault) = BitString::check(self.bits.content()) {
             return Err(Failure::refused(start, Cause::from(fault)));
@@ -131,7 +136,8 @@ impl NormalFormDraft {
 
     /// Puts a SEQUENCE round the contents of a loose wrapper that has none, where this would come next in it (X.690, 8.14).
     fn enclose(&mut self, next: Next, contents_start: usize) -> Result<(), AllocError>
-        ensures { OnOk result ((w : Wrapped) (before contents : List ℕ) → self.old.octets ≡ before ++ contents → contents_start ≡ length before
+        ensures { OnOk result ((w : Wrapped) (before contents : List ℕ)
+            → self.old.octets ≡ before ++ contents → contents_start ≡ length before
             → self.new.octets ≡ before ++ enclosed (Element.LooseWrapper w) next contents) }
     {
         if let Next::Nothing = next {
@@ -262,7 +268,8 @@ impl Draft for NormalFormDraft {
 /// The identifier of a string as DER has it: it is primitive (X.690, 10.2).
 #[inline(always)]
 fn string_id(id: Id) -> Id
-    ensures { HasIdentifier (tag_of_id id) false → id_octets result ≡ identifier (tag_of_id id) false }
+    ensures { HasIdentifier (tag_of_id id) false
+        → id_octets result ≡ identifier (tag_of_id id) false }
 {
     Id::new(id.class(), false, id.number()).unwrap_or(id)
 }
@@ -285,9 +292,13 @@ fn normal_content(leaf: LeafType, content: &[u8]) -> &[u8]
 #[inline(always)]
 fn is_default_value(reading: Reading, leaf: LeafType, content: &[u8]) -> bool
     requires { (p : Named) × IsContentIn p (leaf_is leaf) content.now }
-    ensures { (t : Tag) (n : Next) → IsDueIn t n (due_with (slot_in reading.found) (alternative_of reading.found) (LeafElement leaf))
+    ensures { (t : Tag) (n : Next)
+        → IsDueIn t n (due_with (slot_in reading.found) (alternative_of reading.found)
+        (LeafElement leaf))
         → shape_at (next_place reading.found) ≡ behind n (slot_in reading.found)
-        → result ≡ left_away n (slot_in reading.found) (with_alternative (alternative_of reading.found) (simple (value (leaf_is leaf) content.now))) }
+        → result ≡ left_away n (slot_in reading.found)
+        (with_alternative (alternative_of reading.found)
+        (simple (value (leaf_is leaf) content.now))) }
 {
     let found = reading.found;
     let Some(number) = found.default_value() else {

@@ -54,7 +54,8 @@ impl OpenValues {
 
     /// Adds the value of an element at the slot, where this may come next in the element round it.
     pub fn add(&mut self, next: Next, slot: Slot, value: Value) -> Result<(), AllocError>
-        ensures { OnOk result (HasAdded (rows_before next slot) value self.old.entries.items self.new.entries.items) }
+        ensures { OnOk result (HasAdded (rows_before next slot) value self.old.entries.items
+            self.new.entries.items) }
     {
         match (next, slot) {
             (Next::Rows(node, position), Slot::Row(row)) => self.pass(node, position, row)?,
@@ -67,7 +68,8 @@ impl OpenValues {
 
     /// Passes the rows that are still to come.
     fn pass_last(&mut self, next: Next) -> Result<(), AllocError>
-        ensures { OnOk result (HasPassed (rows_left next) self.old.entries.items self.new.entries.items) }
+        ensures { OnOk result (HasPassed (rows_left next) self.old.entries.items
+            self.new.entries.items) }
     {
         match next {
             Next::Rows(node, position) => self.pass(node, position, rows(node)),
@@ -78,7 +80,8 @@ impl OpenValues {
 
     /// Passes rows that have no element.
     fn pass(&mut self, node: NodeId, from: u8, until: u8) -> Result<(), AllocError>
-        ensures { OnOk result (HasPassed (drop from (take until (rows_of node))) self.old.entries.items self.new.entries.items) }
+        ensures { OnOk result (HasPassed (drop from (take until (rows_of node)))
+            self.old.entries.items self.new.entries.items) }
     {
         for number in from..until {
             if let Some(row) = row(PartId { node, row: number }) {
@@ -90,7 +93,8 @@ impl OpenValues {
 
     /// The sequence whose entries are held from a contents_start on, where this may come next in it.
     pub fn sequence(&mut self, next: Next, contents_start: usize) -> Result<Value, AllocError>
-        ensures { IfOk result (λ v. IsSequence (rows_left next) contents_start v self.old.entries.items self.new.entries.items) }
+        ensures { IfOk result (λ v. IsSequence (rows_left next) contents_start v
+            self.old.entries.items self.new.entries.items) }
     {
         self.pass_last(next)?;
         let contents_start = contents_start.min(self.len());
@@ -99,7 +103,8 @@ impl OpenValues {
 
     /// The list whose items are held from a contents_start on.
     pub fn list(&mut self, alloc: Global, contents_start: usize) -> Result<Value, AllocError>
-        ensures { IfOk result (λ v. IsList contents_start v self.old.entries.items self.new.entries.items) }
+        ensures { IfOk result (λ v. IsList contents_start v self.old.entries.items
+            self.new.entries.items) }
     {
         let contents_start = contents_start.min(self.len());
         let mut items = Vec::with_capacity(alloc, self.len() - contents_start)?;

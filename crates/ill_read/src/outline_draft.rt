@@ -70,7 +70,8 @@ impl OutlineDraft {
     #[inline(always)]
     fn put_held(&mut self, frame: Frame) -> Result<(), AllocError>
         ensures octets { self.new.octets ≡ self.old.octets }
-        ensures marks { OnOk result (self.new.marks.items ≡ self.old.marks.items ++ held_marks (read_as frame.found) self.old.octets frame.contents_start) }
+        ensures marks { OnOk result (self.new.marks.items ≡ self.old.marks.items ++ held_marks
+            (read_as frame.found) self.old.octets frame.contents_start) }
     {
         match Element::of(frame.found) {
             Element::BitString => put_octets(&mut self.marks, self.octets.bit_string()),
@@ -108,7 +109,8 @@ fn is_open_type(node: NodeId) -> bool
 
 /// Marks what comes before an element that was found at this place: the rows that it passes, and the alternative that it is.
 fn lead(marks: &mut Vec<Mark>, place: Place, found: Found) -> Result<(), AllocError>
-    ensures { OnOk result (HasLed (shape place) (slot_in found) (alternative_of found) marks.old.items marks.new.items) }
+    ensures { OnOk result (HasLed (shape place) (slot_in found) (alternative_of found)
+        marks.old.items marks.new.items) }
 {
     pass_before(marks, Next::at(place), Slot::of(found))?;
     choose(marks, found.alternative())
@@ -117,7 +119,8 @@ fn lead(marks: &mut Vec<Mark>, place: Place, found: Found) -> Result<(), AllocEr
 /// Marks that an element begins. What comes in a loose wrapper says whether it is a sequence, and a foreign tree is marked when its
 /// wrapper ends.
 fn begin(marks: &mut Vec<Mark>, element: Element) -> Result<(), AllocError>
-    ensures { OnOk result (marks.new.items ≡ marks.old.items ++ first_marks (first_of element) element) }
+    ensures { OnOk result (marks.new.items ≡ marks.old.items
+        ++ first_marks (first_of element) element) }
 {
     match element {
         Element::Leaf(leaf) => marks.push(Mark::Leaf(leaf))?,
@@ -168,7 +171,8 @@ fn put_content(marks: &mut Vec<Mark>, first: Mark, octets: &[u8]) -> Result<(), 
 /// Marks a foreign tree, which has these octets.
 #[inline(never)]
 fn put_foreign(marks: &mut Vec<Mark>, octets: &[u8]) -> Result<(), AllocError>
-    ensures { OnOk result (marks.new.items ≡ marks.old.items ++ octets_marks Mark.Foreign octets.now) }
+    ensures { OnOk result (marks.new.items ≡ marks.old.items
+        ++ octets_marks Mark.Foreign octets.now) }
 {
     put_content(marks, Mark::Foreign, octets)
 }
@@ -176,7 +180,8 @@ fn put_foreign(marks: &mut Vec<Mark>, octets: &[u8]) -> Result<(), AllocError>
 /// Passes the rows before an element at the slot, where this may come next in the element round it. The first row in a loose wrapper
 /// says that this is a sequence.
 fn pass_before(marks: &mut Vec<Mark>, next: Next, slot: Slot) -> Result<(), AllocError>
-    ensures { OnOk result (HasPassed (start_marks next slot) (rows_before next slot) marks.old.items marks.new.items) }
+    ensures { OnOk result (HasPassed (start_marks next slot) (rows_before next slot) marks.old.items
+        marks.new.items) }
 {
     match (next, slot) {
         (Next::Rows(node, position), Slot::Row(row)) => {
@@ -192,7 +197,8 @@ fn pass_before(marks: &mut Vec<Mark>, next: Next, slot: Slot) -> Result<(), Allo
 
 /// Passes the rows that are still to come.
 fn pass_last(marks: &mut Vec<Mark>, next: Next) -> Result<(), AllocError>
-    ensures { OnOk result (HasPassed (late_marks next) (rows_left next) marks.old.items marks.new.items) }
+    ensures { OnOk result (HasPassed (late_marks next) (rows_left next) marks.old.items
+        marks.new.items) }
 {
     match next {
         Next::Rows(node, position) => pass(marks, node, position, rows(node)),
@@ -219,7 +225,8 @@ fn end(marks: &mut Vec<Mark>, next: Next) -> Result<(), AllocError>
 /// Passes rows that have no element.
 fn pass(marks: &mut Vec<Mark>, node: NodeId, from: u8, until: u8) -> Result<(), AllocError>
     requires { until ≤ length (rows_of node) }
-    ensures { OnOk result (HasPassed [] (drop from (take until (rows_of node))) marks.old.items marks.new.items) }
+    ensures { OnOk result (HasPassed [] (drop from (take until (rows_of node))) marks.old.items
+        marks.new.items) }
 {
     for row in from..until {
         marks.push(Mark::Absent(PartId { node, row }))?;

@@ -66,7 +66,8 @@ impl OutlineReader {
         source: &mut R,
         buffer: Outline,
     ) -> Result<Option<OutlinedMessage>, ReadFailure>
-        ensures next { ReadsNext (R.left source.old) (R.left source.new) (R.is_broken source.old) (R.is_broken source.new) IsOutlined result }
+        ensures next { ReadsNext (R.left source.old) (R.left source.new) (R.is_broken source.old)
+            (R.is_broken source.new) IsOutlined result }
         ensures few { open_count self.new.reader ≤ 32 }
     {
         self.read_as::<R, L>(Profile::Two, source, buffer)
@@ -84,7 +85,8 @@ impl OutlineReader {
         source: &mut R,
         buffer: Outline,
     ) -> Result<Option<OutlinedMessage>, ReadFailure>
-        ensures next { ReadsNextIn (profile_of profile) (R.left source.old) (R.left source.new) (R.is_broken source.old) (R.is_broken source.new)
+        ensures next { ReadsNextIn (profile_of profile) (R.left source.old) (R.left source.new)
+            (R.is_broken source.old) (R.is_broken source.new)
             (IsOutlinedIn (profile_of profile)) result }
         ensures few { open_count self.new.reader ≤ 32 }
     {
@@ -126,7 +128,8 @@ pub fn read_outline_in<R: Source, L: Lookahead<R>>(
     source: &mut R,
     buffer: Outline,
 ) -> Result<Option<OutlinedMessage>, ReadFailure>
-    ensures next { ReadsNext (R.left source.old) (R.left source.new) (R.is_broken source.old) (R.is_broken source.new) IsOutlined result }
+    ensures next { ReadsNext (R.left source.old) (R.left source.new) (R.is_broken source.old)
+        (R.is_broken source.new) IsOutlined result }
     ensures few { IfSome (R.left source.old) HasFewOpen }
 {
     OutlineReader::new(alloc).read::<R, L>(source, buffer)
@@ -147,7 +150,8 @@ pub fn read_outline_as<R: Source, L: Lookahead<R>>(
     source: &mut R,
     buffer: Outline,
 ) -> Result<Option<OutlinedMessage>, ReadFailure>
-    ensures next { ReadsNextIn (profile_of profile) (R.left source.old) (R.left source.new) (R.is_broken source.old) (R.is_broken source.new)
+    ensures next { ReadsNextIn (profile_of profile) (R.left source.old) (R.left source.new)
+        (R.is_broken source.old) (R.is_broken source.new)
         (IsOutlinedIn (profile_of profile)) result }
     ensures few { IfSome (R.left source.old) (HasFewOpenIn (profile_of profile)) }
 {

@@ -30,7 +30,8 @@ pub fn read_message<R: Source>(
     alloc: Global,
     source: &mut R,
 ) -> Result<Option<Message>, ReadFailure>
-    ensures next { ReadsNext (R.left source.old) (R.left source.new) (R.is_broken source.old) (R.is_broken source.new) IsSpelled result }
+    ensures next { ReadsNext (R.left source.old) (R.left source.new) (R.is_broken source.old)
+        (R.is_broken source.new) IsSpelled result }
     ensures few { IfSome (R.left source.old) HasFewOpen }
 {
     read_message_peeking::<R, Unbuffered>(alloc, source)
@@ -46,7 +47,8 @@ pub fn read_message_peeking<R: Source, L: Lookahead<R>>(
     alloc: Global,
     source: &mut R,
 ) -> Result<Option<Message>, ReadFailure>
-    ensures next { ReadsNext (R.left source.old) (R.left source.new) (R.is_broken source.old) (R.is_broken source.new) IsSpelled result }
+    ensures next { ReadsNext (R.left source.old) (R.left source.new) (R.is_broken source.old)
+        (R.is_broken source.new) IsSpelled result }
     ensures few { IfSome (R.left source.old) HasFewOpen }
 {
     read_into::<R, L, NoRecorder>(alloc, source, &mut NoRecorder)
@@ -62,7 +64,8 @@ pub fn read_recording<R: Source>(
     source: &mut R,
     kept: &mut Vec<u8>,
 ) -> Result<Option<Message>, ReadFailure>
-    ensures next { ReadsNext (R.left source.old) (R.left source.new) (R.is_broken source.old) (R.is_broken source.new)
+    ensures next { ReadsNext (R.left source.old) (R.left source.new) (R.is_broken source.old)
+        (R.is_broken source.new)
         (λ m octets. IsSpelled m octets × (kept.new.items ≡ kept.old.items ++ octets)) result }
     ensures few { IfSome (R.left source.old) HasFewOpen }
 {
@@ -79,7 +82,8 @@ pub fn read_recording_peeking<R: Source, L: Lookahead<R>>(
     source: &mut R,
     kept: &mut Vec<u8>,
 ) -> Result<Option<Message>, ReadFailure>
-    ensures next { ReadsNext (R.left source.old) (R.left source.new) (R.is_broken source.old) (R.is_broken source.new)
+    ensures next { ReadsNext (R.left source.old) (R.left source.new) (R.is_broken source.old)
+        (R.is_broken source.new)
         (λ m octets. IsSpelled m octets × (kept.new.items ≡ kept.old.items ++ octets)) result }
     ensures few { IfSome (R.left source.old) HasFewOpen }
 {
@@ -93,8 +97,10 @@ fn read_into<R: Source, L: Lookahead<R>, K: Recorder>(
     source: &mut R,
     recorder: &mut K,
 ) -> Result<Option<Message>, ReadFailure>
-    ensures { ReadsNext (R.left source.old) (R.left source.new) (R.is_broken source.old) (R.is_broken source.new)
-        (λ m octets. IsSpelled m octets × Appends (K.kept recorder.old) (K.kept recorder.new) octets) result }
+    ensures { ReadsNext (R.left source.old) (R.left source.new) (R.is_broken source.old)
+        (R.is_broken source.new)
+        (λ m octets. IsSpelled m octets
+        × Appends (K.kept recorder.old) (K.kept recorder.new) octets) result }
 {
     let mut reader = Reader::new(alloc, Profile::Two, ValueDraft::new(alloc));
     match read_draft::<ValueDraft, R, L, K>(&mut reader, source, recorder) {
@@ -112,12 +118,15 @@ pub(crate) fn read_draft<D: Draft, R: Source, L: Lookahead<R>, K: Recorder>(
     recorder: &mut K,
 ) -> Result<Option<u32>, ReadFailure>
     requires takes { D.takes reader.old.path.frames.profile }
-    ensures { (p : Named) → IsOpenAt p D.holds reader.old [] → ReadsNextIn (profile_of p) (R.left source.old) (R.left source.new) (R.is_broken source.old) (R.is_broken source.new)
-        (λ n octets. (n ≡ length octets) × IsReadOf p D.has reader.new.path.draft octets × Appends (K.kept recorder.old) (K.kept recorder.new) octets) result }
+    ensures { (p : Named) → IsOpenAt p D.holds reader.old []
+        → ReadsNextIn (profile_of p) (R.left source.old) (R.left source.new)
+        (R.is_broken source.old) (R.is_broken source.new)
+        (λ n octets. (n ≡ length octets) × IsReadOf p D.has reader.new.path.draft octets
+        × Appends (K.kept recorder.old) (K.kept recorder.new) octets) result }
 {
     match fill::<D, R, L, K>(reader, source, recorder) {
         Ok(()) => match reader.ended() {
-            Ok(true) => Ok(Some(reader.at())),
+            Ok(true) => Ok(Some(reader.offset())),
             Ok(false) => Ok(None),
             Err(failure) => Err(ReadFailure::from(failure)),
         },
@@ -141,10 +150,13 @@ fn fill<D: Draft, R: Source, L: Lookahead<R>, K: Recorder>(
 ) -> Result<(), FillError>
     requires takes { D.takes reader.old.path.frames.profile }
     ensures filled { (p : Named) → IsOpenAt p D.holds reader.old []
-        → IfOk result (λ _. HasKept p D.holds D.has (R.left source.old) (R.left source.new) reader.new (K.kept recorder.old) (K.kept recorder.new)) }
+        → IfOk result (λ _. HasKept p D.holds D.has (R.left source.old) (R.left source.new)
+        reader.new (K.kept recorder.old) (K.kept recorder.new)) }
     ensures taken { TakesFront (R.left source.old) (R.left source.new) }
     ensures broken { IsErrOf result FillError.Broken → IsTrue (R.is_broken source.new) }
-    ensures unfinished { (p : Named) → IsOpenAt p D.holds reader.old [] → IsErrOf result FillError.Broken → TakesNoMessageIn (profile_of p) (R.left source.old) (R.left source.new) }
+    ensures unfinished { (p : Named) → IsOpenAt p D.holds reader.old []
+        → IsErrOf result FillError.Broken
+        → TakesNoMessageIn (profile_of p) (R.left source.old) (R.left source.new) }
     ensures stays { IsTrue (R.is_broken source.old) → IsTrue (R.is_broken source.new) }
     ensures profile { reader.new.path.frames.profile ≡ reader.old.path.frames.profile }
 {
@@ -175,11 +187,15 @@ fn more<D: Draft, R: Source, L: Lookahead<R>, K: Recorder>(
     requires space { 0 < length buffer.old }
     requires room { 0 < room }
     ensures taken { IfOk result (λ n. (n ≤ room)
-        × HasTaken D.holds D.has (R.left source.old) (R.left source.new) (K.kept recorder.old) (K.kept recorder.new) reader.old reader.new n) }
-    ensures front { IfErr result (λ _. (octets : List ℕ) × Consumes (R.left source.old) (R.left source.new) octets × (length octets ≤ room)) }
+        × HasTaken D.holds D.has (R.left source.old) (R.left source.new) (K.kept recorder.old)
+        (K.kept recorder.new) reader.old reader.new n) }
+    ensures front { IfErr result (λ _. (octets : List ℕ)
+        × Consumes (R.left source.old) (R.left source.new) octets × (length octets ≤ room)) }
     ensures broken { IsErrOf result FillError.Broken → IsTrue (R.is_broken source.new) }
     ensures kept { IsErrOf result FillError.Broken → Keeps (R.left source.old) (R.left source.new) }
-    ensures unfinished { IsErrOf result FillError.Broken → (p : Named) (b : List ℕ) → IsFed p D.holds D.has reader.old b → NoneEndsWithin p b → IsUnfinishedIn (profile_of p) b }
+    ensures unfinished { IsErrOf result FillError.Broken → (p : Named) (b : List ℕ)
+        → IsFed p D.holds D.has reader.old b → NoneEndsWithin p b
+        → IsUnfinishedIn (profile_of p) b }
     ensures stays { IsTrue (R.is_broken source.old) → IsTrue (R.is_broken source.new) }
     ensures space { length buffer.new ≡ length buffer.old }
     ensures profile { reader.new.path.frames.profile ≡ reader.old.path.frames.profile }
@@ -216,10 +232,14 @@ fn take_octets<D: Draft, R: Source>(
     requires space { 0 < length buffer.old }
     requires room { 0 < room }
     ensures count { IfOk result (λ n. (n ≤ room) × (n ≤ length buffer.new)) }
-    ensures taken { IfOk result (λ n. Consumes (R.left source.old) (R.left source.new) (take n buffer.new)) }
+    ensures taken { IfOk result (λ n. Consumes (R.left source.old) (R.left source.new)
+        (take n buffer.new)) }
     ensures kept { IsErr result → Keeps (R.left source.old) (R.left source.new) }
-    ensures unfinished { IsErr result → (p : Named) (b : List ℕ) → IsFed p D.holds D.has reader.old b → IsUnfinishedIn (profile_of p) b }
-    ensures fed { IfOk result (λ n. (p : Named) (b : List ℕ) → IsFed p D.holds D.has reader.old b → NoneEndsWithin p b → HasPulled p D.holds D.has (R.left source.new) reader.new b (take n buffer.new)) }
+    ensures unfinished { IsErr result → (p : Named) (b : List ℕ)
+        → IsFed p D.holds D.has reader.old b → IsUnfinishedIn (profile_of p) b }
+    ensures fed { IfOk result (λ n. (p : Named) (b : List ℕ) → IsFed p D.holds D.has reader.old b
+        → NoneEndsWithin p b → HasPulled p D.holds D.has (R.left source.new) reader.new b
+        (take n buffer.new)) }
     ensures broken { IsErr result → IsTrue (R.is_broken source.new) }
     ensures stays { IsTrue (R.is_broken source.old) → IsTrue (R.is_broken source.new) }
     ensures profile { reader.new.path.frames.profile ≡ reader.old.path.frames.profile }
@@ -229,7 +249,7 @@ fn take_octets<D: Draft, R: Source>(
         return Ok(0);
     }
     let count = source.take(&mut buffer[..wanted])?;
-    reader.take(&buffer[..count]);
+    reader.read_piece(&buffer[..count]);
     Ok(count)
 }
 
@@ -242,19 +262,19 @@ pub fn decode(alloc: Global, octets: &[u8]) -> Result<Message, Failure>
     ensures answers { DecodeAnswers octets.now result }
     ensures few { HasFewOpen octets.now }
 {
-    match begun(alloc, octets) {
-        Ok(Some(message)) => whole(message, octets.len()),
+    match message_of_piece(alloc, octets) {
+        Ok(Some(message)) => message_of_slice(message, octets.len()),
         Ok(None) => Err(Failure::refused(octets.len() as u32, Cause::Truncated)),
         Err(failure) => Err(failure),
     }
 }
 
 /// The message that the octets begin with, None where they end before it is whole.
-fn begun(alloc: Global, octets: &[u8]) -> Result<Option<Message>, Failure>
+fn message_of_piece(alloc: Global, octets: &[u8]) -> Result<Option<Message>, Failure>
     ensures { HasBegun octets.now result }
 {
     let mut reader = Reader::new(alloc, Profile::Two, ValueDraft::new(alloc));
-    let _ = reader.run(octets);
+    let _ = reader.read_elements(octets);
     match reader.outcome() {
         Ok(true) => Ok(reader.into_draft().into_message()),
         Ok(false) => Ok(None),
@@ -263,7 +283,7 @@ fn begun(alloc: Global, octets: &[u8]) -> Result<Option<Message>, Failure>
 }
 
 /// The message, if it has as many octets.
-fn whole(message: Message, size: usize) -> Result<Message, Failure>
+fn message_of_slice(message: Message, size: usize) -> Result<Message, Failure>
     ensures { (s : List ℕ) → size ≡ length s → IsRead s message → DecodeAnswers s result }
 {
     if message.octets() as usize == size {

@@ -55,6 +55,7 @@ impl<D: Draft> Reader<D> {
     ghost use Rattle.ill_read.specs.code.Judged.{IsJudgement, IsStep};
     ghost use Rattle.ill_grammar.specs.code.Judging.{Fits, IsBegin, IsExtent, IsRoom, WhereItStands, is_usual, lacks_part};
     ghost use Rattle.ill_grammar.specs.Due.{read_as};
+    ghost use Rattle.ill_grammar.specs.declared.element.Element.TheVariants.{Foreign};
     ghost use Rattle.ber_core.specs.Id.{form_of_id, tag_of_id};
     ghost use Rattle.ber_leaf.specs.Profile.{profile_two};
     ghost use Rattle.ill_refusals.specs.Fault.{ends_at};
@@ -66,7 +67,8 @@ impl<D: Draft> Reader<D> {
     /// Begins with nothing, to read a message in the profile.
     #[inline(always)]
     pub fn new(alloc: Global, profile: Profile, draft: D) -> Reader<D>
-        ensures open { D.holds draft (top_level profile ∷ []) [] → IsOpenAt profile D.holds result [] }
+        ensures open { D.holds draft (top_level profile ∷ []) []
+            → IsOpenAt profile D.holds result [] }
         ensures profile { result.path.frames.profile ≡ profile }
     {
         Reader {
@@ -81,7 +83,8 @@ impl<D: Draft> Reader<D> {
     /// Begins with nothing again, to read a message in the profile, whatever was read before.
     #[inline(always)]
     pub fn restart(&mut self, profile: Profile, draft: D)
-        ensures open { D.holds draft (top_level profile ∷ []) [] → IsOpenAt profile D.holds self.new [] }
+        ensures open { D.holds draft (top_level profile ∷ []) []
+            → IsOpenAt profile D.holds self.new [] }
         ensures profile { self.new.path.frames.profile ≡ profile }
     {
         self.path.restart(profile, draft);
@@ -115,7 +118,7 @@ impl<D: Draft> Reader<D> {
     }
 
     /// The offset that it has reached.
-    pub fn at(&self) -> u32
+    pub fn offset(&self) -> u32
         ensures { result ≡ self.now.at }
     {
         self.at
@@ -138,9 +141,11 @@ impl<D: Draft> Reader<D> {
     /// The least number of octets that still belong to the message: 0 once it is whole, or has failed.
     #[inline(always)]
     pub fn need(&self) -> u32
-        ensures exact { (p : Named) (fed : List ℕ) → IsOpenAt p D.holds self.now fed → NeedsAfterIn p fed result }
+        ensures exact { (p : Named) (fed : List ℕ) → IsOpenAt p D.holds self.now fed
+            → NeedsAfterIn p fed result }
         ensures some { (p : Named) (fed : List ℕ) → IsOpenAt p D.holds self.now fed → 0 < result }
-        ensures at_least { (p : Named) (fed more : List ℕ) (a : Apdu) (n : ℕ) → IsOpenAt p D.holds self.now fed → IsTrue (are_octets (fed ++ more))
+        ensures at_least { (p : Named) (fed more : List ℕ) (a : Apdu) (n : ℕ)
+            → IsOpenAt p D.holds self.now fed → IsTrue (are_octets (fed ++ more))
             → Accepts (profile_of p) (fed ++ more) a n → length fed + result ≤ n }
         ensures closed { self.now.state ≢ State.Open → result ≡ 0 }
     {
@@ -155,8 +160,11 @@ impl<D: Draft> Reader<D> {
     #[inline(always)]
     pub fn request_len(&self) -> u32
         ensures closed { self.now.state ≢ State.Open → result ≡ 0 }
-        ensures some { (p : Named) (fed : List ℕ) → IsFed p D.holds D.has self.now fed → self.now.state ≡ State.Open → 0 < result }
-        ensures at_least { (p : Named) (fed more : List ℕ) (a : Apdu) (n : ℕ) → IsFed p D.holds D.has self.now fed → IsTrue (are_octets (fed ++ more)) → self.now.state ≡ State.Open
+        ensures some { (p : Named) (fed : List ℕ) → IsFed p D.holds D.has self.now fed
+            → self.now.state ≡ State.Open → 0 < result }
+        ensures at_least { (p : Named) (fed more : List ℕ) (a : Apdu) (n : ℕ)
+            → IsFed p D.holds D.has self.now fed → IsTrue (are_octets (fed ++ more))
+            → self.now.state ≡ State.Open
             → Accepts (profile_of p) (fed ++ more) a n → length fed + result ≤ n }
     {
         match self.need() {
@@ -167,9 +175,10 @@ impl<D: Draft> Reader<D> {
 
     /// Takes the next piece, and goes as far as the octets reach.
     #[inline(always)]
-    pub fn take(&mut self, piece: &[u8])
+    pub fn read_piece(&mut self, piece: &[u8])
         requires takes { D.takes self.old.path.frames.profile }
-        ensures fed { (p : Named) (fed : List ℕ) → IsFed p D.holds D.has self.old fed → IsFed p D.holds D.has self.new (fed ++ piece.now) }
+        ensures fed { (p : Named) (fed : List ℕ) → IsFed p D.holds D.has self.old fed
+            → IsFed p D.holds D.has self.new (fed ++ piece.now) }
         ensures stays { self.old.state ≢ State.Open → self.new ≡ self.old }
         ensures octets { IsTrue (are_octets piece.now) }
         ensures profile { self.new.path.frames.profile ≡ self.old.path.frames.profile }
@@ -178,14 +187,14 @@ impl<D: Draft> Reader<D> {
             return;
         }
         if self.pending.is_empty() {
-            let count = self.run(piece);
+            let count = self.read_elements(piece);
             self.keep(&piece[count..]);
             return;
         }
         let mut octets = mem::replace(&mut self.pending, Vec::new(self.alloc));
         match octets.extend_from_slice(piece) {
             Ok(()) => {
-                let count = self.run(&octets);
+                let count = self.read_elements(&octets);
                 self.keep_after(octets, count);
             }
             Err(error) => self.state = State::Failed(Failure::from(error)),
@@ -198,14 +207,16 @@ impl<D: Draft> Reader<D> {
     pub fn read_buffered(&mut self, octets: &[u8]) -> usize
         requires takes { D.takes self.old.path.frames.profile }
         ensures count { result ≤ length octets.now }
-        ensures looked { (p : Named) (b : List ℕ) → IsFed p D.holds D.has self.old b → NoneEndsWithin p b → HasLooked p D.holds D.has self.new (b ++ take result octets.now) }
+        ensures looked { (p : Named) (b : List ℕ) → IsFed p D.holds D.has self.old b
+            → NoneEndsWithin p b → HasLooked p D.holds D.has self.new
+            (b ++ take result octets.now) }
         ensures profile { self.new.path.frames.profile ≡ self.old.path.frames.profile }
     {
         if !matches!(&self.state, State::Open) || !self.pending.is_empty() {
             return 0;
         }
         let before = self.at;
-        let count = self.run(octets);
+        let count = self.read_elements(octets);
         match self.state {
             State::Open => count,
             State::Whole => octets.len().min(self.at.saturating_sub(before) as usize),
@@ -217,7 +228,9 @@ impl<D: Draft> Reader<D> {
     /// Keeps the octets after those that were passed, in the memory that they have.
     fn keep_after(&mut self, mut octets: Vec<u8>, count: usize)
         requires within { count ≤ length octets.items }
-        ensures fed { (p : Named) (fed : List ℕ) → HasStopped p D.holds D.has self.old fed (drop count octets.items) → IsFed p D.holds D.has self.new fed }
+        ensures fed { (p : Named) (fed : List ℕ)
+            → HasStopped p D.holds D.has self.old fed (drop count octets.items)
+            → IsFed p D.holds D.has self.new fed }
         ensures profile { self.new.path.frames.profile ≡ self.old.path.frames.profile }
     {
         // A large content that comes octet by octet stays where it is.
@@ -235,7 +248,9 @@ impl<D: Draft> Reader<D> {
     #[inline(always)]
     fn keep(&mut self, octets: &[u8])
         requires { self.old.pending.items ≡ [] }
-        ensures fed { (p : Named) (fed : List ℕ) → HasStopped p D.holds D.has self.old fed octets.now → IsFed p D.holds D.has self.new fed }
+        ensures fed { (p : Named) (fed : List ℕ)
+            → HasStopped p D.holds D.has self.old fed octets.now
+            → IsFed p D.holds D.has self.new fed }
         ensures profile { self.new.path.frames.profile ≡ self.old.path.frames.profile }
     {
         if !matches!(&self.state, State::Open) {
@@ -247,26 +262,29 @@ impl<D: Draft> Reader<D> {
     }
 
     /// Goes from place to place as far as the octets reach, and returns how many belong to the elements that were passed.
-    pub fn run(&mut self, octets: &[u8]) -> usize
+    pub fn read_elements(&mut self, octets: &[u8]) -> usize
         requires takes { D.takes self.old.path.frames.profile }
         ensures count { result ≤ length octets.now }
         ensures pending { self.new.pending ≡ self.old.pending }
-        ensures stopped { (p : Named) (s : List ℕ) → IsRunning p D.holds D.has self.old s octets.now → HasStopped p D.holds D.has self.new s (drop result octets.now) }
+        ensures stopped { (p : Named) (s : List ℕ) → IsRunning p D.holds D.has self.old s octets.now
+            → HasStopped p D.holds D.has self.new s (drop result octets.now) }
         ensures profile { self.new.path.frames.profile ≡ self.old.path.frames.profile }
     {
         let mut rest = octets;
-        while let Some(size) = self.advance(rest) {
+        while let Some(size) = self.step(rest) {
             rest = &rest[size..];
         }
         octets.len() - rest.len()
     }
 
     /// Goes on to the next place, and returns how many octets that took, or None where the rest doesn't reach it or nothing is open.
-    fn advance(&mut self, rest: &[u8]) -> Option<usize>
+    fn step(&mut self, rest: &[u8]) -> Option<usize>
         requires takes { D.takes self.old.path.frames.profile }
         ensures pending { self.new.pending ≡ self.old.pending }
-        ensures progress { Progresses (length rest.now) self.old.path.frames self.new.path.frames result }
-        ensures goes { (p : Named) (s : List ℕ) → IsRunning p D.holds D.has self.old s rest.now → HasAdvanced p D.holds D.has self.new s rest.now result }
+        ensures progress { Progresses (length rest.now) self.old.path.frames self.new.path.frames
+            result }
+        ensures goes { (p : Named) (s : List ℕ) → IsRunning p D.holds D.has self.old s rest.now
+            → HasAdvanced p D.holds D.has self.new s rest.now result }
         ensures profile { self.new.path.frames.profile ≡ self.old.path.frames.profile }
     {
         if !matches!(&self.state, State::Open) {
@@ -281,14 +299,16 @@ impl<D: Draft> Reader<D> {
         } else {
             &rest[..room as usize]
         };
-        self.advance_within(window, room, rest.len())
+        self.step_within(window, room, rest.len())
     }
 
     /// Tells whether the innermost element is of definite length and ends here, where this room is left before the bound.
     #[inline(always)]
     fn ends_here(&self, room: u32) -> bool
         ensures open { IsTrue result → 0 < depth_of self.now.path.frames }
-        ensures exact { WhereItStands self.now.path.frames (λ place. room ≡ bound profile_two place - self.now.at → result ≡ ends_at place self.now.at) }
+        ensures exact { WhereItStands self.now.path.frames
+            (λ place. room ≡ bound profile_two place - self.now.at
+            → result ≡ ends_at place self.now.at) }
     {
         // None ends before the bound, so most places do without the second question.
         if room > 0 {
@@ -297,53 +317,196 @@ impl<D: Draft> Reader<D> {
         self.path.frames.ends_at(self.at)
     }
 
-    /// An end mark or an element, in the octets before the bound: at most `room`, of the `came` octets that follow.
+    /// An end mark or an element, in the octets before the bound: at most `room`, of the `available_len` octets that follow.
     #[inline(always)]
-    fn advance_within(&mut self, window: &[u8], room: u32, available_len: usize) -> Option<usize>
+    fn step_within(&mut self, window: &[u8], room: u32, available_len: usize) -> Option<usize>
         requires takes { D.takes self.old.path.frames.profile }
         requires open { self.old.state ≡ State.Open }
         requires fits { IsRoom self.old.at room window.now }
         ensures pending { self.new.pending ≡ self.old.pending }
-        ensures progress { Progresses (length window.now) self.old.path.frames self.new.path.frames result }
-        ensures goes { (p : Named) → LeadsOn p D.holds D.has self.old window.now room available_len self.new result (λ place cut. judge_octets (profile_of p) place self.old.at cut window.now) }
+        ensures progress { Progresses (length window.now) self.old.path.frames self.new.path.frames
+            result }
+        ensures goes { (p : Named)
+            → LeadsOn p D.holds D.has self.old window.now room available_len self.new result
+            (λ place cut. judge_octets (profile_of p) place self.old.at cut window.now) }
         ensures profile { self.new.path.frames.profile ≡ self.old.path.frames.profile }
     {
         let Some(id) = first_identifier(window) else {
-            return self.advance_unusual(window, room, available_len);
+            return self.step_unusual(window, room, available_len);
         };
         let Some(length_read) = length_after(window, id.constructed()) else {
-            return self.advance_unusual(window, room, available_len);
+            return self.step_unusual(window, room, available_len);
         };
         let frames = &self.path.frames;
         let Some(found) = frames.find_usual(id) else {
-            return self.advance_unusual(window, room, available_len);
+            return self.step_unusual(window, room, available_len);
         };
         let Some(extent) = frames.reach(self.at, id, length_read, window, room) else {
-            return self.advance_unusual(window, room, available_len);
+            return self.step_unusual(window, room, available_len);
         };
         self.open_or_read(found, id, extent, window, true)
     }
 
-    /// Takes an end mark or an element that `advance_within` leaves: one that is not usual, whose identifier is of more octets, whose
+    /// Takes an end mark or an element that `step_within` leaves: one that is not usual, whose identifier is of more octets, whose
     /// length isn't whole, or that is at fault.
     // Out of line, so that usual elements do without its registers. It begins again at the identifier: so nothing has to be kept for it.
     #[inline(never)]
-    fn advance_unusual(&mut self, window: &[u8], room: u32, available_len: usize) -> Option<usize>
+    fn step_unusual(&mut self, window: &[u8], room: u32, available_len: usize) -> Option<usize>
         requires takes { D.takes self.old.path.frames.profile }
         requires open { self.old.state ≡ State.Open }
         requires fits { IsRoom self.old.at room window.now }
         ensures pending { self.new.pending ≡ self.old.pending }
-        ensures progress { Progresses (length window.now) self.old.path.frames self.new.path.frames result }
-        ensures goes { (p : Named) → LeadsOn p D.holds D.has self.old window.now room available_len self.new result (λ place cut. judge_octets (profile_of p) place self.old.at cut window.now) }
+        ensures progress { Progresses (length window.now) self.old.path.frames self.new.path.frames
+            result }
+        ensures goes { (p : Named)
+            → LeadsOn p D.holds D.has self.old window.now room available_len self.new result
+            (λ place cut. judge_octets (profile_of p) place self.old.at cut window.now) }
         ensures profile { self.new.path.frames.profile ≡ self.old.path.frames.profile }
     {
         let Some(first) = window.first() else {
-            return self.cut(available_len);
+            return self.refuse_cut(available_len);
         };
         if *first == 0 && self.path.frames.awaits_end_mark() {
             return self.end_mark(window, available_len);
         }
-        self.element_with_any_header(window, room, available_len)
+        self.unusual_element(window, room, available_len)
+    }
+
+    /// An element of a foreign tree, or another that isn't usual.
+    #[inline(always)]
+    fn unusual_element(&mut self, window: &[u8], room: u32, available_len: usize) -> Option<usize>
+        requires takes { D.takes self.old.path.frames.profile }
+        requires open { self.old.state ≡ State.Open }
+        requires fits { IsRoom self.old.at room window.now }
+        ensures pending { self.new.pending ≡ self.old.pending }
+        ensures progress { Progresses (length window.now) self.old.path.frames self.new.path.frames
+            result }
+        ensures goes { (p : Named)
+            → LeadsOn p D.holds D.has self.old window.now room available_len self.new result
+            (λ place cut. judge_element (profile_of p) place self.old.at cut window.now) }
+        ensures profile { self.new.path.frames.profile ≡ self.old.path.frames.profile }
+    {
+        match self.path.frames.find_foreign() {
+            Some(found) => self.foreign_element(found, window, room, available_len),
+            None => self.element_with_any_header(window, room, available_len),
+        }
+    }
+
+    /// An element of a foreign tree. Most have an identifier of one octet, and a length that is whole and right.
+    #[inline(always)]
+    fn foreign_element(
+        &mut self,
+        found: Found,
+        window: &[u8],
+        room: u32,
+        available_len: usize,
+    ) -> Option<usize>
+        requires takes { D.takes self.old.path.frames.profile }
+        requires open { self.old.state ≡ State.Open }
+        requires fits { IsRoom self.old.at room window.now }
+        requires begun { (id : Id) → WhereItStands self.old.path.frames
+            (λ place. IsBegin self.old.path.frames place (tag_of_id id) found (form_of_id id)) }
+        requires foreign { (levels : ℕ) × (read_as found ≡ Foreign levels) }
+        requires room { depth_of self.old.path.frames < 32 }
+        requires is_of { IsTrue (is_found_of self.old.path.frames.profile found) }
+        ensures pending { self.new.pending ≡ self.old.pending }
+        ensures progress { Progresses (length window.now) self.old.path.frames self.new.path.frames
+            result }
+        ensures goes { (p : Named)
+            → LeadsOn p D.holds D.has self.old window.now room available_len self.new result
+            (λ place cut. judge_element (profile_of p) place self.old.at cut window.now) }
+        ensures profile { self.new.path.frames.profile ≡ self.old.path.frames.profile }
+    {
+        let Some(id) = first_identifier(window) else {
+            return self.element_out_of_line(window, room, available_len);
+        };
+        let Some(length_read) = length_after(window, id.constructed()) else {
+            return self.element_out_of_line(window, room, available_len);
+        };
+        let frames = &self.path.frames;
+        let Some(extent) = frames.reach(self.at, id, length_read, window, room) else {
+            return self.element_out_of_line(window, room, available_len);
+        };
+        self.open_or_read_foreign(found, id, extent, window)
+    }
+
+    /// Opens an element of a foreign tree if it is constructed, and takes it if it is primitive.
+    #[inline(always)]
+    fn open_or_read_foreign(
+        &mut self,
+        found: Found,
+        id: Id,
+        extent: Extent,
+        window: &[u8],
+    ) -> Option<usize>
+        requires takes { D.takes self.old.path.frames.profile }
+        requires open { self.old.state ≡ State.Open }
+        requires room { depth_of self.old.path.frames < 32 }
+        requires is_of { IsTrue (is_found_of self.old.path.frames.profile found) }
+        requires foreign { (levels : ℕ) × (read_as found ≡ Foreign levels) }
+        requires extent { Fits id (length window.now) extent }
+        requires fits { self.old.at + length window.now ≤ 1_048_576 }
+        ensures pending { self.new.pending ≡ self.old.pending }
+        ensures progress { Progresses (length window.now) self.old.path.frames self.new.path.frames
+            result }
+        ensures goes { (p : Named) (s rest more : List ℕ)
+            (b : StandsBefore p (HoldsAt p D.holds self.old.path) self.old.at s rest)
+            → rest ≡ window.now ++ more
+            → IsBegin self.old.path.frames b.place (tag_of_id id) found (form_of_id id)
+            → IsExtent p found id self.old.at window.now (Ok extent)
+            (judge (profile_of p) b.place self.old.at rest)
+            → HasAdvanced p D.holds D.has self.new s rest result }
+        ensures profile { self.new.path.frames.profile ≡ self.old.path.frames.profile }
+    {
+        match extent {
+            Extent::Opens(header, end) => {
+                let opening = Opening {
+                    found,
+                    id,
+                    header,
+                    end,
+                };
+                self.open(opening, true)
+            }
+            Extent::Reads(header, size) => {
+                let reading = Reading {
+                    found,
+                    id,
+                    header,
+                    size,
+                };
+                self.read_foreign(reading, window)
+            }
+        }
+    }
+
+    /// Takes a primitive element of a foreign tree, which begins the octets.
+    #[inline(always)]
+    fn read_foreign(&mut self, reading: Reading, octets: &[u8]) -> Option<usize>
+        requires takes { D.takes self.old.path.frames.profile }
+        requires open { self.old.state ≡ State.Open }
+        requires foreign { (levels : ℕ) × (read_as reading.found ≡ Foreign levels) }
+        requires header { (0 < reading.header)
+            × (reading.header + reading.size ≤ length octets.now) }
+        requires is_of { IsTrue (is_found_of self.old.path.frames.profile reading.found) }
+        requires fits { self.old.at + length octets.now ≤ 1_048_576 }
+        ensures pending { self.new.pending ≡ self.old.pending }
+        ensures progress { Progresses (length octets.now) self.old.path.frames self.new.path.frames
+            result }
+        ensures goes { (p : Named) (s rest more : List ℕ)
+            (b : StandsBefore p (HoldsAt p D.holds self.old.path) self.old.at s rest)
+            → rest ≡ octets.now ++ more
+            → IsJudgement p self.old.path.frames b.place self.old.at octets.now (Reads reading)
+            (judge (profile_of p) b.place self.old.at rest)
+            → HasAdvanced p D.holds D.has self.new s rest result }
+        ensures profile { self.new.path.frames.profile ≡ self.old.path.frames.profile }
+    {
+        let size = reading.header + reading.size;
+        let content = &octets[reading.header as usize..size as usize];
+        match self.path.take_module_element(reading, self.at, content) {
+            Ok(whole) => self.move_on(size, whole),
+            Err(failure) => self.fail(failure),
+        }
     }
 
     /// An end mark, whose first octet is there.
@@ -354,13 +517,15 @@ impl<D: Draft> Reader<D> {
         requires fits { self.old.at + length window.now ≤ 1_048_576 }
         requires depth { 0 < depth_of self.old.path.frames }
         ensures pending { self.new.pending ≡ self.old.pending }
-        ensures progress { Progresses (length window.now) self.old.path.frames self.new.path.frames result }
-        ensures goes { (p : Named) (room : ℕ) → LeadsOn p D.holds D.has self.old window.now room available_len self.new result
+        ensures progress { Progresses (length window.now) self.old.path.frames self.new.path.frames
+            result }
+        ensures goes { (p : Named) (room : ℕ)
+            → LeadsOn p D.holds D.has self.old window.now room available_len self.new result
             (λ place cut. judge_mark (profile_of p) place self.old.at cut (drop 1 window.now)) }
         ensures profile { self.new.path.frames.profile ≡ self.old.path.frames.profile }
     {
         let Some(second) = window.get(1) else {
-            return self.cut(available_len);
+            return self.refuse_cut(available_len);
         };
         if *second == 0 {
             return self.end_element(2);
@@ -380,8 +545,10 @@ impl<D: Draft> Reader<D> {
         requires fits { self.old.at + marks ≤ 1_048_576 }
         ensures pending { self.new.pending ≡ self.old.pending }
         ensures progress { Progresses marks self.old.path.frames self.new.path.frames result }
-        ensures goes { (p : Named) (window : List ℕ) (room available_len : ℕ) → marks ≤ length window
-            → LeadsOn p D.holds D.has self.old window room available_len self.new result (λ place cut. judge_end (profile_of p) place self.old.at marks) }
+        ensures goes { (p : Named) (window : List ℕ) (room available_len : ℕ)
+            → marks ≤ length window
+            → LeadsOn p D.holds D.has self.old window room available_len self.new result
+            (λ place cut. judge_end (profile_of p) place self.old.at marks) }
         ensures profile { self.new.path.frames.profile ≡ self.old.path.frames.profile }
     {
         if self.path.frames.lacks_part() {
@@ -399,11 +566,34 @@ impl<D: Draft> Reader<D> {
         ensures none { result ≡ None }
         ensures pending { self.new.pending ≡ self.old.pending }
         ensures goes { (p : Named) (window : List ℕ) (room available_len marks : ℕ)
-            → LeadsOn p D.holds D.has self.old window room available_len self.new result (λ place cut. judge_end (profile_of p) place self.old.at marks) }
+            → LeadsOn p D.holds D.has self.old window room available_len self.new result
+            (λ place cut. judge_end (profile_of p) place self.old.at marks) }
         ensures profile { self.new.path.frames.profile ≡ self.old.path.frames.profile }
     {
         let refusal = self.path.frames.missing_fault(self.at);
         self.refuse(refusal)
+    }
+
+    /// Does the same as [`Reader::element_with_any_header`], out of line.
+    #[inline(never)]
+    fn element_out_of_line(
+        &mut self,
+        window: &[u8],
+        room: u32,
+        available_len: usize,
+    ) -> Option<usize>
+        requires takes { D.takes self.old.path.frames.profile }
+        requires open { self.old.state ≡ State.Open }
+        requires fits { IsRoom self.old.at room window.now }
+        ensures pending { self.new.pending ≡ self.old.pending }
+        ensures progress { Progresses (length window.now) self.old.path.frames self.new.path.frames
+            result }
+        ensures goes { (p : Named)
+            → LeadsOn p D.holds D.has self.old window.now room available_len self.new result
+            (λ place cut. judge_element (profile_of p) place self.old.at cut window.now) }
+        ensures profile { self.new.path.frames.profile ≡ self.old.path.frames.profile }
+    {
+        self.element_with_any_header(window, room, available_len)
     }
 
     /// An element whose identifier isn't of one octet, or whose length isn't whole.
@@ -418,12 +608,15 @@ impl<D: Draft> Reader<D> {
         requires open { self.old.state ≡ State.Open }
         requires fits { IsRoom self.old.at room window.now }
         ensures pending { self.new.pending ≡ self.old.pending }
-        ensures progress { Progresses (length window.now) self.old.path.frames self.new.path.frames result }
-        ensures goes { (p : Named) → LeadsOn p D.holds D.has self.old window.now room available_len self.new result (λ place cut. judge_element (profile_of p) place self.old.at cut window.now) }
+        ensures progress { Progresses (length window.now) self.old.path.frames self.new.path.frames
+            result }
+        ensures goes { (p : Named)
+            → LeadsOn p D.holds D.has self.old window.now room available_len self.new result
+            (λ place cut. judge_element (profile_of p) place self.old.at cut window.now) }
         ensures profile { self.new.path.frames.profile ≡ self.old.path.frames.profile }
     {
         match read_header(window) {
-            HeaderRead::PartIdentifier => self.cut(available_len),
+            HeaderRead::PartIdentifier => self.refuse_cut(available_len),
             HeaderRead::NoIdentifier => self.refuse(Refusal {
                 at: self.at,
                 cause: Cause::BadTag,
@@ -453,8 +646,11 @@ impl<D: Draft> Reader<D> {
         requires fits { IsRoom self.old.at room window.now }
         requires header { IsHeaderRead (HeaderRead.Identified id length_read) window.now }
         ensures pending { self.new.pending ≡ self.old.pending }
-        ensures progress { Progresses (length window.now) self.old.path.frames self.new.path.frames result }
-        ensures goes { (p : Named) → LeadsOn p D.holds D.has self.old window.now room available_len self.new result (λ place cut. judge_element (profile_of p) place self.old.at cut window.now) }
+        ensures progress { Progresses (length window.now) self.old.path.frames self.new.path.frames
+            result }
+        ensures goes { (p : Named)
+            → LeadsOn p D.holds D.has self.old window.now room available_len self.new result
+            (λ place cut. judge_element (profile_of p) place self.old.at cut window.now) }
         ensures profile { self.new.path.frames.profile ≡ self.old.path.frames.profile }
     {
         let at = self.at;
@@ -470,7 +666,7 @@ impl<D: Draft> Reader<D> {
         self.open_or_read(found, id, extent, window, false)
     }
 
-    /// Opens the element that was found if it is constructed, and takes it if it is primitive; `usual` says that it is known to be usual.
+    /// Opens the element that was found if it is constructed, and takes it if it is primitive. `usual` says that it is known to be usual.
     #[inline(always)]
     fn open_or_read(
         &mut self,
@@ -488,10 +684,15 @@ impl<D: Draft> Reader<D> {
         requires extent { Fits id (length window.now) extent }
         requires fits { self.old.at + length window.now ≤ 1_048_576 }
         ensures pending { self.new.pending ≡ self.old.pending }
-        ensures progress { Progresses (length window.now) self.old.path.frames self.new.path.frames result }
-        ensures goes { (p : Named) (s rest more : List ℕ) (b : StandsBefore p (HoldsAt p D.holds self.old.path) self.old.at s rest) → rest ≡ window.now ++ more
+        ensures progress { Progresses (length window.now) self.old.path.frames self.new.path.frames
+            result }
+        ensures goes { (p : Named) (s rest more : List ℕ)
+            (b : StandsBefore p (HoldsAt p D.holds self.old.path) self.old.at s rest)
+            → rest ≡ window.now ++ more
             → IsBegin self.old.path.frames b.place (tag_of_id id) found (form_of_id id)
-            → IsExtent p found id self.old.at window.now (Ok extent) (judge (profile_of p) b.place self.old.at rest) → HasAdvanced p D.holds D.has self.new s rest result }
+            → IsExtent p found id self.old.at window.now (Ok extent)
+            (judge (profile_of p) b.place self.old.at rest)
+            → HasAdvanced p D.holds D.has self.new s rest result }
         ensures profile { self.new.path.frames.profile ≡ self.old.path.frames.profile }
     {
         match extent {
@@ -527,8 +728,10 @@ impl<D: Draft> Reader<D> {
         requires is_of { IsTrue (is_found_of self.old.path.frames.profile opening.found) }
         requires fits { self.old.at + opening.header ≤ 1_048_576 }
         ensures pending { self.new.pending ≡ self.old.pending }
-        ensures progress { Progresses opening.header self.old.path.frames self.new.path.frames result }
-        ensures goes { (p : Named) → Steps p D.holds D.has self.old (Opens opening) self.new result }
+        ensures progress { Progresses opening.header self.old.path.frames self.new.path.frames
+            result }
+        ensures goes { (p : Named)
+            → Steps p D.holds D.has self.old (Opens opening) self.new result }
         ensures profile { self.new.path.frames.profile ≡ self.old.path.frames.profile }
     {
         match self.path.open(opening, self.at, usual) {
@@ -543,13 +746,18 @@ impl<D: Draft> Reader<D> {
         requires takes { D.takes self.old.path.frames.profile }
         requires open { self.old.state ≡ State.Open }
         requires usual { IsTrue usual → IsTrue (is_usual (read_as reading.found) false) }
-        requires header { (0 < reading.header) × (reading.header + reading.size ≤ length octets.now) }
+        requires header { (0 < reading.header)
+            × (reading.header + reading.size ≤ length octets.now) }
         requires is_of { IsTrue (is_found_of self.old.path.frames.profile reading.found) }
         requires fits { self.old.at + length octets.now ≤ 1_048_576 }
         ensures pending { self.new.pending ≡ self.old.pending }
-        ensures progress { Progresses (length octets.now) self.old.path.frames self.new.path.frames result }
-        ensures goes { (p : Named) (s rest more : List ℕ) (b : StandsBefore p (HoldsAt p D.holds self.old.path) self.old.at s rest) → rest ≡ octets.now ++ more
-            → IsJudgement p self.old.path.frames b.place self.old.at octets.now (Reads reading) (judge (profile_of p) b.place self.old.at rest)
+        ensures progress { Progresses (length octets.now) self.old.path.frames self.new.path.frames
+            result }
+        ensures goes { (p : Named) (s rest more : List ℕ)
+            (b : StandsBefore p (HoldsAt p D.holds self.old.path) self.old.at s rest)
+            → rest ≡ octets.now ++ more
+            → IsJudgement p self.old.path.frames b.place self.old.at octets.now (Reads reading)
+            (judge (profile_of p) b.place self.old.at rest)
             → HasAdvanced p D.holds D.has self.new s rest result }
         ensures profile { self.new.path.frames.profile ≡ self.old.path.frames.profile }
     {
@@ -587,9 +795,15 @@ impl<D: Draft> Reader<D> {
         ensures pending { self.new.pending ≡ self.old.pending }
         ensures frames { self.new.path.frames ≡ self.old.path.frames }
         ensures size { result ≡ Some size }
-        ensures goes { (p : Named) → D.takes p → (path : Path D) (s rest : List ℕ) (judgement : Judgement) (b : StandsBefore p (HoldsAt p D.holds path) self.old.at s rest)
-            → IsProgress (depth_of path.frames) (length rest) judgement → IsJudgement p path.frames b.place self.old.at rest judgement (judge (profile_of p) b.place self.old.at rest)
-            → size ≡ size_of judgement → IsStep p D.holds self.old.path (Ok whole) (moved (judge (profile_of p) b.place self.old.at rest) b.place self.old.at rest)
+        ensures goes { (p : Named) → D.takes p
+            → (path : Path D) (s rest : List ℕ) (judgement : Judgement)
+            (b : StandsBefore p (HoldsAt p D.holds path) self.old.at s rest)
+            → IsProgress (depth_of path.frames) (length rest) judgement
+            → IsJudgement p path.frames b.place self.old.at rest judgement
+            (judge (profile_of p) b.place self.old.at rest)
+            → size ≡ size_of judgement
+            → IsStep p D.holds self.old.path (Ok whole)
+            (moved (judge (profile_of p) b.place self.old.at rest) b.place self.old.at rest)
             → HasAdvanced p D.holds D.has self.new s rest result }
         ensures profile { self.new.path.frames.profile ≡ self.old.path.frames.profile }
     {
@@ -605,7 +819,8 @@ impl<D: Draft> Reader<D> {
     fn fail(&mut self, failure: Failure) -> Option<usize>
         ensures none { result ≡ None }
         ensures pending { self.new.pending ≡ self.old.pending }
-        ensures goes { (p : Named) (s rest : List ℕ) → IsRefusedIn (profile_of p) s failure → HasAdvanced p D.holds D.has self.new s rest result }
+        ensures goes { (p : Named) (s rest : List ℕ) → IsRefusedIn (profile_of p) s failure
+            → HasAdvanced p D.holds D.has self.new s rest result }
         ensures profile { self.new.path.frames.profile ≡ self.old.path.frames.profile }
     {
         self.state = State::Failed(failure);
@@ -614,11 +829,13 @@ impl<D: Draft> Reader<D> {
 
     /// Fails where an octet is missing before the bound, unless it is only that the octets end.
     #[cold]
-    fn cut(&mut self, available_len: usize) -> Option<usize>
+    fn refuse_cut(&mut self, available_len: usize) -> Option<usize>
         requires open { self.old.state ≡ State.Open }
         ensures none { result ≡ None }
         ensures pending { self.new.pending ≡ self.old.pending }
-        ensures goes { (p : Named) (window : List ℕ) (room : ℕ) → LeadsOn p D.holds D.has self.old window room available_len self.new result (λ place cut. faulty cut) }
+        ensures goes { (p : Named) (window : List ℕ) (room : ℕ)
+            → LeadsOn p D.holds D.has self.old window room available_len self.new result
+            (λ place cut. faulty cut) }
         ensures profile { self.new.path.frames.profile ≡ self.old.path.frames.profile }
     {
         let refusal = self.path.frames.cut_fault(self.at, available_len);
@@ -631,7 +848,8 @@ impl<D: Draft> Reader<D> {
         requires open { self.old.state ≡ State.Open }
         ensures none { result ≡ None }
         ensures pending { self.new.pending ≡ self.old.pending }
-        ensures goes { (p : Named) (s rest : List ℕ) → CanRefuse p D.holds self.old s rest refusal → HasAdvanced p D.holds D.has self.new s rest result }
+        ensures goes { (p : Named) (s rest : List ℕ) → CanRefuse p D.holds self.old s rest refusal
+            → HasAdvanced p D.holds D.has self.new s rest result }
         ensures profile { self.new.path.frames.profile ≡ self.old.path.frames.profile }
     {
         if !matches!(&refusal.cause, Cause::Truncated) {
@@ -644,7 +862,8 @@ impl<D: Draft> Reader<D> {
     fn end(&mut self)
         ensures frames { self.new.path.frames ≡ self.old.path.frames }
         ensures pending { self.new.pending ≡ self.old.pending }
-        ensures ended { (p : Named) (s : List ℕ) (a : Apdu) → D.takes p → self.old.at ≤ length s → HoldsApdu p D.holds self.old.path.draft a (take self.old.at s)
+        ensures ended { (p : Named) (s : List ℕ) (a : Apdu) → D.takes p → self.old.at ≤ length s
+            → HoldsApdu p D.holds self.old.path.draft a (take self.old.at s)
             → HasClosed p D.has self.new s }
         ensures profile { self.new.path.frames.profile ≡ self.old.path.frames.profile }
     {
@@ -662,7 +881,8 @@ impl<D: Draft> Reader<D> {
     ///
     /// The failure, once it has failed.
     pub fn outcome(&self) -> Result<bool, Failure>
-        ensures { (p : Named) (s rest : List ℕ) → HasStopped p D.holds D.has self.now s rest → HasOutcome p D.has self.now s result }
+        ensures { (p : Named) (s rest : List ℕ) → HasStopped p D.holds D.has self.now s rest
+            → HasOutcome p D.has self.now s result }
     {
         match self.state {
             State::Whole => Ok(true),
@@ -678,9 +898,11 @@ impl<D: Draft> Reader<D> {
     /// The failure, once it has failed; or, where some octets were fed and the message isn't whole, Truncated at their number.
     #[inline(always)]
     pub fn ended(&self) -> Result<bool, Failure>
-        ensures open { (p : Named) (fed : List ℕ) → IsOpenAt p D.holds self.now fed → result ≡ ended fed }
+        ensures open { (p : Named) (fed : List ℕ) → IsOpenAt p D.holds self.now fed
+            → result ≡ ended fed }
         ensures whole { self.now.state ≡ State.Whole → result ≡ Ok true }
-        ensures failed { (failure : Failure) → self.now.state ≡ State.Failed failure → result ≡ Err failure }
+        ensures failed { (failure : Failure) → self.now.state ≡ State.Failed failure
+            → result ≡ Err failure }
     {
         match self.state {
             State::Whole => Ok(true),

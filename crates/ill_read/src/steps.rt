@@ -1,4 +1,4 @@
-//! What the path does when an element opens, is read or ends.
+//! Steps of the path: an element opens, is read or ends.
 ghost use Rattle.std.specs.Prelude.{◌≡◌, ◌+◌, ◌<◌, ◌≤◌, [], ◌∷◌, false, true, IfOk, IsTrue};
 ghost use Rattle.ill_read.specs.Paths.{HoldsAt};
 ghost use Rattle.ill_grammar.specs.Standing.{top_level};
@@ -26,7 +26,8 @@ fn open_in<D: Draft>(
     requires takes { D.takes profile }
     requires is_of { IsTrue (is_found_of profile opening.found) }
     requires usual { IsTrue usual → IsTrue (is_usual (read_as opening.found) true) }
-    ensures { IfOk result (λ contents_start. HasOpened D.holds draft.old (shape place) opening contents_start draft.new) }
+    ensures { IfOk result (λ contents_start. HasOpened D.holds draft.old (shape place) opening
+        contents_start draft.new) }
 {
     if usual {
         return draft.open_usual(profile, place, opening);
@@ -44,7 +45,8 @@ impl<D: Draft> Path<D> {
     /// No open element, and a draft of nothing, of a message that is read in the profile.
     #[inline(always)]
     pub fn new(profile: Profile, draft: D) -> Path<D>
-        ensures holds { D.holds draft (top_level profile ∷ []) [] → HoldsAt profile D.holds result [] }
+        ensures holds { D.holds draft (top_level profile ∷ []) []
+            → HoldsAt profile D.holds result [] }
         ensures profile { result.frames.profile ≡ profile }
     {
         Path {
@@ -56,7 +58,8 @@ impl<D: Draft> Path<D> {
     /// Forgets all open elements, and begins with a draft of nothing, of a message that is read in the profile.
     #[inline(always)]
     pub fn restart(&mut self, profile: Profile, draft: D)
-        ensures holds { D.holds draft (top_level profile ∷ []) [] → HoldsAt profile D.holds self.new [] }
+        ensures holds { D.holds draft (top_level profile ∷ []) []
+            → HoldsAt profile D.holds self.new [] }
         ensures profile { self.new.frames.profile ≡ profile }
     {
         self.frames.restart(profile);
@@ -94,7 +97,7 @@ impl<D: Draft> Path<D> {
         Ok(())
     }
 
-    /// Takes the content of a primitive element that is due and begins at `start`; `usual` says that it is known to be usual. Returns whether the message is whole.
+    /// Takes the content of a primitive element that is due and begins at `start`. `usual` says that it is known to be usual. Returns whether the message is whole.
     #[inline(always)]
     pub fn take(
         &mut self,
@@ -199,7 +202,8 @@ impl<D: Draft> Path<D> {
     }
 
     /// Takes the content of an element that only the module profile has.
-    fn take_module_element(
+    #[inline(always)]
+    pub fn take_module_element(
         &mut self,
         reading: Reading,
         start: u32,

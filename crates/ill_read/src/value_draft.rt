@@ -65,15 +65,17 @@ impl ValueDraft {
     }
 
     /// The message that is held, of as many octets, unless its normal form passes the limit.
-    fn made(&mut self, octets: u32) -> Option<Message>
-        ensures { (a : Apdu) (b : List ℕ) → HoldsApdu Two AreValues self.old a b → IsMessageOf a octets result }
+    fn message_of_draft(&mut self, octets: u32) -> Option<Message>
+        ensures { (a : Apdu) (b : List ℕ) → HoldsApdu Two AreValues self.old a b
+            → IsMessageOf a octets result }
     {
         message_of(self.body()?, octets)
     }
 
     /// The value of a message that is whole.
     fn body(&mut self) -> Option<ApduValue>
-        ensures { (c : Content) → AreValues self.old (whole_level Two c ∷ []) [] → IsBodyOf result c }
+        ensures { (c : Content) → AreValues self.old (whole_level Two c ∷ []) []
+            → IsBodyOf result c }
     {
         match self.held.last()? {
             Value::Alt(row, value) => Some(ApduValue {
@@ -197,7 +199,7 @@ impl Draft for ValueDraft {
     }
 
     fn end(&mut self, octets: u32) -> bool {
-        match self.made(octets) {
+        match self.message_of_draft(octets) {
             Some(message) => {
                 self.message = Some(message);
                 true

@@ -9,7 +9,8 @@ use ill_schema::{Message, apdu_node, fits, normal_size};
 
 /// The message of a body, unless its normal form passes the limit.
 pub fn message_of(body: ApduValue, octets: u32) -> Option<Message>
-    ensures { (b : List ℕ) → Encodes profile_two (body_apdu body) b → IsMessageOf (body_apdu body) octets result }
+    ensures { (b : List ℕ) → Encodes profile_two (body_apdu body) b
+        → IsMessageOf (body_apdu body) octets result }
 {
     let apdu = body.row.saturating_add(1);
     let node = apdu_node(apdu)?;

@@ -1,4 +1,4 @@
-//! What holds of each input. Each law is the contract of a function that does nothing.
+//! Laws of each input. Each is the contract of a function that does nothing.
 ghost use Rattle.std.specs.Prelude.{◌≡◌};
 ghost use Rattle.ber_core.specs.Identifier.{Tag};
 ghost use Rattle.ber_core.specs.Tree.{Trees};
@@ -42,7 +42,7 @@ pub fn values_are_small()
     ensures { (p : Profile) → ValuesAreSmall p }
 {}
 
-/// What is read at the front of octets is an identifier or a length as X.690 spells it (8.1.2, 8.1.3), the front of one, or none.
+/// Reads at the front of octets an identifier or a length as X.690 spells it (8.1.2, 8.1.3), the front of one, or none.
 pub fn headers_are_read()
     ensures identifiers { IdentifiersAreRead }
     ensures lengths { LengthsAreRead }

@@ -1,4 +1,4 @@
-//! What a row says of its entry.
+//! The entry of a row.
 ghost use Rattle.std.specs.Prelude.{◌≡◌, ◌↔◌, IsTrue};
 ghost use Rattle.ill_schema.specs.Presence.{IsCarried, MayLack, is_default};
 ghost use Rattle.ill_schema.specs.Value.{content_of};

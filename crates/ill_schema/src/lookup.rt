@@ -1,4 +1,4 @@
-//! What the tables say of a node and of its rows.
+//! Look-ups in the tables: nodes and their rows.
 ghost use Rattle.std.specs.Prelude.{◌≡◌, length, slice_get};
 ghost use Rattle.ill_schema.specs.Names.{node_in};
 ghost use Rattle.ill_schema.specs.Profiles.{profile_of};

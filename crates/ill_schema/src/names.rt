@@ -608,7 +608,8 @@ pub fn row_names(node: NodeId) -> &'static [&'static str]
 /// The names of a part: its node's, which is empty for a list inside a row, and its
 /// row's. None where the node has no such row.
 pub fn part_name(part: PartId) -> Option<(&'static str, &'static str)>
-    ensures names { MatchOption result (part_name_of part ≡ None) (λ names. part_name_of part ≡ Some (names.0.now, names.1.now)) }
+    ensures names { MatchOption result (part_name_of part ≡ None)
+        (λ names. part_name_of part ≡ Some (names.0.now, names.1.now)) }
     ensures there { IsSome result ↔ IsSome (slice_get (rows_of part.node) part.row) }
 {
     let row = row_names(part.node).get(part.row as usize)?;
@@ -617,9 +618,12 @@ pub fn part_name(part: PartId) -> Option<(&'static str, &'static str)>
 
 /// The names of a part in the profile, as [`part_name`] gives them.
 pub fn part_name_as(profile: Profile, part: PartId) -> Option<(&'static str, &'static str)>
-    ensures names { MatchOption result (part_name_of (record part { node = node_in (profile_of profile) part.node }) ≡ None)
-        (λ names. part_name_of (record part { node = node_in (profile_of profile) part.node }) ≡ Some (names.0.now, names.1.now)) }
-    ensures there { IsSome result ↔ IsSome (slice_get (rows_of (node_in (profile_of profile) part.node)) part.row) }
+    ensures names { MatchOption result
+        (part_name_of (record part { node = node_in (profile_of profile) part.node }) ≡ None)
+        (λ names. part_name_of (record part { node = node_in (profile_of profile) part.node })
+        ≡ Some (names.0.now, names.1.now)) }
+    ensures there { IsSome result
+        ↔ IsSome (slice_get (rows_of (node_in (profile_of profile) part.node)) part.row) }
 {
     part_name(PartId {
         node: profile.node(part.node),
@@ -655,14 +659,16 @@ pub fn apdu_node_as(profile: Profile, number: u8) -> Option<NodeId>
 
 /// The name of an APDU, None where no APDU of the number is carried.
 pub fn apdu_name(number: u8) -> Option<&'static str>
-    ensures { MatchOption result (apdu_name_of number ≡ None) (λ name. apdu_name_of number ≡ Some name.now) }
+    ensures { MatchOption result (apdu_name_of number ≡ None)
+        (λ name. apdu_name_of number ≡ Some name.now) }
 {
     apdu_name_as(Profile::Two, number)
 }
 
 /// The name of an APDU in the profile, None where no APDU of the number is carried.
 pub fn apdu_name_as(profile: Profile, number: u8) -> Option<&'static str>
-    ensures { MatchOption result (apdu_name_in (profile_of profile) number ≡ None) (λ name. apdu_name_in (profile_of profile) number ≡ Some name.now) }
+    ensures { MatchOption result (apdu_name_in (profile_of profile) number ≡ None)
+        (λ name. apdu_name_in (profile_of profile) number ≡ Some name.now) }
 {
     let node = apdu_node_as(profile, number)?;
     Some(node_name(node))

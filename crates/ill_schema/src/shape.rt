@@ -20,7 +20,8 @@ use ber_leaf::{DateText, IllString, PrintableText, TimeText};
 
 /// The row that a choice may take under a number.
 fn alternative(node: NodeId, number: u8) -> Option<Row>
-    ensures { MatchOption result ((row : Row) → IsAlternative node number row → ⊥) (IsAlternative node number) }
+    ensures { MatchOption result ((row : Row) → IsAlternative node number row → ⊥)
+        (IsAlternative node number) }
 {
     if kind(node) != Kind::Choice {
         return None;

@@ -22,7 +22,7 @@ use crate::part::{PartId, Row};
 use crate::table::rows_of;
 use crate::tagging::{replacement, wrapper};
 use crate::value::Value;
-use ber_core::Class;
+use ber_core::{Class, length_size};
 use ber_leaf::{
     DateText, Flag, GeneralText, IllString, Leaf, PrintableText, TimeText, VisibleText, Whole,
 };
@@ -43,47 +43,13 @@ fn within_limit(size: usize) -> Option<usize>
 /// The number of octets that the identifier of an element takes, where this tag replaces its own:
 /// that is universal, of a number below 31.
 fn identifier_size(replaced: Option<(Class, u32)>) -> usize
-    ensures value { (kind : Kind) (c : Content) (form : Bool) → length (identifier (element_tag replaced kind c) form) ≡ result }
+    ensures value { (kind : Kind) (c : Content) (form : Bool)
+        → length (identifier (element_tag replaced kind c) form) ≡ result }
     ensures small { result ≤ 5 }
 {
     match replaced {
-        Some((_, number)) => number_size(number),
+        Some((_, number)) => ber_core::identifier_size(number),
         None => 1,
-    }
-}
-
-/// The number of octets that the identifier of a tag of this number takes.
-fn number_size(number: u32) -> usize
-    ensures value { (tag : Tag) (form : Bool) → tag.number ≡ number → length (identifier tag form) ≡ result }
-    ensures small { result ≤ 5 }
-{
-    if number < 31 {
-        1
-    } else if number < 128 {
-        2
-    } else if number < 16_384 {
-        3
-    } else if number < 2_097_152 {
-        4
-    } else {
-        5
-    }
-}
-
-/// The number of octets that a length takes.
-fn length_size(contents: usize) -> usize
-    requires { contents ≤ profile_two.limit }
-    ensures value { result ≡ length (short_length contents) }
-    ensures small { result ≤ 5 }
-{
-    if contents < 0x80 {
-        1
-    } else if contents < 0x100 {
-        2
-    } else if contents < 0x1_0000 {
-        3
-    } else {
-        4
     }
 }
 
@@ -92,7 +58,7 @@ fn element_size(replaced: Option<(Class, u32)>, contents: usize) -> Option<usize
     ensures { IsElementSize replaced contents result }
 {
     let contents = within_limit(contents)?;
-    within_limit(identifier_size(replaced) + length_size(contents) + contents)
+    within_limit(identifier_size(replaced) + length_size(contents as u32) + contents)
 }
 
 /// The size of a row's element.
@@ -147,7 +113,8 @@ fn row_at(node: NodeId, i: usize) -> Option<Row>
 /// The size of the elements of a sequence.
 #[cycle(size)]
 fn entries_size(entries: &Vec<Option<Value>>, node: NodeId) -> Option<usize>
-    ensures { IsSizeWithin result (sizes (normal_trees (entries_content entries.now.items) (rows_of node))) }
+    ensures { IsSizeWithin result
+        (sizes (normal_trees (entries_content entries.now.items) (rows_of node))) }
 {
     let mut sum = 0;
     for (i, entry) in entries.iter().enumerate() {
@@ -178,7 +145,8 @@ fn present_size(row: Option<Row>, value: &Value) -> Option<usize>
 /// The size of the elements of a list.
 #[cycle(size)]
 fn items_size(items: &Vec<Value>, node: NodeId) -> Option<usize>
-    ensures { IsSizeWithin result (sizes (normal_items (items_content items.now.items) (rows_of node))) }
+    ensures { IsSizeWithin result
+        (sizes (normal_items (items_content items.now.items) (rows_of node))) }
 {
     let row = row_at(node, 0);
     let mut sum = 0;
@@ -238,7 +206,8 @@ fn apdu_row(node: NodeId) -> Option<Row>
 }
 
 fn node_size(value: &Value, node: NodeId) -> Option<usize>
-    ensures { IsSizeWithin result (size (node_tree (apdu_row_of node) node (content_of value.now))) }
+    ensures { IsSizeWithin result
+        (size (node_tree (apdu_row_of node) node (content_of value.now))) }
 {
     match apdu_row(node) {
         Some(row) => row_size(row, value),

@@ -1,4 +1,4 @@
-//! Where a row's tag is in the normal form: around the element, or in place of its own.
+//! The place of a row's tag in the normal form: around the element, or instead of its own.
 ghost use Rattle.std.specs.Prelude.{◌≡◌};
 ghost use Rattle.ill_schema.specs.Elements.{wrapper, replacement};
 

@@ -33,13 +33,13 @@ use Rattle.ill_schema.specs.declared.part.PartId.{PartId}
 use Rattle.ill_grammar.specs.declared.leaf_type.LeafType.{LeafType}
 use Rattle.ill_grammar.specs.declared.leaf_type.ModuleLeaf.{ModuleLeaf}
 use Rattle.ill_text.specs.Shown.{row_name, row_node}
-use Rattle.ill_text.specs.code.Trails.{head_line, place_at}
+use Rattle.ill_text.specs.code.FieldPaths.{head_line, place_at}
 use Rattle.ill_text.specs.Shown.{shown_text_in}
 use Rattle.ber_leaf.specs.Profile.{Profile}
 use Rattle.ill_schema.specs.Apdu.{Apdu, root}
 use Rattle.std.proofs.Common.{slice_get}
 use Rattle.ill_text.specs.code.Sending.{Adds, Sending}
-use Rattle.ill_text.specs.code.Trails.{is_nothing, path_of}
+use Rattle.ill_text.specs.code.FieldPaths.{is_nothing, path_of}
 use Rattle.ill_text.specs.declared.field_path.FieldPath.{FieldPath, Start, Row, Item, the_lemmas}
 use Rattle.ill_text.proofs.Sent.{adds_then, adds_as}
 
@@ -531,13 +531,13 @@ entry_there (Some c) ms h on = (c, refl, h)
 
 -- ---- where a part and an item are
 
-pub part_place : (trail : Bor FieldPath) (name : Bor (List ℕ)) (node inner : NodeId) (i : ℕ) → name.now ≡ row_name node i → inner ≡ row_node node i → place_at (Row trail name) name.now inner ≡ part (place_at trail.now [] node) i
-part_place trail name node inner i n k =
-    ap (λ x. let p : Place = record { path = x; name = name.now; node = inner } in p) (path_of-Row trail name)
-    ∙ ap₂ (λ (x : List ℕ) (y : NodeId). let p : Place = record { path = within (path_of trail.now) x; name = x; node = y } in p) n k
+pub part_place : (path : Bor FieldPath) (name : Bor (List ℕ)) (node inner : NodeId) (i : ℕ) → name.now ≡ row_name node i → inner ≡ row_node node i → place_at (Row path name) name.now inner ≡ part (place_at path.now [] node) i
+part_place path name node inner i n k =
+    ap (λ x. let p : Place = record { path = x; name = name.now; node = inner } in p) (path_of-Row path name)
+    ∙ ap₂ (λ (x : List ℕ) (y : NodeId). let p : Place = record { path = within (path_of path.now) x; name = x; node = y } in p) n k
 
-pub item_place : (trail : Bor FieldPath) (name : List ℕ) (node inner : NodeId) (i : ℕ) → inner ≡ row_node node 0 → place_at (Item trail i) name inner ≡ item_of (place_at trail.now name node) i
-item_place trail name node inner i k = ap₂ (λ (x : List ℕ) (y : NodeId). let p : Place = record { path = x; name = name; node = y } in p) (path_of-Item trail i) k
+pub item_place : (path : Bor FieldPath) (name : List ℕ) (node inner : NodeId) (i : ℕ) → inner ≡ row_node node 0 → place_at (Item path i) name inner ≡ item_of (place_at path.now name node) i
+item_place path name node inner i k = ap₂ (λ (x : List ℕ) (y : NodeId). let p : Place = record { path = x; name = name; node = y } in p) (path_of-Item path i) k
 
 pub not_some : (x : Option Mark) → ((m : Mark) → x ≡ Some m → ⊥) → x ≡ None
 not_some None h = refl

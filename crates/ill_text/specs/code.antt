@@ -1,5 +1,5 @@
 pub mod Sending
-pub mod Trails
+pub mod FieldPaths
 pub mod ObjectIdentifiers
 pub mod Bits
 pub mod Elements

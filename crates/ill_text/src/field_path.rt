@@ -1,8 +1,8 @@
-//! Where a value is.
+//! Paths of values.
 ghost use Rattle.std.specs.Prelude.{◌≡◌, not, IsTrue};
 ghost use Rattle.ill_text.specs.Shown.{line};
 ghost use Rattle.ill_text.specs.code.Sending.{Adds, sending};
-ghost use Rattle.ill_text.specs.code.Trails.{is_nothing, path_of};
+ghost use Rattle.ill_text.specs.code.FieldPaths.{is_nothing, path_of};
 
 use crate::text_sink::TextSink;
 use ber_core::Sink;
@@ -20,12 +20,13 @@ pub enum FieldPath<'a> {
 
 /// Puts the path, and returns whether it has any octet.
 #[cycle(path)]
-pub fn put_path<W: Sink>(trail: &FieldPath<'_>, out: &mut TextSink, sink: &mut W) -> bool
-    ensures adds { Adds (path_of trail.now) (sending (W.contents sink.old) (W.is_broken sink.old) out.old) (sending (W.contents sink.new) (W.is_broken sink.new) out.new) }
-    ensures some { result ≡ not (is_nothing (path_of trail.now)) }
+pub fn put_path<W: Sink>(path: &FieldPath<'_>, out: &mut TextSink, sink: &mut W) -> bool
+    ensures adds { Adds (path_of path.now) (sending (W.contents sink.old) (W.is_broken sink.old)
+        out.old) (sending (W.contents sink.new) (W.is_broken sink.new) out.new) }
+    ensures some { result ≡ not (is_nothing (path_of path.now)) }
     ensures stays { IsTrue (W.is_broken sink.old) → IsTrue (W.is_broken sink.new) }
 {
-    match trail {
+    match path {
         FieldPath::Start => false,
         FieldPath::Row(outer, name) => {
             let some = put_path(outer, out, sink);
@@ -50,11 +51,13 @@ pub fn put_path<W: Sink>(trail: &FieldPath<'_>, out: &mut TextSink, sink: &mut W
 }
 
 /// Puts a line whose text is known.
-pub fn put_line<W: Sink>(trail: &FieldPath<'_>, text: &[u8], out: &mut TextSink, sink: &mut W)
-    ensures adds { Adds (line (path_of trail.now) text.now) (sending (W.contents sink.old) (W.is_broken sink.old) out.old) (sending (W.contents sink.new) (W.is_broken sink.new) out.new) }
+pub fn put_line<W: Sink>(path: &FieldPath<'_>, text: &[u8], out: &mut TextSink, sink: &mut W)
+    ensures adds { Adds (line (path_of path.now) text.now)
+        (sending (W.contents sink.old) (W.is_broken sink.old) out.old)
+        (sending (W.contents sink.new) (W.is_broken sink.new) out.new) }
     ensures stays { IsTrue (W.is_broken sink.old) → IsTrue (W.is_broken sink.new) }
 {
-    let _ = put_path(trail, out, sink);
+    let _ = put_path(path, out, sink);
     out.put(sink, b" = ");
     out.put(sink, text);
     out.put(sink, b"\n");

@@ -11,7 +11,7 @@ ghost use Rattle.ill_text.specs.Shown.{line, tree_text, trees_text};
 ghost use Rattle.ill_text.specs.Marks.{leading_octets, octets_in};
 ghost use Rattle.ill_text.specs.code.Elements.{blank, is_last, up_to_last};
 ghost use Rattle.ill_text.specs.code.Sending.{Adds, counted, sending};
-ghost use Rattle.ill_text.specs.code.Trails.{path_of};
+ghost use Rattle.ill_text.specs.code.FieldPaths.{path_of};
 
 use crate::field_path::{FieldPath, put_path};
 use crate::leaf::leading_octets;
@@ -26,7 +26,7 @@ const LEVELS: u8 = 20;
 /// Puts the line of a foreign tree whose octets the marks begin with, and returns how many octets it has.
 pub fn put_foreign<W: Sink>(
     marks: &[Mark],
-    trail: &FieldPath<'_>,
+    path: &FieldPath<'_>,
     out: &mut TextSink,
     sink: &mut W,
 ) -> usize
@@ -34,13 +34,13 @@ pub fn put_foreign<W: Sink>(
     ensures within { result ≤ length marks.now }
     ensures adds { (T : Tree) → IsTrue (is_foreign foreign_levels T)
         → octets_in (take result marks.now) ≡ encoding T
-        → Adds (line (path_of trail.now) (codes "foreign " ++ tree_text T))
+        → Adds (line (path_of path.now) (codes "foreign " ++ tree_text T))
         (sending (W.contents sink.old) (W.is_broken sink.old) out.old)
         (sending (W.contents sink.new) (W.is_broken sink.new) out.new) }
     ensures stays { IsTrue (W.is_broken sink.old) → IsTrue (W.is_broken sink.new) }
 {
     let count = leading_octets(marks);
-    let _ = put_path(trail, out, sink);
+    let _ = put_path(path, out, sink);
     out.put(sink, b" = foreign ");
     put_trees(LEVELS, &marks[..count], out, sink);
     out.put(sink, b"\n");
@@ -112,7 +112,8 @@ fn put_blank<W: Sink>(marks: &[Mark], out: &mut TextSink, sink: &mut W)
 fn split_identifier(marks: &[Mark]) -> (&[Mark], &[Mark])
     ensures exact { (tag : Tag) (form : Bool) (rest : List ℕ) → HasIdentifier tag form
         → marks.now ≡ map Mark.Octet (identifier tag form ++ rest)
-        → (result.0.now ≡ map Mark.Octet (identifier tag form)) × (result.1.now ≡ map Mark.Octet rest) }
+        → (result.0.now ≡ map Mark.Octet (identifier tag form))
+        × (result.1.now ≡ map Mark.Octet rest) }
     ensures shorter { 0 < length marks.now → length result.1.now < length marks.now }
     ensures no_longer { length result.1.now ≤ length marks.now }
 {

@@ -15,7 +15,7 @@ ghost use Rattle.ill_text.specs.Numbers.{number_name};
 ghost use Rattle.ill_text.specs.Shown.{escaped, in_brackets, leaf_text, line};
 ghost use Rattle.ill_text.specs.Marks.{entry_text, leading_octets, is_octet, is_there, octets_in};
 ghost use Rattle.ill_text.specs.code.Sending.{Adds, sending};
-ghost use Rattle.ill_text.specs.code.Trails.{path_of, place_at};
+ghost use Rattle.ill_text.specs.code.FieldPaths.{path_of, place_at};
 
 use crate::field_path::{FieldPath, put_line, put_path};
 use crate::number::number_name;
@@ -34,30 +34,33 @@ pub const DIGITS: &[u8; 16] = b"0123456789abcdef";
 pub fn put_leaf<W: Sink>(
     leaf: LeafType,
     marks: &[Mark],
-    trail: &FieldPath<'_>,
+    path: &FieldPath<'_>,
     name: &str,
     out: &mut TextSink,
     sink: &mut W,
 ) -> usize
     ensures exact { result ≡ leading_octets marks.now }
     ensures within { result ≤ length marks.now }
-    ensures adds { (p : Named) → IsContentIn p (leaf_is leaf) (octets_in (take result marks.now)) → Adds (line (path_of trail.now) (leaf_text name.now (value (leaf_is leaf) (octets_in (take result marks.now)))))
-        (sending (W.contents sink.old) (W.is_broken sink.old) out.old) (sending (W.contents sink.new) (W.is_broken sink.new) out.new) }
+    ensures adds { (p : Named) → IsContentIn p (leaf_is leaf) (octets_in (take result marks.now))
+        → Adds (line (path_of path.now)
+        (leaf_text name.now (value (leaf_is leaf) (octets_in (take result marks.now)))))
+        (sending (W.contents sink.old) (W.is_broken sink.old) out.old)
+        (sending (W.contents sink.new) (W.is_broken sink.new) out.new) }
     ensures stays { IsTrue (W.is_broken sink.old) → IsTrue (W.is_broken sink.new) }
 {
     match leaf {
         LeafType::Boolean => {
             let count = leading_octets(marks);
-            put_line(trail, flag_text(is_set(&marks[..count])), out, sink);
+            put_line(path, flag_text(is_set(&marks[..count])), out, sink);
             count
         }
-        LeafType::Integer => put_whole(trail, name, marks, out, sink),
-        LeafType::Enumerated => put_whole(trail, name, marks, out, sink),
-        LeafType::General => put_quoted(trail, "general \"", marks, out, sink),
-        LeafType::Visible => put_quoted(trail, "visible \"", marks, out, sink),
-        LeafType::Printable => put_quoted(trail, "\"", marks, out, sink),
-        LeafType::Date => put_plain(trail, marks, out, sink),
-        LeafType::Time => put_plain(trail, marks, out, sink),
+        LeafType::Integer => put_whole(path, name, marks, out, sink),
+        LeafType::Enumerated => put_whole(path, name, marks, out, sink),
+        LeafType::General => put_quoted(path, "general \"", marks, out, sink),
+        LeafType::Visible => put_quoted(path, "visible \"", marks, out, sink),
+        LeafType::Printable => put_quoted(path, "\"", marks, out, sink),
+        LeafType::Date => put_plain(path, marks, out, sink),
+        LeafType::Time => put_plain(path, marks, out, sink),
     }
 }
 
@@ -95,13 +98,15 @@ pub fn has_default(part: PartId) -> bool
 /// Puts the line of the default of a row that was passed, if it has one.
 pub fn put_default<W: Sink>(
     part: PartId,
-    trail: &FieldPath<'_>,
+    path: &FieldPath<'_>,
     name: &str,
     out: &mut TextSink,
     sink: &mut W,
 )
-    ensures adds { (e : Option Content) (node : NodeId) → IsPassed part e → Adds (entry_text (place_at trail.now name.now node) e)
-        (sending (W.contents sink.old) (W.is_broken sink.old) out.old) (sending (W.contents sink.new) (W.is_broken sink.new) out.new) }
+    ensures adds { (e : Option Content) (node : NodeId) → IsPassed part e
+        → Adds (entry_text (place_at path.now name.now node) e)
+        (sending (W.contents sink.old) (W.is_broken sink.old) out.old)
+        (sending (W.contents sink.new) (W.is_broken sink.new) out.new) }
     ensures stays { IsTrue (W.is_broken sink.old) → IsTrue (W.is_broken sink.new) }
 {
     let Some(row) = row(part) else {
@@ -110,25 +115,27 @@ pub fn put_default<W: Sink>(
     let Presence::Default(number) = row.presence else {
         return;
     };
-    put_value_of(row.node, number, trail, name, out, sink);
+    put_value_of(row.node, number, path, name, out, sink);
 }
 
 /// Puts the line of the value that the number of a default stands for.
 fn put_value_of<W: Sink>(
     node: NodeId,
     number: i64,
-    trail: &FieldPath<'_>,
+    path: &FieldPath<'_>,
     name: &str,
     out: &mut TextSink,
     sink: &mut W,
 )
-    ensures adds { Adds (line (path_of trail.now) (leaf_text name.now (default_value (kind_of node) number)))
-        (sending (W.contents sink.old) (W.is_broken sink.old) out.old) (sending (W.contents sink.new) (W.is_broken sink.new) out.new) }
+    ensures adds { Adds (line (path_of path.now)
+        (leaf_text name.now (default_value (kind_of node) number)))
+        (sending (W.contents sink.old) (W.is_broken sink.old) out.old)
+        (sending (W.contents sink.new) (W.is_broken sink.new) out.new) }
     ensures stays { IsTrue (W.is_broken sink.old) → IsTrue (W.is_broken sink.new) }
 {
     match kind(node) {
-        Kind::Leaf(LeafKind::Boolean) => put_line(trail, flag_text(number == 1), out, sink),
-        _ => put_number(trail, name, number, out, sink),
+        Kind::Leaf(LeafKind::Boolean) => put_line(path, flag_text(number == 1), out, sink),
+        _ => put_number(path, name, number, out, sink),
     }
 }
 
@@ -162,7 +169,7 @@ fn has_set(mark: Mark) -> bool
 
 /// Puts a line with the number that the marks begin with, and returns how many octets it has.
 fn put_whole<W: Sink>(
-    trail: &FieldPath<'_>,
+    path: &FieldPath<'_>,
     name: &str,
     marks: &[Mark],
     out: &mut TextSink,
@@ -170,29 +177,35 @@ fn put_whole<W: Sink>(
 ) -> usize
     ensures exact { result ≡ leading_octets marks.now }
     ensures within { result ≤ length marks.now }
-    ensures adds { 0 < length (octets_in (take result marks.now)) → length (octets_in (take result marks.now)) ≤ 8
-        → Adds (line (path_of trail.now) (leaf_text name.now (whole (integer_of (octets_in (take result marks.now)))))) (sending (W.contents sink.old) (W.is_broken sink.old) out.old) (sending (W.contents sink.new) (W.is_broken sink.new) out.new) }
+    ensures adds { 0 < length (octets_in (take result marks.now))
+        → length (octets_in (take result marks.now)) ≤ 8
+        → Adds (line (path_of path.now)
+        (leaf_text name.now (whole (integer_of (octets_in (take result marks.now))))))
+        (sending (W.contents sink.old) (W.is_broken sink.old) out.old)
+        (sending (W.contents sink.new) (W.is_broken sink.new) out.new) }
     ensures stays { IsTrue (W.is_broken sink.old) → IsTrue (W.is_broken sink.new) }
 {
     let count = leading_octets(marks);
-    put_number(trail, name, number_in(&marks[..count]), out, sink);
+    put_number(path, name, number_in(&marks[..count]), out, sink);
     count
 }
 
 /// Puts a line with a number, and its name in the row, if it has one.
 fn put_number<W: Sink>(
-    trail: &FieldPath<'_>,
+    path: &FieldPath<'_>,
     name: &str,
     number: i64,
     out: &mut TextSink,
     sink: &mut W,
 )
-    ensures adds { Adds (line (path_of trail.now) (signed_decimal number ++ in_brackets (number_name name.now number)))
-        (sending (W.contents sink.old) (W.is_broken sink.old) out.old) (sending (W.contents sink.new) (W.is_broken sink.new) out.new) }
+    ensures adds { Adds (line (path_of path.now)
+        (signed_decimal number ++ in_brackets (number_name name.now number)))
+        (sending (W.contents sink.old) (W.is_broken sink.old) out.old)
+        (sending (W.contents sink.new) (W.is_broken sink.new) out.new) }
     ensures stays { IsTrue (W.is_broken sink.old) → IsTrue (W.is_broken sink.new) }
 {
     let mut buffer = Buffer::new();
-    let _ = put_path(trail, out, sink);
+    let _ = put_path(path, out, sink);
     out.put(sink, b" = ");
     out.put(sink, buffer.format(number).as_bytes());
     put_name(name, number, out, sink);
@@ -201,7 +214,9 @@ fn put_number<W: Sink>(
 
 /// Puts the name of a number in brackets, if it has one in the row.
 fn put_name<W: Sink>(row: &str, number: i64, out: &mut TextSink, sink: &mut W)
-    ensures adds { Adds (in_brackets (number_name row.now number)) (sending (W.contents sink.old) (W.is_broken sink.old) out.old) (sending (W.contents sink.new) (W.is_broken sink.new) out.new) }
+    ensures adds { Adds (in_brackets (number_name row.now number))
+        (sending (W.contents sink.old) (W.is_broken sink.old) out.old)
+        (sending (W.contents sink.new) (W.is_broken sink.new) out.new) }
     ensures stays { IsTrue (W.is_broken sink.old) → IsTrue (W.is_broken sink.new) }
 {
     match number_name(row, number) {
@@ -217,7 +232,7 @@ fn put_name<W: Sink>(row: &str, number: i64, out: &mut TextSink, sink: &mut W)
 /// Puts a line with the string that the marks begin with in quotation marks, after what it opens with, and returns how many octets it has.
 #[inline(always)]
 pub fn put_quoted<W: Sink>(
-    trail: &FieldPath<'_>,
+    path: &FieldPath<'_>,
     opening: &str,
     marks: &[Mark],
     out: &mut TextSink,
@@ -225,11 +240,13 @@ pub fn put_quoted<W: Sink>(
 ) -> usize
     ensures exact { result ≡ leading_octets marks.now }
     ensures within { result ≤ length marks.now }
-    ensures adds { Adds (line (path_of trail.now) (opening.now ++ (flat_map escaped (octets_in (take result marks.now)) ++ codes "\"")))
-        (sending (W.contents sink.old) (W.is_broken sink.old) out.old) (sending (W.contents sink.new) (W.is_broken sink.new) out.new) }
+    ensures adds { Adds (line (path_of path.now)
+        (opening.now ++ (flat_map escaped (octets_in (take result marks.now)) ++ codes "\"")))
+        (sending (W.contents sink.old) (W.is_broken sink.old) out.old)
+        (sending (W.contents sink.new) (W.is_broken sink.new) out.new) }
     ensures stays { IsTrue (W.is_broken sink.old) → IsTrue (W.is_broken sink.new) }
 {
-    let _ = put_path(trail, out, sink);
+    let _ = put_path(path, out, sink);
     out.put(sink, b" = ");
     out.put(sink, opening.as_bytes());
     let count = put_escaped(marks, out, sink);
@@ -241,7 +258,9 @@ pub fn put_quoted<W: Sink>(
 pub fn put_escaped<W: Sink>(marks: &[Mark], out: &mut TextSink, sink: &mut W) -> usize
     ensures exact { result ≡ leading_octets marks.now }
     ensures within { result ≤ length marks.now }
-    ensures adds { Adds (flat_map escaped (octets_in (take result marks.now))) (sending (W.contents sink.old) (W.is_broken sink.old) out.old) (sending (W.contents sink.new) (W.is_broken sink.new) out.new) }
+    ensures adds { Adds (flat_map escaped (octets_in (take result marks.now)))
+        (sending (W.contents sink.old) (W.is_broken sink.old) out.old)
+        (sending (W.contents sink.new) (W.is_broken sink.new) out.new) }
     ensures stays { IsTrue (W.is_broken sink.old) → IsTrue (W.is_broken sink.new) }
 {
     let mut count = 0;
@@ -256,7 +275,9 @@ pub fn put_escaped<W: Sink>(marks: &[Mark], out: &mut TextSink, sink: &mut W) ->
 }
 
 fn put_escaped_mark<W: Sink>(mark: Mark, out: &mut TextSink, sink: &mut W)
-    ensures adds { Adds (flat_map escaped (octets_in (mark ∷ []))) (sending (W.contents sink.old) (W.is_broken sink.old) out.old) (sending (W.contents sink.new) (W.is_broken sink.new) out.new) }
+    ensures adds { Adds (flat_map escaped (octets_in (mark ∷ [])))
+        (sending (W.contents sink.old) (W.is_broken sink.old) out.old)
+        (sending (W.contents sink.new) (W.is_broken sink.new) out.new) }
     ensures stays { IsTrue (W.is_broken sink.old) → IsTrue (W.is_broken sink.new) }
 {
     match mark {
@@ -266,7 +287,8 @@ fn put_escaped_mark<W: Sink>(mark: Mark, out: &mut TextSink, sink: &mut W)
 }
 
 fn put_octet<W: Sink>(octet: u8, out: &mut TextSink, sink: &mut W)
-    ensures adds { Adds (escaped octet) (sending (W.contents sink.old) (W.is_broken sink.old) out.old) (sending (W.contents sink.new) (W.is_broken sink.new) out.new) }
+    ensures adds { Adds (escaped octet) (sending (W.contents sink.old) (W.is_broken sink.old)
+        out.old) (sending (W.contents sink.new) (W.is_broken sink.new) out.new) }
     ensures stays { IsTrue (W.is_broken sink.old) → IsTrue (W.is_broken sink.new) }
 {
     match octet {
@@ -278,7 +300,8 @@ fn put_octet<W: Sink>(octet: u8, out: &mut TextSink, sink: &mut W)
 /// Puts an octet, escaped where it has to be.
 #[inline(never)]
 fn put_escape<W: Sink>(octet: u8, out: &mut TextSink, sink: &mut W)
-    ensures adds { Adds (escaped octet) (sending (W.contents sink.old) (W.is_broken sink.old) out.old) (sending (W.contents sink.new) (W.is_broken sink.new) out.new) }
+    ensures adds { Adds (escaped octet) (sending (W.contents sink.old) (W.is_broken sink.old)
+        out.old) (sending (W.contents sink.new) (W.is_broken sink.new) out.new) }
     ensures stays { IsTrue (W.is_broken sink.old) → IsTrue (W.is_broken sink.new) }
 {
     match octet {
@@ -294,17 +317,19 @@ fn put_escape<W: Sink>(octet: u8, out: &mut TextSink, sink: &mut W)
 
 /// Puts a line with the octets that come first as they are, and returns how many there are.
 fn put_plain<W: Sink>(
-    trail: &FieldPath<'_>,
+    path: &FieldPath<'_>,
     marks: &[Mark],
     out: &mut TextSink,
     sink: &mut W,
 ) -> usize
     ensures exact { result ≡ leading_octets marks.now }
     ensures within { result ≤ length marks.now }
-    ensures adds { Adds (line (path_of trail.now) (octets_in (take result marks.now))) (sending (W.contents sink.old) (W.is_broken sink.old) out.old) (sending (W.contents sink.new) (W.is_broken sink.new) out.new) }
+    ensures adds { Adds (line (path_of path.now) (octets_in (take result marks.now)))
+        (sending (W.contents sink.old) (W.is_broken sink.old) out.old)
+        (sending (W.contents sink.new) (W.is_broken sink.new) out.new) }
     ensures stays { IsTrue (W.is_broken sink.old) → IsTrue (W.is_broken sink.new) }
 {
-    let _ = put_path(trail, out, sink);
+    let _ = put_path(path, out, sink);
     out.put(sink, b" = ");
     let count = put_octets(marks, out, sink);
     out.put(sink, b"\n");
@@ -315,7 +340,9 @@ fn put_plain<W: Sink>(
 fn put_octets<W: Sink>(marks: &[Mark], out: &mut TextSink, sink: &mut W) -> usize
     ensures exact { result ≡ leading_octets marks.now }
     ensures within { result ≤ length marks.now }
-    ensures adds { Adds (octets_in (take result marks.now)) (sending (W.contents sink.old) (W.is_broken sink.old) out.old) (sending (W.contents sink.new) (W.is_broken sink.new) out.new) }
+    ensures adds { Adds (octets_in (take result marks.now))
+        (sending (W.contents sink.old) (W.is_broken sink.old) out.old)
+        (sending (W.contents sink.new) (W.is_broken sink.new) out.new) }
     ensures stays { IsTrue (W.is_broken sink.old) → IsTrue (W.is_broken sink.new) }
 {
     let mut count = 0;
@@ -330,7 +357,9 @@ fn put_octets<W: Sink>(marks: &[Mark], out: &mut TextSink, sink: &mut W) -> usiz
 }
 
 fn put_mark<W: Sink>(mark: Mark, out: &mut TextSink, sink: &mut W)
-    ensures adds { Adds (octets_in (mark ∷ [])) (sending (W.contents sink.old) (W.is_broken sink.old) out.old) (sending (W.contents sink.new) (W.is_broken sink.new) out.new) }
+    ensures adds { Adds (octets_in (mark ∷ []))
+        (sending (W.contents sink.old) (W.is_broken sink.old) out.old)
+        (sending (W.contents sink.new) (W.is_broken sink.new) out.new) }
     ensures stays { IsTrue (W.is_broken sink.old) → IsTrue (W.is_broken sink.new) }
 {
     match mark {
@@ -341,7 +370,8 @@ fn put_mark<W: Sink>(mark: Mark, out: &mut TextSink, sink: &mut W)
 
 /// The number that octets are in two's complement; 0 where there are no octets or more than eight.
 pub fn number_in(octets: &[Mark]) -> i64
-    ensures { 0 < length (octets_in octets.now) → length (octets_in octets.now) ≤ 8 → result ≡ integer_of (octets_in octets.now) }
+    ensures { 0 < length (octets_in octets.now) → length (octets_in octets.now) ≤ 8
+        → result ≡ integer_of (octets_in octets.now) }
 {
     let octets = first_eight(octets);
     if octets.is_empty() {
@@ -362,7 +392,8 @@ fn first_eight(octets: &[Mark]) -> ArrayVec<u8, 8>
 }
 
 fn push_mark(octets: &mut ArrayVec<u8, 8>, mark: Mark)
-    ensures { length (octets.old.items ++ octets_in (mark ∷ [])) ≤ 8 → octets.new.items ≡ octets.old.items ++ octets_in (mark ∷ []) }
+    ensures { length (octets.old.items ++ octets_in (mark ∷ [])) ≤ 8
+        → octets.new.items ≡ octets.old.items ++ octets_in (mark ∷ []) }
 {
     match mark {
         Mark::Octet(octet) => {

@@ -59,7 +59,8 @@ pub fn outline_of(
     buffer: Outline,
 ) -> Result<Outline, AllocError>
     requires { IsSpelling octets.now }
-    ensures { (a : Apdu) → SpellsApdu profile_two a octets.now → IfOk result (λ outline. IsOutlineOf outline a) }
+    ensures { (a : Apdu) → SpellsApdu profile_two a octets.now
+        → IfOk result (λ outline. IsOutlineOf outline a) }
 {
     outline_as(reader, Profile::Two, octets, buffer)
 }

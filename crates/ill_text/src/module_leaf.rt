@@ -11,7 +11,7 @@ ghost use Rattle.ill_text.specs.Marks.{leading_octets, octets_in};
 ghost use Rattle.ill_text.specs.code.Bits.{filled_text};
 ghost use Rattle.ill_text.specs.code.ObjectIdentifiers.{IsFirst, are_small, dotted, numbers_in};
 ghost use Rattle.ill_text.specs.code.Sending.{Adds, sending};
-ghost use Rattle.ill_text.specs.code.Trails.{path_of};
+ghost use Rattle.ill_text.specs.code.FieldPaths.{path_of};
 
 use crate::field_path::{FieldPath, put_line, put_path};
 use crate::leaf::{DIGITS, leading_octets, put_escaped, put_quoted};
@@ -25,7 +25,7 @@ use itoa::Buffer;
 pub fn put_module_leaf<W: Sink>(
     leaf: ModuleLeaf,
     marks: &[Mark],
-    trail: &FieldPath<'_>,
+    path: &FieldPath<'_>,
     out: &mut TextSink,
     sink: &mut W,
 ) -> usize
@@ -33,26 +33,27 @@ pub fn put_module_leaf<W: Sink>(
     ensures within { result ≤ length marks.now }
     ensures adds { (p : Named) (name : List ℕ)
         → IsContentIn p (module_leaf_is leaf) (octets_in (take result marks.now))
-        → Adds (line (path_of trail.now) (leaf_text name (value (module_leaf_is leaf) (octets_in (take result marks.now)))))
+        → Adds (line (path_of path.now)
+        (leaf_text name (value (module_leaf_is leaf) (octets_in (take result marks.now)))))
         (sending (W.contents sink.old) (W.is_broken sink.old) out.old)
         (sending (W.contents sink.new) (W.is_broken sink.new) out.new) }
     ensures stays { IsTrue (W.is_broken sink.old) → IsTrue (W.is_broken sink.new) }
 {
     match leaf {
         ModuleLeaf::Null => {
-            put_line(trail, b"NULL", out, sink);
+            put_line(path, b"NULL", out, sink);
             leading_octets(marks)
         }
-        ModuleLeaf::ObjectIdentifier => put_object_identifier(trail, marks, out, sink),
-        ModuleLeaf::OctetString => put_octet_string(trail, marks, out, sink),
-        ModuleLeaf::ObjectDescriptor => put_quoted(trail, "descriptor \"", marks, out, sink),
+        ModuleLeaf::ObjectIdentifier => put_object_identifier(path, marks, out, sink),
+        ModuleLeaf::OctetString => put_octet_string(path, marks, out, sink),
+        ModuleLeaf::ObjectDescriptor => put_quoted(path, "descriptor \"", marks, out, sink),
     }
 }
 
 /// Puts the line of a BIT STRING whose octets the marks begin with, and returns how many octets it has.
 pub fn put_bits<W: Sink>(
     marks: &[Mark],
-    trail: &FieldPath<'_>,
+    path: &FieldPath<'_>,
     out: &mut TextSink,
     sink: &mut W,
 ) -> usize
@@ -60,13 +61,14 @@ pub fn put_bits<W: Sink>(
     ensures within { result ≤ length marks.now }
     ensures adds { (p : Named) (name : List ℕ)
         → IsContentIn p bit_string (octets_in (take result marks.now))
-        → Adds (line (path_of trail.now) (leaf_text name (value bit_string (octets_in (take result marks.now)))))
+        → Adds (line (path_of path.now)
+        (leaf_text name (value bit_string (octets_in (take result marks.now)))))
         (sending (W.contents sink.old) (W.is_broken sink.old) out.old)
         (sending (W.contents sink.new) (W.is_broken sink.new) out.new) }
     ensures stays { IsTrue (W.is_broken sink.old) → IsTrue (W.is_broken sink.new) }
 {
     let count = leading_octets(marks);
-    let _ = put_path(trail, out, sink);
+    let _ = put_path(path, out, sink);
     out.put(sink, b" = bits ");
     put_bit_content(&marks[..count], out, sink);
     out.put(sink, b"\n");
@@ -133,20 +135,20 @@ fn cleared(unused: u8, octet: u8) -> u8
 
 /// Puts the line of an OBJECT IDENTIFIER whose octets the marks begin with, and returns how many octets it has.
 fn put_object_identifier<W: Sink>(
-    trail: &FieldPath<'_>,
+    path: &FieldPath<'_>,
     marks: &[Mark],
     out: &mut TextSink,
     sink: &mut W,
 ) -> usize
     ensures exact { result ≡ leading_octets marks.now }
     ensures within { result ≤ length marks.now }
-    ensures adds { Adds (line (path_of trail.now) (oid_text (octets_in (take result marks.now))))
+    ensures adds { Adds (line (path_of path.now) (oid_text (octets_in (take result marks.now))))
         (sending (W.contents sink.old) (W.is_broken sink.old) out.old)
         (sending (W.contents sink.new) (W.is_broken sink.new) out.new) }
     ensures stays { IsTrue (W.is_broken sink.old) → IsTrue (W.is_broken sink.new) }
 {
     let count = leading_octets(marks);
-    let _ = put_path(trail, out, sink);
+    let _ = put_path(path, out, sink);
     out.put(sink, b" = ");
     put_oid(&marks[..count], out, sink);
     out.put(sink, b"\n");
@@ -155,20 +157,21 @@ fn put_object_identifier<W: Sink>(
 
 /// Puts the line of an OCTET STRING whose octets the marks begin with, and returns how many octets it has.
 fn put_octet_string<W: Sink>(
-    trail: &FieldPath<'_>,
+    path: &FieldPath<'_>,
     marks: &[Mark],
     out: &mut TextSink,
     sink: &mut W,
 ) -> usize
     ensures exact { result ≡ leading_octets marks.now }
     ensures within { result ≤ length marks.now }
-    ensures adds { Adds (line (path_of trail.now) (codes "octets " ++ content_text (octets_in (take result marks.now))))
+    ensures adds { Adds (line (path_of path.now)
+        (codes "octets " ++ content_text (octets_in (take result marks.now))))
         (sending (W.contents sink.old) (W.is_broken sink.old) out.old)
         (sending (W.contents sink.new) (W.is_broken sink.new) out.new) }
     ensures stays { IsTrue (W.is_broken sink.old) → IsTrue (W.is_broken sink.new) }
 {
     let count = leading_octets(marks);
-    let _ = put_path(trail, out, sink);
+    let _ = put_path(path, out, sink);
     out.put(sink, b" = octets ");
     put_content(&marks[..count], out, sink);
     out.put(sink, b"\n");
@@ -295,7 +298,8 @@ fn put_components<W: Sink>(marks: &[Mark], out: &mut TextSink, sink: &mut W)
 
 /// Puts the two components for which the first number stands.
 fn put_first_two<W: Sink>(number: u64, out: &mut TextSink, sink: &mut W)
-    ensures adds { Adds (decimal (min 2 (number / 40)) ++ (codes "." ++ decimal (number - 40 * min 2 (number / 40))))
+    ensures adds { Adds (decimal (min 2 (number / 40))
+        ++ (codes "." ++ decimal (number - 40 * min 2 (number / 40))))
         (sending (W.contents sink.old) (W.is_broken sink.old) out.old)
         (sending (W.contents sink.new) (W.is_broken sink.new) out.new) }
     ensures stays { IsTrue (W.is_broken sink.old) → IsTrue (W.is_broken sink.new) }
@@ -334,7 +338,8 @@ fn put_dotted<W: Sink>(number: u64, out: &mut TextSink, sink: &mut W)
 
 /// The number of the subidentifier that the octets begin with, as far as 64 bits hold it, and the marks after it.
 fn first_number(marks: &[Mark]) -> Option<(u64, &[Mark])>
-    ensures first { MatchOption result (numbers_in marks.now ≡ []) (λ r. IsFirst (numbers_in marks.now) r.0 (numbers_in r.1.now)) }
+    ensures first { MatchOption result (numbers_in marks.now ≡ [])
+        (λ r. IsFirst (numbers_in marks.now) r.0 (numbers_in r.1.now)) }
     ensures shorter { IfSome result (λ r. length r.1.now < length marks.now) }
 {
     let mut number = 0;

@@ -42,7 +42,8 @@ fn number_names(row: &str) -> &'static [&'static str]
 
 /// The name of a number in a row, if it has one.
 pub fn number_name(row: &str, number: i64) -> Option<&'static str>
-    ensures { MatchOption result (number_name row.now number ≡ None) (λ name. number_name row.now number ≡ Some name.now) }
+    ensures { MatchOption result (number_name row.now number ≡ None)
+        (λ name. number_name row.now number ≡ Some name.now) }
 {
     if number < 1 {
         return None;

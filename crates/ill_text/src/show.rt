@@ -5,7 +5,7 @@ ghost use Rattle.ill_read.specs.Outline.{AreEntries, AreItems, IsMarked};
 ghost use Rattle.ill_read.specs.declared.mark.Mark.{Mark};
 ghost use Rattle.ill_text.specs.Marks.{IsEntry, alternative_in, entry_text, is_at_end, is_there, passed_in};
 ghost use Rattle.ill_text.specs.code.Sending.{Adds, sending};
-ghost use Rattle.ill_text.specs.code.Trails.{path_of, place_at};
+ghost use Rattle.ill_text.specs.code.FieldPaths.{path_of, place_at};
 ghost use Rattle.ill_text.specs.Shown.{Place, item_of, leaf_text, line, lines_of, part};
 ghost use Rattle.ill_schema.specs.declared.profile.Profile.{Profile as Named};
 ghost use Rattle.ill_text.specs.code.MarkedOctets.{SaysOctets};
@@ -27,14 +27,17 @@ use ill_schema::{NodeId, PartId};
 #[inline(always)]
 pub fn put_value<'m, W: Sink>(
     marks: &'m [Mark],
-    trail: &FieldPath<'_>,
+    path: &FieldPath<'_>,
     name: &str,
     node: NodeId,
     out: &mut TextSink,
     sink: &mut W,
 ) -> &'m [Mark]
-    ensures adds { (c : Content) (ms rest : List Mark) → IsMarked c ms → marks.now ≡ ms ++ rest → (result.now ≡ rest)
-        × Adds (lines_of (place_at trail.now name.now node) c) (sending (W.contents sink.old) (W.is_broken sink.old) out.old) (sending (W.contents sink.new) (W.is_broken sink.new) out.new) }
+    ensures adds { (c : Content) (ms rest : List Mark) → IsMarked c ms → marks.now ≡ ms ++ rest
+        → (result.now ≡ rest)
+        × Adds (lines_of (place_at path.now name.now node) c)
+        (sending (W.contents sink.old) (W.is_broken sink.old) out.old)
+        (sending (W.contents sink.new) (W.is_broken sink.new) out.new) }
     ensures shorter { 0 < length marks.now → length result.now < length marks.now }
     ensures no_longer { length result.now ≤ length marks.now }
     ensures stays { IsTrue (W.is_broken sink.old) → IsTrue (W.is_broken sink.new) }
@@ -44,17 +47,17 @@ pub fn put_value<'m, W: Sink>(
     };
     let rest = after_first(marks);
     match first {
-        Mark::Leaf(leaf) => put_marked_leaf(leaf, rest, trail, name, out, sink),
+        Mark::Leaf(leaf) => put_marked_leaf(leaf, rest, path, name, out, sink),
         Mark::ModuleLeaf(_) | Mark::BitString | Mark::Foreign => {
-            put_module_line(first, rest, trail, out, sink)
+            put_module_line(first, rest, path, out, sink)
         }
         Mark::Absent(part) => {
-            put_default(part, trail, name, out, sink);
+            put_default(part, path, name, out, sink);
             rest
         }
-        Mark::Alternative(row) => put_alternative(rest, trail, node, row, out, sink),
-        Mark::Sequence => put_entries(rest, trail, name, node, out, sink),
-        Mark::List => put_items(rest, trail, name, node, out, sink),
+        Mark::Alternative(row) => put_alternative(rest, path, node, row, out, sink),
+        Mark::Sequence => put_entries(rest, path, name, node, out, sink),
+        Mark::List => put_items(rest, path, name, node, out, sink),
         Mark::Octet(_) => rest,
         Mark::End => rest,
     }
@@ -65,17 +68,21 @@ pub fn put_value<'m, W: Sink>(
 fn put_marked_leaf<'m, W: Sink>(
     leaf: LeafType,
     marks: &'m [Mark],
-    trail: &FieldPath<'_>,
+    path: &FieldPath<'_>,
     name: &str,
     out: &mut TextSink,
     sink: &mut W,
 ) -> &'m [Mark]
-    ensures adds { (p : Named) (octets : List ℕ) (rest : List Mark) → IsContentIn p (leaf_is leaf) octets → marks.now ≡ map Mark.Octet octets ++ (Mark.End ∷ rest) → (result.now ≡ rest)
-        × Adds (line (path_of trail.now) (leaf_text name.now (value (leaf_is leaf) octets))) (sending (W.contents sink.old) (W.is_broken sink.old) out.old) (sending (W.contents sink.new) (W.is_broken sink.new) out.new) }
+    ensures adds { (p : Named) (octets : List ℕ) (rest : List Mark)
+        → IsContentIn p (leaf_is leaf) octets
+        → marks.now ≡ map Mark.Octet octets ++ (Mark.End ∷ rest) → (result.now ≡ rest)
+        × Adds (line (path_of path.now) (leaf_text name.now (value (leaf_is leaf) octets)))
+        (sending (W.contents sink.old) (W.is_broken sink.old) out.old)
+        (sending (W.contents sink.new) (W.is_broken sink.new) out.new) }
     ensures shorter { length result.now ≤ length marks.now }
     ensures stays { IsTrue (W.is_broken sink.old) → IsTrue (W.is_broken sink.new) }
 {
-    let count = put_leaf(leaf, marks, trail, name, out, sink);
+    let count = put_leaf(leaf, marks, path, name, out, sink);
     &marks[(count + 1).min(marks.len())..]
 }
 
@@ -85,20 +92,22 @@ fn put_marked_leaf<'m, W: Sink>(
 fn put_module_line<'m, W: Sink>(
     first: Mark,
     marks: &'m [Mark],
-    trail: &FieldPath<'_>,
+    path: &FieldPath<'_>,
     out: &mut TextSink,
     sink: &mut W,
 ) -> &'m [Mark]
-    ensures adds { (c : Content) (octets : List ℕ) (rest : List Mark) (p : Place) → p.path ≡ path_of trail.now → SaysOctets first c octets
+    ensures adds { (c : Content) (octets : List ℕ) (rest : List Mark) (p : Place)
+        → p.path ≡ path_of path.now → SaysOctets first c octets
         → marks.now ≡ map Mark.Octet octets ++ (Mark.End ∷ rest) → (result.now ≡ rest)
-        × Adds (lines_of p c) (sending (W.contents sink.old) (W.is_broken sink.old) out.old) (sending (W.contents sink.new) (W.is_broken sink.new) out.new) }
+        × Adds (lines_of p c) (sending (W.contents sink.old) (W.is_broken sink.old) out.old)
+        (sending (W.contents sink.new) (W.is_broken sink.new) out.new) }
     ensures shorter { length result.now ≤ length marks.now }
     ensures stays { IsTrue (W.is_broken sink.old) → IsTrue (W.is_broken sink.new) }
 {
     let count = match first {
-        Mark::ModuleLeaf(leaf) => put_module_leaf(leaf, marks, trail, out, sink),
-        Mark::BitString => put_bits(marks, trail, out, sink),
-        Mark::Foreign => put_foreign(marks, trail, out, sink),
+        Mark::ModuleLeaf(leaf) => put_module_leaf(leaf, marks, path, out, sink),
+        Mark::BitString => put_bits(marks, path, out, sink),
+        Mark::Foreign => put_foreign(marks, path, out, sink),
         _ => 0,
     };
     &marks[(count + 1).min(marks.len())..]
@@ -109,19 +118,22 @@ fn put_module_line<'m, W: Sink>(
 #[inline(never)]
 fn put_alternative<'m, W: Sink>(
     marks: &'m [Mark],
-    trail: &FieldPath<'_>,
+    path: &FieldPath<'_>,
     node: NodeId,
     row: u8,
     out: &mut TextSink,
     sink: &mut W,
 ) -> &'m [Mark]
-    ensures adds { (c : Content) (ms rest : List Mark) → IsMarked c ms → marks.now ≡ ms ++ rest → (result.now ≡ rest)
-        × Adds (lines_of (part (place_at trail.now [] node) row) c) (sending (W.contents sink.old) (W.is_broken sink.old) out.old) (sending (W.contents sink.new) (W.is_broken sink.new) out.new) }
+    ensures adds { (c : Content) (ms rest : List Mark) → IsMarked c ms → marks.now ≡ ms ++ rest
+        → (result.now ≡ rest)
+        × Adds (lines_of (part (place_at path.now [] node) row) c)
+        (sending (W.contents sink.old) (W.is_broken sink.old) out.old)
+        (sending (W.contents sink.new) (W.is_broken sink.new) out.new) }
     ensures shorter { 0 < length marks.now → length result.now < length marks.now }
     ensures no_longer { length result.now ≤ length marks.now }
     ensures stays { IsTrue (W.is_broken sink.old) → IsTrue (W.is_broken sink.new) }
 {
-    put_part(marks, trail, node, row as usize, out, sink)
+    put_part(marks, path, node, row as usize, out, sink)
 }
 
 /// Puts the lines of the value in a row.
@@ -129,20 +141,23 @@ fn put_alternative<'m, W: Sink>(
 #[inline(always)]
 fn put_part<'m, W: Sink>(
     marks: &'m [Mark],
-    trail: &FieldPath<'_>,
+    path: &FieldPath<'_>,
     node: NodeId,
     i: usize,
     out: &mut TextSink,
     sink: &mut W,
 ) -> &'m [Mark]
-    ensures adds { (c : Content) (ms rest : List Mark) → IsMarked c ms → marks.now ≡ ms ++ rest → (result.now ≡ rest)
-        × Adds (lines_of (part (place_at trail.now [] node) i) c) (sending (W.contents sink.old) (W.is_broken sink.old) out.old) (sending (W.contents sink.new) (W.is_broken sink.new) out.new) }
+    ensures adds { (c : Content) (ms rest : List Mark) → IsMarked c ms → marks.now ≡ ms ++ rest
+        → (result.now ≡ rest)
+        × Adds (lines_of (part (place_at path.now [] node) i) c)
+        (sending (W.contents sink.old) (W.is_broken sink.old) out.old)
+        (sending (W.contents sink.new) (W.is_broken sink.new) out.new) }
     ensures shorter { 0 < length marks.now → length result.now < length marks.now }
     ensures no_longer { length result.now ≤ length marks.now }
     ensures stays { IsTrue (W.is_broken sink.old) → IsTrue (W.is_broken sink.new) }
 {
     let name = row_name(node, i);
-    let inside = FieldPath::Row(&*trail, name);
+    let inside = FieldPath::Row(&*path, name);
     put_value(marks, &inside, name, row_node(node, i), out, sink)
 }
 
@@ -150,26 +165,30 @@ fn put_part<'m, W: Sink>(
 #[cycle(show)]
 fn put_entry<'m, W: Sink>(
     marks: &'m [Mark],
-    trail: &FieldPath<'_>,
+    path: &FieldPath<'_>,
     node: NodeId,
     i: usize,
     out: &mut TextSink,
     sink: &mut W,
 ) -> (&'m [Mark], bool)
-    ensures adds { (e : Option Content) (ms rest : List Mark) → IsEntry e ms → marks.now ≡ ms ++ rest → (result.0.now ≡ rest) × (result.1 ≡ is_there e)
-        × Adds (entry_text (part (place_at trail.now [] node) i) e) (sending (W.contents sink.old) (W.is_broken sink.old) out.old) (sending (W.contents sink.new) (W.is_broken sink.new) out.new) }
+    ensures adds { (e : Option Content) (ms rest : List Mark) → IsEntry e ms
+        → marks.now ≡ ms ++ rest → (result.0.now ≡ rest) × (result.1 ≡ is_there e)
+        × Adds (entry_text (part (place_at path.now [] node) i) e)
+        (sending (W.contents sink.old) (W.is_broken sink.old) out.old)
+        (sending (W.contents sink.new) (W.is_broken sink.new) out.new) }
     ensures shorter { 0 < length marks.now → length result.0.now < length marks.now }
     ensures stays { IsTrue (W.is_broken sink.old) → IsTrue (W.is_broken sink.new) }
 {
     if is_absent(marks) {
         return (after_first(marks), false);
     }
-    (put_part(marks, trail, node, i, out, sink), true)
+    (put_part(marks, path, node, i, out, sink), true)
 }
 
 /// Tells whether a row that has no default was passed.
 fn is_absent(marks: &[Mark]) -> bool
-    ensures { (e : Option Content) (ms rest : List Mark) → IsEntry e ms → marks.now ≡ ms ++ rest → result ≡ not (is_there e) }
+    ensures { (e : Option Content) (ms rest : List Mark) → IsEntry e ms → marks.now ≡ ms ++ rest
+        → result ≡ not (is_there e) }
 {
     match passed(marks) {
         Some(part) => !has_default(part),
@@ -182,14 +201,17 @@ fn is_absent(marks: &[Mark]) -> bool
 #[inline(never)]
 fn put_entries<'m, W: Sink>(
     marks: &'m [Mark],
-    trail: &FieldPath<'_>,
+    path: &FieldPath<'_>,
     name: &str,
     node: NodeId,
     out: &mut TextSink,
     sink: &mut W,
 ) -> &'m [Mark]
-    ensures adds { (es : Entries) (ms rest : List Mark) → AreEntries es ms → marks.now ≡ ms ++ (Mark.End ∷ rest) → (result.now ≡ rest)
-        × Adds (lines_of (place_at trail.now name.now node) (sequence es)) (sending (W.contents sink.old) (W.is_broken sink.old) out.old) (sending (W.contents sink.new) (W.is_broken sink.new) out.new) }
+    ensures adds { (es : Entries) (ms rest : List Mark) → AreEntries es ms
+        → marks.now ≡ ms ++ (Mark.End ∷ rest) → (result.now ≡ rest)
+        × Adds (lines_of (place_at path.now name.now node) (sequence es))
+        (sending (W.contents sink.old) (W.is_broken sink.old) out.old)
+        (sending (W.contents sink.new) (W.is_broken sink.new) out.new) }
     ensures shorter { length result.now ≤ length marks.now }
     ensures stays { IsTrue (W.is_broken sink.old) → IsTrue (W.is_broken sink.new) }
 {
@@ -197,7 +219,7 @@ fn put_entries<'m, W: Sink>(
     let mut i = 0;
     let mut some = false;
     'rows: while !at_end(left) {
-        let (rest, there) = put_entry(left, trail, node, i, out, sink);
+        let (rest, there) = put_entry(left, path, node, i, out, sink);
         left = rest;
         i += 1;
         some = some || there;
@@ -205,7 +227,7 @@ fn put_entries<'m, W: Sink>(
     if some {
         return after_first(left);
     }
-    put_line(trail, b"{}", out, sink);
+    put_line(path, b"{}", out, sink);
     after_first(left)
 }
 
@@ -214,27 +236,30 @@ fn put_entries<'m, W: Sink>(
 #[inline(never)]
 fn put_items<'m, W: Sink>(
     marks: &'m [Mark],
-    trail: &FieldPath<'_>,
+    path: &FieldPath<'_>,
     name: &str,
     node: NodeId,
     out: &mut TextSink,
     sink: &mut W,
 ) -> &'m [Mark]
-    ensures adds { (is : Items) (ms rest : List Mark) → AreItems is ms → marks.now ≡ ms ++ (Mark.End ∷ rest) → (result.now ≡ rest)
-        × Adds (lines_of (place_at trail.now name.now node) (list is)) (sending (W.contents sink.old) (W.is_broken sink.old) out.old) (sending (W.contents sink.new) (W.is_broken sink.new) out.new) }
+    ensures adds { (is : Items) (ms rest : List Mark) → AreItems is ms
+        → marks.now ≡ ms ++ (Mark.End ∷ rest) → (result.now ≡ rest)
+        × Adds (lines_of (place_at path.now name.now node) (list is))
+        (sending (W.contents sink.old) (W.is_broken sink.old) out.old)
+        (sending (W.contents sink.new) (W.is_broken sink.new) out.new) }
     ensures shorter { length result.now ≤ length marks.now }
     ensures stays { IsTrue (W.is_broken sink.old) → IsTrue (W.is_broken sink.new) }
 {
     let mut left = marks;
     let mut i = 0;
     'items: while !at_end(left) {
-        left = put_item(left, i, trail, name, node, out, sink);
+        left = put_item(left, i, path, name, node, out, sink);
         i += 1;
     }
     if i > 0 {
         return after_first(left);
     }
-    put_line(trail, b"[]", out, sink);
+    put_line(path, b"[]", out, sink);
     after_first(left)
 }
 
@@ -243,19 +268,22 @@ fn put_items<'m, W: Sink>(
 fn put_item<'m, W: Sink>(
     marks: &'m [Mark],
     i: usize,
-    trail: &FieldPath<'_>,
+    path: &FieldPath<'_>,
     name: &str,
     node: NodeId,
     out: &mut TextSink,
     sink: &mut W,
 ) -> &'m [Mark]
-    ensures adds { (c : Content) (ms rest : List Mark) → IsMarked c ms → marks.now ≡ ms ++ rest → (result.now ≡ rest)
-        × Adds (lines_of (item_of (place_at trail.now name.now node) i) c) (sending (W.contents sink.old) (W.is_broken sink.old) out.old) (sending (W.contents sink.new) (W.is_broken sink.new) out.new) }
+    ensures adds { (c : Content) (ms rest : List Mark) → IsMarked c ms → marks.now ≡ ms ++ rest
+        → (result.now ≡ rest)
+        × Adds (lines_of (item_of (place_at path.now name.now node) i) c)
+        (sending (W.contents sink.old) (W.is_broken sink.old) out.old)
+        (sending (W.contents sink.new) (W.is_broken sink.new) out.new) }
     ensures shorter { 0 < length marks.now → length result.now < length marks.now }
     ensures no_longer { length result.now ≤ length marks.now }
     ensures stays { IsTrue (W.is_broken sink.old) → IsTrue (W.is_broken sink.new) }
 {
-    let inside = FieldPath::Item(&*trail, i);
+    let inside = FieldPath::Item(&*path, i);
     put_value(marks, &inside, name, row_node(node, 0), out, sink)
 }
 

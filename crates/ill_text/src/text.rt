@@ -8,7 +8,7 @@ ghost use Rattle.ill_schema.specs.Profiles.{profile_of};
 ghost use Rattle.ill_text.specs.Shown.{shown_text, shown_text_in};
 ghost use Rattle.ill_text.specs.TextOf.{IsTextOf};
 ghost use Rattle.ill_text.specs.code.Sending.{Adds, sending};
-ghost use Rattle.ill_text.specs.code.Trails.{head_line};
+ghost use Rattle.ill_text.specs.code.FieldPaths.{head_line};
 
 use crate::field_path::FieldPath;
 use crate::octets::VecSink;
@@ -32,7 +32,8 @@ pub struct Text {
 impl Text {
     /// The text of the message that the outline is of, under this number.
     pub fn new(number: u32, outline: Outline) -> Text
-        ensures { (a : Apdu) (octets : List ℕ) → SpellsApdu profile_two a octets → IsOutlineOf outline a → IsTextOf result (shown_text number a) }
+        ensures { (a : Apdu) (octets : List ℕ) → SpellsApdu profile_two a octets
+            → IsOutlineOf outline a → IsTextOf result (shown_text number a) }
     {
         Text::new_as(Profile::Two, number, outline)
     }
@@ -46,7 +47,8 @@ impl Text {
     /// let text = Text::new_as(Profile::Module, 1, outline).octets(alloc)?;
     /// ```
     pub fn new_as(profile: Profile, number: u32, outline: Outline) -> Text
-        ensures { (a : Apdu) (octets : List ℕ) → SpellsApdu (profile_of profile) a octets → IsOutlineOf outline a
+        ensures { (a : Apdu) (octets : List ℕ) → SpellsApdu (profile_of profile) a octets
+            → IsOutlineOf outline a
             → IsTextOf result (shown_text_in (profile_of profile) number a) }
     {
         Text {
@@ -72,7 +74,8 @@ impl Text {
     ///
     /// Only out of memory.
     pub fn octets(&self, alloc: Global) -> Result<Vec<u8>, AllocError>
-        ensures { (octets : List ℕ) → IsTextOf self.now octets → IfOk result (λ v. v.items ≡ octets) }
+        ensures { (octets : List ℕ) → IsTextOf self.now octets
+            → IfOk result (λ v. v.items ≡ octets) }
     {
         let mut sink = VecSink {
             octets: Vec::new(alloc),
@@ -88,13 +91,19 @@ impl Text {
     ///
     /// # Errors
     ///
-    /// Where the sink breaks: the number of octets that it took, the first ones. They are not all.
+    /// The number of octets that the sink took, the first ones, where it breaks. They are not all.
     pub fn put<W: Sink>(&self, sink: &mut W) -> Result<usize, usize>
-        ensures all { (octets : List ℕ) → IsTextOf self.now octets → OnOk result (Appends (W.contents sink.old) (W.contents sink.new) octets) }
-        ensures count { (octets : List ℕ) → IsTextOf self.now octets → IfOk result (λ n. (n ≡ length octets) × (n ≤ 2 ^ 63)) }
-        ensures some { (octets : List ℕ) → IsTextOf self.now octets → IfErr result (λ n. Appends (W.contents sink.old) (W.contents sink.new) (take n octets)) }
-        ensures fewer { (octets : List ℕ) → IsTextOf self.now octets → IfErr result (λ n. n < length octets) }
-        ensures breaks { (octets : List ℕ) → IsTextOf self.now octets → IsErr result → IsTrue (W.is_broken sink.new) }
+        ensures all { (octets : List ℕ) → IsTextOf self.now octets
+            → OnOk result (Appends (W.contents sink.old) (W.contents sink.new) octets) }
+        ensures count { (octets : List ℕ) → IsTextOf self.now octets
+            → IfOk result (λ n. (n ≡ length octets) × (n ≤ 2 ^ 63)) }
+        ensures some { (octets : List ℕ) → IsTextOf self.now octets
+            → IfErr result (λ n. Appends (W.contents sink.old) (W.contents sink.new)
+            (take n octets)) }
+        ensures fewer { (octets : List ℕ) → IsTextOf self.now octets
+            → IfErr result (λ n. n < length octets) }
+        ensures breaks { (octets : List ℕ) → IsTextOf self.now octets → IsErr result
+            → IsTrue (W.is_broken sink.new) }
         ensures stays { IsTrue (W.is_broken sink.old) → IsTrue (W.is_broken sink.new) }
     {
         let mut out = TextSink::new();
@@ -152,7 +161,9 @@ fn put_marks<W: Sink>(
 
 /// Puts the first line.
 fn put_head<W: Sink>(number: u32, name: &str, out: &mut TextSink, sink: &mut W)
-    ensures adds { Adds (head_line number name.now) (sending (W.contents sink.old) (W.is_broken sink.old) out.old) (sending (W.contents sink.new) (W.is_broken sink.new) out.new) }
+    ensures adds { Adds (head_line number name.now)
+        (sending (W.contents sink.old) (W.is_broken sink.old) out.old)
+        (sending (W.contents sink.new) (W.is_broken sink.new) out.new) }
     ensures stays { IsTrue (W.is_broken sink.old) → IsTrue (W.is_broken sink.new) }
 {
     let mut buffer = Buffer::new();

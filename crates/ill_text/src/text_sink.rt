@@ -24,7 +24,8 @@ impl TextSink {
 
     /// Nothing is put yet.
     pub fn new() -> TextSink
-        ensures { (reported : Option (List _)) (b : _) → Stands reported [] (sending reported b result) }
+        ensures { (reported : Option (List _)) (b : _)
+            → Stands reported [] (sending reported b result) }
     {
         TextSink {
             waiting: [0; BUFFER_LEN],
@@ -50,7 +51,8 @@ impl TextSink {
 
     /// Puts what waits.
     pub fn flush<W: Sink>(&mut self, sink: &mut W)
-        ensures adds { Adds [] (sending (W.contents sink.old) (W.is_broken sink.old) self.old) (sending (W.contents sink.new) (W.is_broken sink.new) self.new) }
+        ensures adds { Adds [] (sending (W.contents sink.old) (W.is_broken sink.old) self.old)
+            (sending (W.contents sink.new) (W.is_broken sink.new) self.new) }
         ensures empty { self.new.broken ≡ false → self.new.len ≡ 0 }
         ensures stays { IsTrue (W.is_broken sink.old) → IsTrue (W.is_broken sink.new) }
     {
@@ -80,7 +82,8 @@ impl TextSink {
     fn send<W: Sink>(&mut self, sink: &mut W, octets: &[u8])
         requires whole { self.old.broken ≡ false }
         requires empty { self.old.len ≡ 0 }
-        ensures adds { Adds octets.now (sending (W.contents sink.old) (W.is_broken sink.old) self.old) (sending (W.contents sink.new) (W.is_broken sink.new) self.new) }
+        ensures adds { Adds octets.now (sending (W.contents sink.old) (W.is_broken sink.old)
+            self.old) (sending (W.contents sink.new) (W.is_broken sink.new) self.new) }
         ensures stays { IsTrue (W.is_broken sink.old) → IsTrue (W.is_broken sink.new) }
     {
         match put_all(sink, octets) {
@@ -92,7 +95,8 @@ impl TextSink {
     /// Puts octets, or keeps them until there are more.
     #[inline(always)]
     pub fn put<W: Sink>(&mut self, sink: &mut W, octets: &[u8])
-        ensures adds { Adds octets.now (sending (W.contents sink.old) (W.is_broken sink.old) self.old) (sending (W.contents sink.new) (W.is_broken sink.new) self.new) }
+        ensures adds { Adds octets.now (sending (W.contents sink.old) (W.is_broken sink.old)
+            self.old) (sending (W.contents sink.new) (W.is_broken sink.new) self.new) }
         ensures stays { IsTrue (W.is_broken sink.old) → IsTrue (W.is_broken sink.new) }
     {
         if octets.len() <= BUFFER_LEN - self.len {
@@ -105,7 +109,8 @@ impl TextSink {
     /// Puts one octet, or keeps it until there are more.
     #[inline(always)]
     pub fn put_octet<W: Sink>(&mut self, sink: &mut W, octet: u8)
-        ensures adds { Adds (octet ∷ []) (sending (W.contents sink.old) (W.is_broken sink.old) self.old) (sending (W.contents sink.new) (W.is_broken sink.new) self.new) }
+        ensures adds { Adds (octet ∷ []) (sending (W.contents sink.old) (W.is_broken sink.old)
+            self.old) (sending (W.contents sink.new) (W.is_broken sink.new) self.new) }
         ensures stays { IsTrue (W.is_broken sink.old) → IsTrue (W.is_broken sink.new) }
     {
         if self.len < BUFFER_LEN {
@@ -118,7 +123,8 @@ impl TextSink {
     /// Puts what waits, and then octets.
     #[inline(never)]
     fn put_more<W: Sink>(&mut self, sink: &mut W, octets: &[u8])
-        ensures adds { Adds octets.now (sending (W.contents sink.old) (W.is_broken sink.old) self.old) (sending (W.contents sink.new) (W.is_broken sink.new) self.new) }
+        ensures adds { Adds octets.now (sending (W.contents sink.old) (W.is_broken sink.old)
+            self.old) (sending (W.contents sink.new) (W.is_broken sink.new) self.new) }
         ensures stays { IsTrue (W.is_broken sink.old) → IsTrue (W.is_broken sink.new) }
     {
         self.flush(sink);
@@ -136,7 +142,8 @@ impl TextSink {
     #[inline(always)]
     fn keep_octet(&mut self, octet: u8)
         requires room { self.old.len < 1024 }
-        ensures { (reported : Option (List _)) (b : _) → Adds (octet ∷ []) (sending reported b self.old) (sending reported b self.new) }
+        ensures { (reported : Option (List _)) (b : _)
+            → Adds (octet ∷ []) (sending reported b self.old) (sending reported b self.new) }
     {
         self.waiting[self.len] = octet;
         self.len += 1;
@@ -145,7 +152,8 @@ impl TextSink {
     /// Keeps octets for which there is room. There is no room once the sink broke.
     fn keep(&mut self, octets: &[u8])
         requires room { self.old.len + length octets.now ≤ 1024 }
-        ensures { (reported : Option (List _)) (b : _) → Adds octets.now (sending reported b self.old) (sending reported b self.new) }
+        ensures { (reported : Option (List _)) (b : _)
+            → Adds octets.now (sending reported b self.old) (sending reported b self.new) }
     {
         let end = self.len + octets.len();
         self.waiting[self.len..end].copy_from_slice(octets);

@@ -1,4 +1,4 @@
-//! How typed parts of messages are written as values and read from them: the traits of all parts, and the leaves and lists.
+//! Traits of typed parts, which are written as values and read from them, with the leaves and lists.
 //!
 //! The structs and enums of messages stand on it; a caller uses them.
 #![tactic(auto)]

@@ -1,4 +1,4 @@
-//! What typed parts have in common: how they are written as values and read from them.
+//! The traits of typed parts: they are written as values and read from them.
 ghost use Rattle.std.specs.Prelude.{◌≡◌, ◌↔◌, ◌⊎◌, ◌++◌, IfOk, IfErr, OnOk, IsTrue, List, [], map, Option, option_map, MatchOption, Ok, Err};
 ghost use Rattle.ber_leaf.specs.Profile.{profile_two};
 ghost use Rattle.ill_schema.specs.declared.node.NodeId.{NodeId};
@@ -52,7 +52,8 @@ pub trait Part: Drop {
 pub trait Typed: Part + Node + PartialEq {
     /// Two parts are equal exactly if they stand for the same value.
     fn one_view(&self, other: &Self)
-        ensures { IsTrue (Self.eq self.now other.now) ↔ (Self.content self.now ≡ Self.content other.now) };
+        ensures { IsTrue (Self.eq self.now other.now)
+            ↔ (Self.content self.now ≡ Self.content other.now) };
 
     // a content is a part of this type exactly if it fits the node
     ghost is_node: { (c : Content) → Is Self.Node.NODE c ↔ Self.Part.accepts c };
@@ -128,8 +129,10 @@ pub fn push_all(
 pub fn entries<T: Node>(value: &Value) -> &[Option<Value>]
     requires kind { kind_of T.NODE ≡ Kind.Seq }
     requires fits { Is T.NODE (content_of value.now) }
-    ensures value { content_of value.now ≡ record_of (entries_from (rows_of T.NODE) (entry_at result.now) 0) }
-    ensures rows { RowsHold (rows_of T.NODE) (entries_from (rows_of T.NODE) (entry_at result.now) 0) }
+    ensures value { content_of value.now ≡ record_of (entries_from (rows_of T.NODE)
+        (entry_at result.now) 0) }
+    ensures rows { RowsHold (rows_of T.NODE)
+        (entries_from (rows_of T.NODE) (entry_at result.now) 0) }
 {
     match value {
         Value::Seq(entries) => entries,
@@ -181,7 +184,8 @@ pub fn required_value<P: Part>(alloc: Global, part: &P) -> Result<Option<Value>,
 /// The entry of a row that may be absent.
 #[tactic(auto, unfolding(crate::specs::Shape::May))]
 pub fn optional_value<P: Part>(alloc: Global, part: &Option<P>) -> Result<Option<Value>, AllocError>
-    ensures value { IfOk result (λ entry. option_map content_of entry ≡ option_map P.content part.now) }
+    ensures value { IfOk result (λ entry. option_map content_of entry ≡ option_map P.content
+        part.now) }
     ensures fits { IfOk result (λ entry. May P.accepts (option_map content_of entry)) }
 {
     match part {
@@ -201,10 +205,14 @@ pub fn four_optional<A: Part, B: Part, C: Part, D: Part>(
     requires second { May B.accepts (entry_at entries.now rows.1) }
     requires third { May C.accepts (entry_at entries.now rows.2) }
     requires fourth { May D.accepts (entry_at entries.now rows.3) }
-    ensures first { IfOk result (λ parts. option_map A.content parts.0 ≡ entry_at entries.now rows.0) }
-    ensures second { IfOk result (λ parts. option_map B.content parts.1 ≡ entry_at entries.now rows.1) }
-    ensures third { IfOk result (λ parts. option_map C.content parts.2 ≡ entry_at entries.now rows.2) }
-    ensures fourth { IfOk result (λ parts. option_map D.content parts.3 ≡ entry_at entries.now rows.3) }
+    ensures first { IfOk result (λ parts. option_map A.content parts.0 ≡ entry_at entries.now
+        rows.0) }
+    ensures second { IfOk result (λ parts. option_map B.content parts.1 ≡ entry_at entries.now
+        rows.1) }
+    ensures third { IfOk result (λ parts. option_map C.content parts.2 ≡ entry_at entries.now
+        rows.2) }
+    ensures fourth { IfOk result (λ parts. option_map D.content parts.3 ≡ entry_at entries.now
+        rows.3) }
 {
     let first = optional(alloc, entries, rows.0)?;
     let second = optional(alloc, entries, rows.1)?;

@@ -53,7 +53,8 @@ impl BufferedSink {
     pub fn advance(&mut self)
         requires { self.old.next + 1 ≤ 2 ^ 64 - 1 }
         ensures next { self.new.next ≡ self.old.next + 1 }
-        ensures puts { (reported : Option (List _)) (start : Option (List _)) (given : List _) → Stands start given reported self.old → Stands start given reported self.new }
+        ensures puts { (reported : Option (List _)) (start : Option (List _)) (given : List _)
+            → Stands start given reported self.old → Stands start given reported self.new }
     {
         self.next += 1;
     }

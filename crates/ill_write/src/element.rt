@@ -1,4 +1,4 @@
-//! What is asked of an element: its row, tag, identifier and size.
+//! The row, tag, identifier and size of an element.
 ghost use Rattle.std.specs.Prelude.{◌≡◌, ◌+◌, ◌-◌, ◌≤◌, slice_get};
 ghost use Rattle.ber_core.specs.Der.{header_size};
 ghost use Rattle.ber_core.specs.Id.{tag_of_id, form_of_id};

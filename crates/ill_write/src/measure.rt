@@ -51,7 +51,8 @@ fn measure_value(
     requires valid { IsTrue (is_valid_tag replaced) }
     requires small { size (element_tree replaced node (content_of value.now)) ≤ profile_two.limit }
     ensures { IfOk result (λ n.
-        MeasuresOne out.old.items out.new.items n (element_tree replaced node (content_of value.now))) }
+        MeasuresOne out.old.items out.new.items n
+        (element_tree replaced node (content_of value.now))) }
 {
     let tag = element_tag(value, node, replaced);
     match value {
@@ -89,7 +90,8 @@ fn measure_value(
 /// The size of a leaf's element.
 fn leaf_size<L: Leaf>(tag: (Class, u32), value: &L::Out) -> u32
     requires id { HasIdentifier (tag_at tag) false }
-    requires small { size (primitive (tag_at tag) (normal_content (L.simple value.now))) ≤ profile_two.limit }
+    requires small { size (primitive (tag_at tag) (normal_content (L.simple value.now)))
+        ≤ profile_two.limit }
     ensures { result ≡ size (primitive (tag_at tag) (normal_content (L.simple value.now))) }
 {
     element_size(tag, false, L::normal_size(value) as u32)
@@ -102,9 +104,11 @@ fn measure_entries(
     node: NodeId,
     out: &mut Vec<u32>,
 ) -> Result<u32, AllocError>
-    requires { sizes (normal_trees (entries_content entries.now.items) (rows_of node)) ≤ profile_two.limit }
+    requires { sizes (normal_trees (entries_content entries.now.items) (rows_of node))
+        ≤ profile_two.limit }
     ensures { IfOk result (λ n.
-        Measures out.old.items out.new.items n (normal_trees (entries_content entries.now.items) (rows_of node))) }
+        Measures out.old.items out.new.items n (normal_trees (entries_content entries.now.items)
+        (rows_of node))) }
 {
     let mut sum = 0;
     for (i, entry) in entries.iter().enumerate() {
@@ -138,9 +142,11 @@ fn measure_present(row: Option<Row>, value: &Value, out: &mut Vec<u32>) -> Resul
 /// The size of the elements of a list.
 #[cycle(measure)]
 fn measure_items(items: &Vec<Value>, node: NodeId, out: &mut Vec<u32>) -> Result<u32, AllocError>
-    requires { sizes (normal_items (items_content items.now.items) (rows_of node)) ≤ profile_two.limit }
+    requires { sizes (normal_items (items_content items.now.items) (rows_of node))
+        ≤ profile_two.limit }
     ensures { IfOk result (λ n.
-        Measures out.old.items out.new.items n (normal_items (items_content items.now.items) (rows_of node))) }
+        Measures out.old.items out.new.items n (normal_items (items_content items.now.items)
+        (rows_of node))) }
 {
     let row = row_at(node, 0);
     let mut sum = 0;

@@ -31,11 +31,15 @@ pub fn write_normal<W: Sink>(
     message: &Message,
     sink: &mut W,
 ) -> Result<u32, WriteFailure>
-    ensures written { IfOk result (λ n. Appends (W.contents sink.old) (W.contents sink.new) (normal_form (apdu_of message.now))
+    ensures written { IfOk result (λ n. Appends (W.contents sink.old) (W.contents sink.new)
+        (normal_form (apdu_of message.now))
         × (n ≡ length (normal_form (apdu_of message.now)))) }
-    ensures memory { IsErrOf result WriteFailure.OutOfMemory → Keeps (W.contents sink.old) (W.contents sink.new) }
+    ensures memory { IsErrOf result WriteFailure.OutOfMemory
+        → Keeps (W.contents sink.old) (W.contents sink.new) }
     // Of a normal form that wasn't written whole, exactly the first octets were, as many as the fault says.
-    ensures part { IfErr result (λ e. IfPartWritten e (λ n. Appends (W.contents sink.old) (W.contents sink.new) (take n (normal_form (apdu_of message.now)))
+    ensures part { IfErr result (λ e. IfPartWritten e
+        (λ n. Appends (W.contents sink.old) (W.contents sink.new)
+        (take n (normal_form (apdu_of message.now)))
         × (n < length (normal_form (apdu_of message.now))) × IsTrue (W.is_broken sink.new))) }
     ensures stays { IsTrue (W.is_broken sink.old) → IsTrue (W.is_broken sink.new) }
 {
@@ -72,9 +76,11 @@ pub fn normal_bytes(alloc: Global, message: &Message) -> Result<Vec<u8>, AllocEr
 fn write_measured<W: Sink>(sizes: &Sizes, message: &Message, sink: &mut W) -> Result<u32, u32>
     requires contents { contents_of sizes.now ≡ content_sizes (tree_of message.now) }
     requires total { total_of sizes.now ≡ length (normal_form (apdu_of message.now)) }
-    ensures written { IfOk result (λ n. Appends (W.contents sink.old) (W.contents sink.new) (normal_form (apdu_of message.now))
+    ensures written { IfOk result (λ n. Appends (W.contents sink.old) (W.contents sink.new)
+        (normal_form (apdu_of message.now))
         × (n ≡ length (normal_form (apdu_of message.now)))) }
-    ensures part { IfErr result (λ n. Appends (W.contents sink.old) (W.contents sink.new) (take n (normal_form (apdu_of message.now)))
+    ensures part { IfErr result (λ n. Appends (W.contents sink.old) (W.contents sink.new)
+        (take n (normal_form (apdu_of message.now)))
         × (n < length (normal_form (apdu_of message.now))) × IsTrue (W.is_broken sink.new)) }
     ensures stays { IsTrue (W.is_broken sink.old) → IsTrue (W.is_broken sink.new) }
 {

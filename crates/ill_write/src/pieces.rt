@@ -23,7 +23,8 @@ pub fn open_element<W: Sink>(
 ) -> Result<(), Broken>
     requires id { HasIdentifier (tag_at tag) true }
     requires next { progress.old.next < length contents.now }
-    ensures puts { Puts result (identifier (tag_at tag) true ++ shortest_length (get_or contents.now progress.old.next 0))
+    ensures puts { Puts result (identifier (tag_at tag) true ++ shortest_length
+        (get_or contents.now progress.old.next 0))
         (W.contents sink.old) progress.old (W.contents sink.new) progress.new }
     ensures next { progress.new.next ≡ progress.old.next + 1 }
     ensures breaks { IsErr result → IsTrue (W.is_broken sink.new) }
@@ -43,7 +44,8 @@ pub fn write_short_contents<L: Leaf, W: Sink>(
 ) -> Result<(), Broken>
     requires id { HasIdentifier (tag_at tag) false }
     requires short { length (normal_content (L.simple value.now)) ≤ 8 }
-    ensures puts { Puts result (encoding (primitive (tag_at tag) (normal_content (L.simple value.now))))
+    ensures puts { Puts result
+        (encoding (primitive (tag_at tag) (normal_content (L.simple value.now))))
         (W.contents sink.old) progress.old (W.contents sink.new) progress.new }
     ensures next { progress.new.next ≡ progress.old.next }
     ensures breaks { IsErr result → IsTrue (W.is_broken sink.new) }

@@ -7,7 +7,8 @@ use ber_core::{Broken, Sink, put_all};
 
 /// Puts all the octets, and counts those that were put.
 pub(crate) fn send<W: Sink>(sink: &mut W, octets: &[u8], written: &mut u32) -> Result<(), Broken>
-    ensures sends { Sends result octets.now (W.contents sink.old) written.old (W.contents sink.new) written.new }
+    ensures sends { Sends result octets.now (W.contents sink.old) written.old (W.contents sink.new)
+        written.new }
     ensures breaks { IsErr result → IsTrue (W.is_broken sink.new) }
     ensures stays { IsTrue (W.is_broken sink.old) → IsTrue (W.is_broken sink.new) }
 {

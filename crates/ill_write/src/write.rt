@@ -34,7 +34,8 @@ pub fn write_row<W: Sink>(
     ensures puts { Puts result (encoding (row_tree row (content_of value.now)))
         (W.contents sink.old) progress.old (W.contents sink.new) progress.new }
     ensures next { IfOk result (λ _.
-        progress.new.next ≡ progress.old.next + length (content_sizes (row_tree row (content_of value.now)))) }
+        progress.new.next ≡ progress.old.next + length
+        (content_sizes (row_tree row (content_of value.now)))) }
     ensures breaks { IsErr result → IsTrue (W.is_broken sink.new) }
     ensures stays { IsTrue (W.is_broken sink.old) → IsTrue (W.is_broken sink.new) }
 {
@@ -64,7 +65,8 @@ fn write_value<W: Sink>(
     ensures puts { Puts result (encoding (element_tree replaced node (content_of value.now)))
         (W.contents sink.old) progress.old (W.contents sink.new) progress.new }
     ensures next { IfOk result (λ _.
-        progress.new.next ≡ progress.old.next + length (content_sizes (element_tree replaced node (content_of value.now)))) }
+        progress.new.next ≡ progress.old.next + length
+        (content_sizes (element_tree replaced node (content_of value.now)))) }
     ensures breaks { IsErr result → IsTrue (W.is_broken sink.new) }
     ensures stays { IsTrue (W.is_broken sink.old) → IsTrue (W.is_broken sink.new) }
 {
@@ -100,13 +102,16 @@ fn write_entries<W: Sink>(
     progress: &mut BufferedSink,
     sink: &mut W,
 ) -> Result<(), Broken>
-    requires small { sizes (normal_trees (entries_content entries.now.items) (rows_of node)) ≤ profile_two.limit }
+    requires small { sizes (normal_trees (entries_content entries.now.items) (rows_of node))
+        ≤ profile_two.limit }
     requires ahead { Ahead contents.now progress.old.next
         (all_content_sizes (normal_trees (entries_content entries.now.items) (rows_of node))) }
-    ensures puts { Puts result (encodings (normal_trees (entries_content entries.now.items) (rows_of node)))
+    ensures puts { Puts result
+        (encodings (normal_trees (entries_content entries.now.items) (rows_of node)))
         (W.contents sink.old) progress.old (W.contents sink.new) progress.new }
     ensures next { IfOk result (λ _.
-        progress.new.next ≡ progress.old.next + length (all_content_sizes (normal_trees (entries_content entries.now.items) (rows_of node)))) }
+        progress.new.next ≡ progress.old.next + length
+        (all_content_sizes (normal_trees (entries_content entries.now.items) (rows_of node)))) }
     ensures breaks { IsErr result → IsTrue (W.is_broken sink.new) }
     ensures stays { IsTrue (W.is_broken sink.old) → IsTrue (W.is_broken sink.new) }
 {
@@ -134,7 +139,8 @@ fn write_present<W: Sink>(
     ensures puts { Puts result (encodings (place_trees row (Some value.now)))
         (W.contents sink.old) progress.old (W.contents sink.new) progress.new }
     ensures next { IfOk result (λ _.
-        progress.new.next ≡ progress.old.next + length (all_content_sizes (place_trees row (Some value.now)))) }
+        progress.new.next ≡ progress.old.next + length
+        (all_content_sizes (place_trees row (Some value.now)))) }
     ensures breaks { IsErr result → IsTrue (W.is_broken sink.new) }
     ensures stays { IsTrue (W.is_broken sink.old) → IsTrue (W.is_broken sink.new) }
 {
@@ -159,13 +165,16 @@ fn write_items<W: Sink>(
     progress: &mut BufferedSink,
     sink: &mut W,
 ) -> Result<(), Broken>
-    requires small { sizes (normal_items (items_content items.now.items) (rows_of node)) ≤ profile_two.limit }
+    requires small { sizes (normal_items (items_content items.now.items) (rows_of node))
+        ≤ profile_two.limit }
     requires ahead { Ahead contents.now progress.old.next
         (all_content_sizes (normal_items (items_content items.now.items) (rows_of node))) }
-    ensures puts { Puts result (encodings (normal_items (items_content items.now.items) (rows_of node)))
+    ensures puts { Puts result
+        (encodings (normal_items (items_content items.now.items) (rows_of node)))
         (W.contents sink.old) progress.old (W.contents sink.new) progress.new }
     ensures next { IfOk result (λ _.
-        progress.new.next ≡ progress.old.next + length (all_content_sizes (normal_items (items_content items.now.items) (rows_of node)))) }
+        progress.new.next ≡ progress.old.next + length
+        (all_content_sizes (normal_items (items_content items.now.items) (rows_of node)))) }
     ensures breaks { IsErr result → IsTrue (W.is_broken sink.new) }
     ensures stays { IsTrue (W.is_broken sink.old) → IsTrue (W.is_broken sink.new) }
 {
@@ -192,7 +201,8 @@ fn write_item<W: Sink>(
     ensures puts { Puts result (encodings (item_trees row item.now))
         (W.contents sink.old) progress.old (W.contents sink.new) progress.new }
     ensures next { IfOk result (λ _.
-        progress.new.next ≡ progress.old.next + length (all_content_sizes (item_trees row item.now))) }
+        progress.new.next ≡ progress.old.next + length
+        (all_content_sizes (item_trees row item.now))) }
     ensures breaks { IsErr result → IsTrue (W.is_broken sink.new) }
     ensures stays { IsTrue (W.is_broken sink.old) → IsTrue (W.is_broken sink.new) }
 {

@@ -3,3 +3,5 @@ pub mod FrontForms
 pub mod Refused
 pub mod ModuleForms
 pub mod WrittenForms
+pub mod Runs
+pub mod FrameEndings

@@ -1,4 +1,4 @@
-//! What crates of tests share: messages and octets from words, all memory that there is, and what came of a call.
+//! Shared helpers of the test crates: messages and octets from words, all memory that there is, and outcomes of calls.
 #![tactic(auto)]
 
 mod build;

@@ -1,4 +1,4 @@
-//! What came of a call.
+//! The outcome of a call.
 ghost use Rattle.std.specs.Prelude.{◌≡◌, if◌then◌else◌};
 
 use std::alloc::AllocError;

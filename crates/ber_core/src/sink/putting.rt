@@ -12,10 +12,11 @@ use crate::source::Broken;
 ///
 /// # Errors
 ///
-/// Where the sink breaks: the number of octets that it took, the first ones. They are not all.
+/// The number of octets that the sink took, the first ones, where it breaks. They are not all.
 pub fn put_all<W: Sink>(sink: &mut W, octets: &[u8]) -> Result<(), usize>
     ensures all { OnOk result (Appends (W.contents sink.old) (W.contents sink.new) octets.now) }
-    ensures some { IfErr result (λ n. Appends (W.contents sink.old) (W.contents sink.new) (take n octets.now)) }
+    ensures some { IfErr result (λ n. Appends (W.contents sink.old) (W.contents sink.new)
+        (take n octets.now)) }
     ensures fewer { IfErr result (λ n. n < length octets.now) }
     ensures breaks { IsErr result → IsTrue (W.is_broken sink.new) }
     ensures stays { IsTrue (W.is_broken sink.old) → IsTrue (W.is_broken sink.new) }

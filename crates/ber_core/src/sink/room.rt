@@ -31,7 +31,12 @@ impl<const N: usize> Room<N> {
     /// At most `per_call` octets in each call; after `breaks_at` octets (None: never), or when full, the sink breaks.
     pub fn new(per_call: usize, breaks_at: Option<usize>) -> Room<N>
         requires { 0 < per_call }
-        ensures { result ≡ record { octets = []; per_call = per_call; breaks_after = breaks_at; broken = false } }
+        ensures { result ≡ record {
+          octets = [];
+          per_call = per_call;
+          breaks_after = breaks_at;
+          broken = false;
+        } }
     {
         Room {
             octets: [0; N],
@@ -58,14 +63,17 @@ impl<const N: usize> Sink for Room<N> {
     fn put(&mut self, octets: &[u8]) -> Result<usize, Broken>
         ensures count { IfOk result (λ n. n ≤ length octets.now) }
         ensures some { IfOk result (λ n. 0 < length octets.now → 0 < n) }
-        ensures octets { WriteAppends (Some self.old.octets) (Some self.new.octets) result octets.now }
+        ensures octets { WriteAppends (Some self.old.octets) (Some self.new.octets) result
+            octets.now }
         ensures breaks { IsErr result ↔ IsTrue self.new.broken }
         ensures stays { IsTrue self.old.broken → IsTrue self.new.broken }
-        ensures moved { IfOk result (λ n. n ≡ moved self.old (min (length octets.now) (N - length self.old.octets))) }
+        ensures moved { IfOk result (λ n. n ≡ moved self.old
+            (min (length octets.now) (N - length self.old.octets))) }
         ensures state { IfOk result (λ n. self.new ≡ with self.old (take n octets.now)) }
         ensures unchanged { IsErr result → self.new ≡ broken self.old }
         ensures broken { IsErr result ↔ (IsTrue self.old.broken
-            ⊎ ((0 < length octets.now) × (moved self.old (min (length octets.now) (N - length self.old.octets)) ≡ 0))) }
+            ⊎ ((0 < length octets.now)
+            × (moved self.old (min (length octets.now) (N - length self.old.octets)) ≡ 0))) }
     {
         if self.broken {
             return Err(Broken);

@@ -17,7 +17,8 @@ pub trait BufferedSource: Source {
     /// Takes the first octets at hand, as many as `count` says.
     fn consume(&mut self, count: usize)
         requires { count ≤ length (hand self.old) }
-        ensures octets { Consumes (Self.left self.old) (Self.left self.new) (take count (hand self.old)) }
+        ensures octets { Consumes (Self.left self.old) (Self.left self.new)
+            (take count (hand self.old)) }
         ensures rest { hand self.new ≡ drop count (hand self.old) }
         ensures broken { Self.is_broken self.new ≡ Self.is_broken self.old };
 }

@@ -12,7 +12,7 @@ use super::{BufferedSource, Source};
 ///
 /// ```
 /// /// Takes one octet, if one is seen.
-/// fn next<R: Source, L: Look<R>>(source: &mut R) -> Option<u8> {
+/// fn next<R: Source, L: Lookahead<R>>(source: &mut R) -> Option<u8> {
 ///     let octet = *L::buffered(source).first()?;
 ///     L::consume(source, 1);
 ///     Some(octet)
@@ -33,7 +33,8 @@ pub trait Lookahead<R: Source> {
     /// Takes the first octets that are seen, as many as `count` says.
     fn consume(source: &mut R, count: usize)
         requires { count ≤ length (hand source.old) }
-        ensures octets { Consumes (R.left source.old) (R.left source.new) (take count (hand source.old)) }
+        ensures octets { Consumes (R.left source.old) (R.left source.new)
+            (take count (hand source.old)) }
         ensures rest { hand source.new ≡ drop count (hand source.old) }
         ensures broken { R.is_broken source.new ≡ R.is_broken source.old };
 }

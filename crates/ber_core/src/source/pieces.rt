@@ -29,7 +29,12 @@ impl<'a> Pieces<'a> {
     /// At most `per_call` octets in each call; after `breaks_at` octets the source breaks (None: never).
     pub fn new(octets: &'a [u8], per_call: usize, breaks_at: Option<usize>) -> Pieces<'a>
         requires { 0 < per_call }
-        ensures { result ≡ record { octets = octets.now; per_call = per_call; breaks_after = breaks_at; broken = false } }
+        ensures { result ≡ record {
+          octets = octets.now;
+          per_call = per_call;
+          breaks_after = breaks_at;
+          broken = false;
+        } }
     {
         Pieces {
             octets,
@@ -47,12 +52,15 @@ impl Source for Pieces<'_> {
 
     fn take(&mut self, buffer: &mut [u8]) -> Result<usize, Broken>
         ensures count { IfOk result (λ n. n ≤ length buffer.new) }
-        ensures octets { ReadConsumes (Some self.old.octets) (Some self.new.octets) result buffer.new }
+        ensures octets { ReadConsumes (Some self.old.octets) (Some self.new.octets) result
+            buffer.new }
         ensures breaks { IsErr result ↔ IsTrue self.new.broken }
         ensures stays { IsTrue self.old.broken → IsTrue self.new.broken }
         ensures broken { IsErr result ↔ IsTrue (is_spent self.old) }
-        ensures moved { IfOk result (λ n. n ≡ moved self.old (min (length buffer.old) (length self.old.octets))) }
-        ensures state { MatchBool (is_spent self.old) (self.new ≡ broken self.old) (IfOk result (λ n. self.new ≡ without self.old n)) }
+        ensures moved { IfOk result (λ n. n ≡ moved self.old
+            (min (length buffer.old) (length self.old.octets))) }
+        ensures state { MatchBool (is_spent self.old) (self.new ≡ broken self.old)
+            (IfOk result (λ n. self.new ≡ without self.old n)) }
         ensures rest { IfOk result (λ n. drop n buffer.new ≡ drop n buffer.old) }
     {
         if self.broken || matches!(&self.breaks_after, Some(0)) {

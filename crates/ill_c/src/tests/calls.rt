@@ -1,7 +1,8 @@
 //! Each call once, on an EXPIRED in indefinite form and on what isn't one.
 use crate::{
-    IllcanonRefusal, Status, illcanon_check, illcanon_digest, illcanon_next, illcanon_normalise,
-    illcanon_normalise_next, illcanon_same, illcanon_show, parts_are_short,
+    IllcanonRefusal, Status, illcanon_check, illcanon_digest, illcanon_dump, illcanon_frame,
+    illcanon_next, illcanon_normalise, illcanon_normalise_next, illcanon_same, illcanon_show,
+    parts_are_short,
 };
 
 const EXPIRED: &[u8] =
@@ -23,6 +24,28 @@ protocol-version-num = 2
 transaction-id.transaction-group-qualifier = general \"G\"
 transaction-id.transaction-qualifier = general \"Q\"
 service-date-time.date-time-of-this-service.date = 20240229
+";
+
+const ELEMENTS: &[u8] = b"message 7: Expired, 33 octets, normal
+      0  74 1f  Expired
+      2    30 1d  SEQUENCE
+      4      80 01  protocol-version-num = 2
+      7      a1 0a  transaction-id
+      9        a1 03  transaction-group-qualifier
+     11          1b 01  GeneralString = \"G\"
+     14        a2 03  transaction-qualifier
+     16          1b 01  GeneralString = \"Q\"
+     19      a2 0c  service-date-time
+     21        a0 0a  date-time-of-this-service
+     23          80 08  date = 20240229
+";
+
+/// What a dump of INCOMPLETE begins with.
+const FIRST_ELEMENTS: &[u8] = b"message 7: refused
+      0  74 80  Expired  (indefinite)
+      2    30 80  SEQUENCE  (indefinite)
+      4      80 01  protocol-version-num = 2
+refused at 7: Missing Expired.transaction-id
 ";
 
 /// A refusal that no call sets.
@@ -72,6 +95,34 @@ fn octets_are_written(rt: HostRuntime) {
         status == Status::Done.number() && begins(&buffer, size, TEXT),
         "show"
     );
+}
+
+#[test]
+fn elements_are_written(rt: HostRuntime) {
+    let alloc = rt.alloc();
+    let (mut buffer, mut size, mut refusal) = ([77; 1024], 0, UNSET);
+    let status = illcanon_dump(alloc, EXPIRED, 7, &mut buffer, &mut size, &mut refusal);
+    assert!(rt;
+        status == Status::Done.number() && begins(&buffer, size, ELEMENTS),
+        "dump"
+    );
+    let status = illcanon_dump(alloc, INCOMPLETE, 7, &mut buffer, &mut size, &mut refusal);
+    assert!(rt;
+        status == Status::Refused.number() && refusal.at == 7 && refusal.cause == 10,
+        "dump of what is refused"
+    );
+    assert!(rt; buffer.starts_with(FIRST_ELEMENTS), "its elements");
+}
+
+#[test]
+fn elements_are_framed(rt: HostRuntime) {
+    let mut size = 77;
+    let status = illcanon_frame(INCOMPLETE, &mut size);
+    assert!(rt; status == Status::NeedsMore.number() && size == 77, "part");
+    let status = illcanon_frame(b"\x74\x05\x30\x80\x00\x00\x00\x74", &mut size);
+    assert!(rt; status == Status::Done.number() && size == 7, "whole");
+    let status = illcanon_frame(b"\x74\xff", &mut size);
+    assert!(rt; status == Status::Refused.number() && size == 7, "unframed");
 }
 
 #[test]

@@ -1,7 +1,8 @@
 //! Each call in the profile of a number once, on an EXPIRED with an extension.
 use crate::{
-    IllcanonRefusal, Status, illcanon_check_as, illcanon_digest_as, illcanon_next_as,
-    illcanon_normalise_as, illcanon_normalise_next_as, illcanon_same_as, illcanon_show_as,
+    IllcanonRefusal, Status, illcanon_check_as, illcanon_digest_as, illcanon_dump_as,
+    illcanon_next_as, illcanon_normalise_as, illcanon_normalise_next_as, illcanon_same_as,
+    illcanon_show_as,
 };
 
 /// Its part critical is written though it is FALSE, in 48 octets.
@@ -69,6 +70,15 @@ fn octets_are_written(rt: HostRuntime) {
     assert!(rt; is_written(status, &buffer, size, DIGEST), "digest");
     let status = illcanon_show_as(alloc, MODULE, EXTENDED, 7, &mut buffer, &mut size, &mut why);
     assert!(rt; is_written(status, &buffer, size, TEXT), "show");
+    let (mut large, first) = (
+        [77; 2048],
+        b"message 7: Expired, 48 octets, not normal, normal form 45 octets\n",
+    );
+    let status = illcanon_dump_as(alloc, MODULE, EXTENDED, 7, &mut large, &mut size, &mut why);
+    assert!(rt;
+        status == Status::Done.number() && large.starts_with(first),
+        "dump"
+    );
 }
 
 #[test]

@@ -18,7 +18,7 @@ use Rattle.ill_grammar.specs.declared.cell.ElementType.TheVariants as element_ty
 use Rattle.ill_grammar.specs.Due.{found_in, read_as, IsDueIn, behind, next_is, first_of, shape_at, read_due, slot_in, next_place}
 use Rattle.ill_refusals.specs.Place.{Open, bound, allows, next_in}
 use Rattle.ill_grammar.specs.Standing.{StandsAt, next_at}
-use Rattle.ill_grammar.specs.Found as found
+use Rattle.ill_grammar.specs.Begun as begun
 use Rattle.ill_grammar.specs.declared.due.Next.{Next}
 use Rattle.ill_grammar.specs.declared.due.Next.TheVariants.{Foreigns}
 use Rattle.ill_grammar.specs.declared.element.Element.{Element as CodeElement}
@@ -99,18 +99,19 @@ has_form element_type.Foreign constructed = true
 has_form element_type.LeftOut constructed = false
 has_form _ constructed = constructed
 
--- an element is usual in this form: constructed, a SEQUENCE, a SEQUENCE OF or an explicit tag; primitive, a leaf of profile 2
+-- an element is usual in this form: constructed, a SEQUENCE, a SEQUENCE OF, an explicit tag or one of a foreign tree; primitive, a leaf of profile 2
 abbrev pub is_usual : CodeElement → Bool → Bool
 is_usual (code.Leaf l) constructed = not constructed
 is_usual (code.Sequence node) constructed = constructed
 is_usual (code.List node) constructed = constructed
 is_usual (code.Wrapper w) constructed = constructed
 is_usual (code.LooseWrapper w) constructed = constructed
+is_usual (code.Foreign levels) constructed = constructed
 is_usual _ constructed = false
 
 -- what is found may have the form, or is at fault
 abbrev pub IsFormed : Found → Bool → Option Cause → Type 0
-IsFormed f constructed None = (found_in f ≡ found.Element (read_as f)) × (allows (element_is (read_as f)) constructed ≡ true)
+IsFormed f constructed None = (found_in f ≡ begun.Element (read_as f)) × (allows (element_is (read_as f)) constructed ≡ true)
 IsFormed f constructed (Some cause) =
     (p : Profile) (place : List Open) (tag : Tag) (at i : ℕ) (cut : Fault) (w : List ℕ) → judge_form p place (found_is (found_in f)) tag constructed at i cut w ≡ faulty (fault cause at)
 

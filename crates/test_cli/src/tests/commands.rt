@@ -1,4 +1,4 @@
-//! What each command prints, and how it ends.
+//! Output and status of each command.
 use super::runs::Octets::Text;
 use super::runs::{INDEFINITE, QUIET, Row, first_wrong};
 use std::test::Fail;

@@ -1,4 +1,4 @@
-//! How names of files are printed, and words that are long.
+//! Names of files as they are printed, and words that are long.
 use super::runs::run;
 use ill_files::Name;
 use std::alloc::{AllocError, Global};

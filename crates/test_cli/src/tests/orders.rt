@@ -1,4 +1,4 @@
-//! What words ask for.
+//! Orders that words give.
 mod contracts;
 
 use clap::error::ErrorKind;

@@ -1,4 +1,4 @@
-//! Where normal forms go: an output is whole, or as it was.
+//! Outputs of normal forms: each is whole, or as it was.
 use super::runs::Octets::{Repeated, Text};
 use super::runs::{BEFORE, EXPIRED, INDEFINITE, QUIET, Row, first_wrong};
 use std::test::Fail;

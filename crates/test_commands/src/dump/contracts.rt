@@ -40,7 +40,8 @@ fn each_message_is_dumped(
     alloc: Global,
 ) -> Result<(), RunFault>
     requires { dump.hex ≡ false }
-    ensures whole { (as' : List Apdu) → IsStream (profile_of dump.entry.profile) source.old.octets as' [] → result ≡ Ok tt
+    ensures whole { (as' : List Apdu)
+        → IsStream (profile_of dump.entry.profile) source.old.octets as' [] → result ≡ Ok tt
         → Dumps dump.entry (length as') (Some sink.old.octets) (Some sink.new.octets) }
     ensures refused { (i : ℕ) (refusal : Refusal) → result ≡ Err (RunFault.Refused i refusal)
         → Dumps dump.entry i (Some sink.old.octets) (Some sink.new.octets) }

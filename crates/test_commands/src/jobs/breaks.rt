@@ -1,4 +1,4 @@
-//! Where a source or a sink breaks.
+//! Sources and sinks that break.
 use super::gives;
 use crate::memory::module::{NORMAL, SPELLED};
 use ber_core::{Pieces, Room};

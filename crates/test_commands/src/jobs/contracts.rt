@@ -47,7 +47,8 @@ fn outlines_have_one_text(
     other: Outline,
     alloc: Global,
 ) -> Result<(Vec<u8>, Vec<u8>), AllocError>
-    requires { (a : Apdu) × (octets : List ℕ) × SpellsApdu (profile_of profile) a octets × IsOutlineOf outline a × IsOutlineOf other a }
+    requires { (a : Apdu) × (octets : List ℕ) × SpellsApdu (profile_of profile) a octets
+        × IsOutlineOf outline a × IsOutlineOf other a }
     ensures { IfOk result (λ texts. texts.0.items ≡ texts.1.items) }
 {
     Ok((
@@ -65,7 +66,8 @@ fn outlines_have_one_line_of_json(
     other: &Outline,
     alloc: Global,
 ) -> Result<(Vec<u8>, Vec<u8>), AllocError>
-    ensures { (a : Apdu) → IsOutlineOf outline.now a → IsOutlineOf other.now a → IfOk result (λ lines. lines.0.items ≡ lines.1.items) }
+    ensures { (a : Apdu) → IsOutlineOf outline.now a → IsOutlineOf other.now a
+        → IfOk result (λ lines. lines.0.items ≡ lines.1.items) }
 {
     Ok((
         json_line_as(alloc, profile, Vec::new(alloc), file, head, outline)?,
@@ -82,7 +84,8 @@ fn lines_of_json_are_of_one_apdu(
     other: &Outline,
     alloc: Global,
 ) -> Result<(Vec<u8>, Vec<u8>), AllocError>
-    ensures { (a b : Apdu) → IsOutlineOf outline.now a → IsOutlineOf other.now b → FitsApdu profile_two a → FitsApdu profile_two b
+    ensures { (a b : Apdu) → IsOutlineOf outline.now a → IsOutlineOf other.now b
+        → FitsApdu profile_two a → FitsApdu profile_two b
         → IfOk result (λ lines. lines.0.items ≡ lines.1.items → choice_of a ≡ choice_of b) }
 {
     Ok((
@@ -125,7 +128,8 @@ fn inputs_have_one_output(
 ) -> (Result<Verdict, RunFault>, Result<Verdict, RunFault>)
     requires source { source.old.octets ≡ other.old.octets }
     requires sink { sink.old.octets ≡ other_sink.old.octets }
-    ensures { result.0 ≡ result.1 → IfErr result.0 (λ e. IsFault e → ⊥) → sink.new.octets ≡ other_sink.new.octets }
+    ensures { result.0 ≡ result.1 → IfErr result.0 (λ e. IsFault e → ⊥)
+        → sink.new.octets ≡ other_sink.new.octets }
 {
     (
         run_as(alloc, profile, job, hex, source, sink),
@@ -206,7 +210,8 @@ fn lines_have_one_output(
     requires source { source.old.octets ≡ other.old.octets }
     requires sink { sink.old.octets ≡ other_sink.old.octets }
     ensures good { (g h : Bool) → result.0 ≡ Ok g → result.1 ≡ Ok h → g ≡ h }
-    ensures output { (g h : Bool) → result.0 ≡ Ok g → result.1 ≡ Ok h → sink.new.octets ≡ other_sink.new.octets }
+    ensures output { (g h : Bool) → result.0 ≡ Ok g → result.1 ≡ Ok h
+        → sink.new.octets ≡ other_sink.new.octets }
 {
     (
         run_lines_as(alloc, profile, job, source, sink),
@@ -271,7 +276,8 @@ fn pairs_have_one_verdict(
     requires second { second.old.octets ≡ other_second.old.octets }
     requires sink { sink.old.octets ≡ other_sink.old.octets }
     ensures verdict { (v w : Verdict) → result.0 ≡ Ok v → result.1 ≡ Ok w → v ≡ w }
-    ensures line { (v w : Verdict) → result.0 ≡ Ok v → result.1 ≡ Ok w → sink.new.octets ≡ other_sink.new.octets }
+    ensures line { (v w : Verdict) → result.0 ≡ Ok v → result.1 ≡ Ok w
+        → sink.new.octets ≡ other_sink.new.octets }
     ensures fault { (v : Verdict) (e : RunFault) → result.0 ≡ Ok v → result.1 ≡ Err e → IsFault e }
 {
     (

@@ -1,4 +1,4 @@
-//! What `run_on` writes and reports, row by row.
+//! Output and reports of `run_skipping`, row by row.
 use ber_core::{Pieces, ToWrite};
 use ill_commands::{
     Job, JobOptions, RefusalReport, ReportRefusals, RunFault, SkippingCounts, run_skipping,

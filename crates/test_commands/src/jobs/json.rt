@@ -1,4 +1,4 @@
-//! What `json_line` says, row by row.
+//! Lines of `json_line`, row by row.
 use ber_core::{Buffered, FromSlice};
 use ill_json::{LineHead, json_line, json_line_as};
 use ill_read::{Outline, read_outline_as};

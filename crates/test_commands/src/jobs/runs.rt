@@ -1,4 +1,4 @@
-//! What `run` writes and returns, row by row.
+//! Output and results of `run`, row by row.
 use super::gives;
 use ber_core::{Pieces, Room, ToWrite, Unbuffered};
 use ill_commands::{Counts, Job, JobOptions, RunFault, Verdict, run_counting, run_with};

@@ -1,4 +1,4 @@
-//! What `run_same` writes and returns, row by row.
+//! Results of `run_same`, row by row.
 use ber_core::{Pieces, ToWrite};
 use ill_commands::{RunFault, Verdict, run_same};
 use ill_normal::{Cause, Refusal, Side};

@@ -1,4 +1,4 @@
-//! What `show_text` says of messages.
+//! Texts of `show_text`.
 use ber_core::{Pieces, Unbuffered};
 use ill_normal::decode;
 use ill_read::{Outline, read_outline_as};

@@ -1,4 +1,4 @@
-//! What the calls are made on.
+//! Arguments of the calls.
 use ber_leaf::{DateText, GeneralText, IllString, PrintableText, TimeText, VisibleText};
 use ill_read::decode;
 use ill_schema::Message;

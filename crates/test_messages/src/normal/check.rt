@@ -1,4 +1,4 @@
-//! What there is to say of a message.
+//! The facts of a message.
 use super::{EXPIRED_HEX, INDEFINITE_HEX, TYPED_SEGMENT_HEX};
 use ill_normal::{Cause, Checked, Pieces, ReadFailure, Refusal, check_one};
 use std::alloc::Global;

@@ -25,8 +25,10 @@ fn slices_have_one_answer(
 ) -> (Result<Message, Failure>, Result<Message, Failure>)
     ensures message { (m n : Message) → result.0 ≡ Ok m → result.1 ≡ Ok n → apdu_of m ≡ apdu_of n }
     ensures octets { (m : Message) → result.0 ≡ Ok m → octets_of m ≡ length octets.now }
-    ensures refusal { (x y : Refusal) → result.0 ≡ Err (Failure.Refused x) → result.1 ≡ Err (Failure.Refused y) → x ≡ y }
-    ensures apart { (m : Message) (y : Refusal) → result.0 ≡ Ok m → result.1 ≡ Err (Failure.Refused y) → ⊥ }
+    ensures refusal { (x y : Refusal) → result.0 ≡ Err (Failure.Refused x)
+        → result.1 ≡ Err (Failure.Refused y) → x ≡ y }
+    ensures apart { (m : Message) (y : Refusal) → result.0 ≡ Ok m
+        → result.1 ≡ Err (Failure.Refused y) → ⊥ }
 {
     (decode(alloc, octets), decode(alloc, octets))
 }
@@ -36,11 +38,15 @@ fn slices_have_the_normal_form_of_their_message(
     octets: &[u8],
     alloc: Global,
 ) -> (Result<Message, Failure>, Result<NormalForm, Failure>)
-    ensures form { (m : Message) (n : NormalForm) → result.0 ≡ Ok m → result.1 ≡ Ok n → n.octets.items ≡ normal_form (apdu_of m) }
+    ensures form { (m : Message) (n : NormalForm) → result.0 ≡ Ok m → result.1 ≡ Ok n
+        → n.octets.items ≡ normal_form (apdu_of m) }
     ensures read { (n : NormalForm) → result.1 ≡ Ok n → n.input_len ≡ length octets.now }
-    ensures refusal { (x y : Refusal) → result.0 ≡ Err (Failure.Refused x) → result.1 ≡ Err (Failure.Refused y) → x ≡ y }
-    ensures message { (m : Message) (y : Refusal) → result.0 ≡ Ok m → result.1 ≡ Err (Failure.Refused y) → ⊥ }
-    ensures normal { (x : Refusal) (n : NormalForm) → result.0 ≡ Err (Failure.Refused x) → result.1 ≡ Ok n → ⊥ }
+    ensures refusal { (x y : Refusal) → result.0 ≡ Err (Failure.Refused x)
+        → result.1 ≡ Err (Failure.Refused y) → x ≡ y }
+    ensures message { (m : Message) (y : Refusal) → result.0 ≡ Ok m
+        → result.1 ≡ Err (Failure.Refused y) → ⊥ }
+    ensures normal { (x : Refusal) (n : NormalForm) → result.0 ≡ Err (Failure.Refused x)
+        → result.1 ≡ Ok n → ⊥ }
 {
     (decode(alloc, octets), decode_normal(alloc, octets))
 }
@@ -51,8 +57,10 @@ fn slices_are_the_same_where_their_apdus_are(
     second: &[u8],
     alloc: Global,
 ) -> Result<bool, (Side, Failure)>
-    ensures { (a b : Apdu) → SpellsApdu profile_two a first.now → SpellsApdu profile_two b second.now
-        → IfOk result (λ same. (IsTrue same ↔ (a ≡ b)) × (IsTrue same ↔ (normal_form a ≡ normal_form b))) }
+    ensures { (a b : Apdu) → SpellsApdu profile_two a first.now
+        → SpellsApdu profile_two b second.now
+        → IfOk result (λ same. (IsTrue same ↔ (a ≡ b))
+        × (IsTrue same ↔ (normal_form a ≡ normal_form b))) }
 {
     same_message(alloc, first, second)
 }
@@ -62,7 +70,8 @@ fn slices_are_normal_where_they_are_their_normal_form(
     octets: &[u8],
     alloc: Global,
 ) -> Result<bool, Failure>
-    ensures { (a : Apdu) → SpellsApdu profile_two a octets.now → IfOk result (λ yes. IsTrue yes ↔ (octets.now ≡ normal_form a)) }
+    ensures { (a : Apdu) → SpellsApdu profile_two a octets.now
+        → IfOk result (λ yes. IsTrue yes ↔ (octets.now ≡ normal_form a)) }
 {
     is_normal(alloc, octets)
 }
@@ -101,7 +110,8 @@ fn normal_forms_are_of_the_message_at_the_front(
 ) -> Result<Option<NormalForm>, ReadFailure>
     ensures { (a : Apdu) (n : ℕ) → Accepts profile_two source.old.octets a n
         → IfOk result (λ found. elim found as (λ _. Type 0) [
-          | Some x ↦ (x.octets.items ≡ normal_form a) × (x.input_len ≡ n) × (source.new.octets ≡ drop n source.old.octets)
+          | Some x ↦ (x.octets.items ≡ normal_form a) × (x.input_len ≡ n)
+              × (source.new.octets ≡ drop n source.old.octets)
               × (kept.new.items ≡ kept.old.items ++ take n source.old.octets)
           | None ↦ ⊥
         ]) }
@@ -116,7 +126,8 @@ fn normal_forms_at_hand_are_taken_whole(
 ) -> Result<Option<NormalForm>, ReadFailure>
     ensures { (a : Apdu) (n : ℕ) → Accepts profile_two source.old a n
         → IfOk result (λ found. elim found as (λ _. Type 0) [
-          | Some x ↦ (x.octets.items ≡ normal_form a) × (x.input_len ≡ n) × (source.new ≡ drop n source.old)
+          | Some x ↦ (x.octets.items ≡ normal_form a) × (x.input_len ≡ n)
+              × (source.new ≡ drop n source.old)
           | None ↦ ⊥
         ]) }
 {
@@ -131,7 +142,8 @@ fn normal_forms_have_nothing_of_the_room(
 ) -> Result<Option<NormalForm>, ReadFailure>
     ensures { (a : Apdu) (n : ℕ) → Accepts profile_two source.old a n
         → IfOk result (λ found. elim found as (λ _. Type 0) [
-          | Some x ↦ (x.octets.items ≡ normal_form a) × (x.input_len ≡ n) × (source.new ≡ drop n source.old)
+          | Some x ↦ (x.octets.items ≡ normal_form a) × (x.input_len ≡ n)
+              × (source.new ≡ drop n source.old)
           | None ↦ ⊥
         ]) }
 {
@@ -147,7 +159,8 @@ fn kept_normal_forms_have_nothing_of_the_room(
 ) -> Result<Option<NormalForm>, ReadFailure>
     ensures { (a : Apdu) (n : ℕ) → Accepts profile_two source.old.octets a n
         → IfOk result (λ found. elim found as (λ _. Type 0) [
-          | Some x ↦ (x.octets.items ≡ normal_form a) × (x.input_len ≡ n) × (source.new.octets ≡ drop n source.old.octets)
+          | Some x ↦ (x.octets.items ≡ normal_form a) × (x.input_len ≡ n)
+              × (source.new.octets ≡ drop n source.old.octets)
               × (kept.new.items ≡ kept.old.items ++ take n source.old.octets)
           | None ↦ ⊥
         ]) }
@@ -166,7 +179,8 @@ fn pieces_have_nothing_of_the_room<M: Render>(
 ) -> Result<Option<RenderedMessage<M::Out>>, ReadFailure>
     ensures { (a : Apdu) (n : ℕ) → Accepts (profile_of (M.profile maker.now)) source.old.octets a n
         → IfOk result (λ found. elim found as (λ _. Type 0) [
-          | Some x ↦ M.Out.is x.text (M.text maker.now position (spelling a (take n source.old.octets))) × (x.octets ≡ n)
+          | Some x ↦ M.Out.is x.text (M.text maker.now position
+              (spelling a (take n source.old.octets))) × (x.octets ≡ n)
           | None ↦ ⊥
         ]) }
 {
@@ -197,8 +211,10 @@ fn checks_have_nothing_of_the_room(
 ) -> Result<Option<(Checked, Vec<u8>)>, ReadFailure>
     ensures { (a : Apdu) (n : ℕ) → Accepts profile_two source.old.octets a n
         → IfOk result (λ found. elim found as (λ _. Type 0) [
-          | Some x ↦ (x.0.apdu ≡ a.number) × (x.0.octets ≡ n) × (x.0.normal ≡ length (normal_form a))
-              × (IsTrue x.0.is_normal ↔ (take n source.old.octets ≡ normal_form a)) × (x.1.items ≡ normal_form a)
+          | Some x ↦ (x.0.apdu ≡ a.number) × (x.0.octets ≡ n)
+              × (x.0.normal ≡ length (normal_form a))
+              × (IsTrue x.0.is_normal ↔ (take n source.old.octets ≡ normal_form a))
+              × (x.1.items ≡ normal_form a)
           | None ↦ ⊥
         ]) }
 {
@@ -240,7 +256,8 @@ fn spellings_are_normalised_alike(
     alloc: Global,
 ) -> Result<Option<u32>, NormalFailure>
     ensures { (a : Apdu) (n : ℕ) → Accepts profile_two source.old.octets a n
-        → IfOk result (λ found. (found ≡ Some (length (normal_form a))) × (sink.new.octets ≡ sink.old.octets ++ normal_form a)) }
+        → IfOk result (λ found. (found ≡ Some (length (normal_form a)))
+        × (sink.new.octets ≡ sink.old.octets ++ normal_form a)) }
 {
     normalise(alloc, source, sink)
 }
@@ -255,7 +272,8 @@ fn streams_are_taken_to_their_end(
     ensures end { IfOk result (λ _. source.new.octets ≡ []) }
     ensures before { IfErr result (λ failure. (apdus : List Apdu) × (length apdus ≡ failure.whole)
         × IsStream profile_two (take failure.before source.old.octets) apdus []) }
-    ensures stop { IfErr result (λ failure. length source.old.octets ≤ failure.before + (1_048_576 + length source.new.octets)) }
+    ensures stop { IfErr result (λ failure. length source.old.octets ≤ failure.before
+        + (1_048_576 + length source.new.octets)) }
 {
     normalise_stream(alloc, source, sink)
 }
@@ -267,12 +285,16 @@ fn messages_are_gone_through_to_their_end(
     sink: &mut Room<64>,
     alloc: Global,
 ) -> Result<StreamCounts, StreamError>
-    ensures end { IfOk result (λ passed. (source.new.octets ≡ []) × ((messages : List Spelling) × (length messages ≡ passed.whole)
+    ensures end { IfOk result (λ passed. (source.new.octets ≡ [])
+        × ((messages : List Spelling) × (length messages ≡ passed.whole)
         × AreSpelled source.old.octets messages [])) }
-    ensures counts { IfOk result (λ passed. (passed.good ≡ passed.whole) × (passed.octets ≡ length source.old.octets)) }
-    ensures before { IfErr result (λ stopped. (messages : List Spelling) × (length messages ≡ stopped.whole)
+    ensures counts { IfOk result (λ passed. (passed.good ≡ passed.whole)
+        × (passed.octets ≡ length source.old.octets)) }
+    ensures before { IfErr result (λ stopped. (messages : List Spelling)
+        × (length messages ≡ stopped.whole)
         × AreSpelled (take stopped.before source.old.octets) messages []) }
-    ensures stop { IfErr result (λ stopped. length source.old.octets ≤ stopped.before + (1_048_576 + length source.new.octets)) }
+    ensures stop { IfErr result (λ stopped. length source.old.octets ≤ stopped.before
+        + (1_048_576 + length source.new.octets)) }
 {
     for_each_message::<NormalForms, Pieces, Unbuffered, Room<64>>(alloc, &NormalForms, source, sink)
 }

@@ -1,6 +1,6 @@
 //! Messages one after another, where some are refused.
 use super::{EXPIRED, EXPIRED_HEX, INDEFINITE_HEX};
-use ber_core::{Buffered, FromSlice, Lookahead, Unbuffered};
+use ber_core::{Buffered, FromSlice, Lookahead, Sink, Unbuffered};
 use ill_normal::{
     Broken, Cause, NodeId, NormalFailure, NormalForms, PartId, Pieces, Refusal, RefusalReport,
     ReportRefusals, Room, SkippingCounts, SkippingError, SkippingErrorKind, Source, StreamCause,
@@ -200,15 +200,24 @@ struct Want<'a> {
     reports: &'a [Refused],
 }
 
+/// Makes the call. Its contract is long, and the tests look at results alone.
+fn pass_over<R: Source, L: Lookahead<R>, W: Sink, T: ReportRefusals>(
+    alloc: Global,
+    source: &mut R,
+    sink: &mut W,
+    reports: &mut T,
+) -> Result<SkippingCounts, SkippingError> {
+    for_each_accepted_message::<NormalForms, R, L, W, T>(alloc, &NormalForms, source, sink, reports)
+}
+
 /// Tells whether that comes of the messages of a source.
 fn comes_of<R: Source, L: Lookahead<R>>(alloc: Global, source: &mut R, want: &Want<'_>) -> bool {
     let mut octets = Vec::new(alloc);
     let mut reported = Reported {
         reports: Vec::new(alloc),
     };
-    let result = for_each_accepted_message::<NormalForms, R, L, ToWrite<&mut Vec<u8>>, Reported>(
+    let result = pass_over::<R, L, ToWrite<&mut Vec<u8>>, Reported>(
         alloc,
-        &NormalForms,
         source,
         &mut ToWrite::new(&mut octets),
         &mut reported,
@@ -286,13 +295,12 @@ fn has_the_first(alloc: Global, octets: &[u8], n: usize) -> bool {
     let mut reported = Reported {
         reports: Vec::new(alloc),
     };
-    let result = for_each_accepted_message::<
-        NormalForms,
-        FromSlice<'_>,
-        Buffered,
-        Room<128>,
-        Reported,
-    >(alloc, &NormalForms, &mut source, &mut sink, &mut reported);
+    let result = pass_over::<FromSlice<'_>, Buffered, Room<128>, Reported>(
+        alloc,
+        &mut source,
+        &mut sink,
+        &mut reported,
+    );
     let (messages, good, before, reports, of_the_last) = if n < 33 {
         (0, 0, 0, [].as_slice(), n)
     } else {
@@ -428,9 +436,8 @@ fn a_million_refused_messages_are_enough(rt: HostRuntime) {
     let mut source = Nulls { at: false };
     let mut sink: Room<1> = Room::new(1, None);
     let mut count = Count { reports: 0 };
-    let result = for_each_accepted_message::<NormalForms, Nulls, Unbuffered, Room<1>, Count>(
+    let result = pass_over::<Nulls, Unbuffered, Room<1>, Count>(
         rt.alloc(),
-        &NormalForms,
         &mut source,
         &mut sink,
         &mut count,

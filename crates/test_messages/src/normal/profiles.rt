@@ -36,7 +36,8 @@ fn messages_are_normalised_in_each_profile(
     ensures form { (a : Apdu) (n : ℕ) → Accepts (profile_of profile) source.old.octets a n
         → IfOk result (λ found. (found ≡ Some (length (normal_form_in (profile_of profile) a)))
         × (sink.new.octets ≡ sink.old.octets ++ normal_form_in (profile_of profile) a)) }
-    ensures refused { (f : Fault) → 0 < length source.old.octets → OnlyRefuses (profile_of profile) source.old.octets f
+    ensures refused { (f : Fault) → 0 < length source.old.octets
+        → OnlyRefuses (profile_of profile) source.old.octets f
         → AnswersRefused result f }
 {
     normalise_as(alloc, profile, source, sink)
@@ -50,12 +51,16 @@ fn streams_are_normalised_in_each_profile(
     sink: &mut Room<64>,
     alloc: Global,
 ) -> Result<u32, StreamFailure>
-    ensures count { (apdus : List Apdu) → IsStream (profile_of profile) source.old.octets apdus [] → length apdus ≤ 1_000_000
+    ensures count { (apdus : List Apdu) → IsStream (profile_of profile) source.old.octets apdus []
+        → length apdus ≤ 1_000_000
         → AnswersCount result (length apdus) }
     ensures written { (apdus : List Apdu) → IsStream (profile_of profile) source.old.octets apdus []
-        → IfOk result (λ _. sink.new.octets ≡ sink.old.octets ++ flat_map (normal_form_in (profile_of profile)) apdus) }
-    ensures refused { (apdus : List Apdu) (rest : List ℕ) (f : Fault) → IsStream (profile_of profile) source.old.octets apdus rest
-        → length apdus < 1_000_000 → 0 < length rest → OnlyRefuses (profile_of profile) rest f → AnswersRefusedAfter result (length apdus) f }
+        → IfOk result (λ _. sink.new.octets ≡ sink.old.octets
+        ++ flat_map (normal_form_in (profile_of profile)) apdus) }
+    ensures refused { (apdus : List Apdu) (rest : List ℕ) (f : Fault)
+        → IsStream (profile_of profile) source.old.octets apdus rest
+        → length apdus < 1_000_000 → 0 < length rest → OnlyRefuses (profile_of profile) rest f
+        → AnswersRefusedAfter result (length apdus) f }
 {
     normalise_stream_as(alloc, profile, source, sink)
 }
@@ -68,13 +73,17 @@ fn messages_are_checked_in_each_profile(
 ) -> Result<Option<Checked>, ReadFailure>
     ensures described { (a : Apdu) (n : ℕ) → Accepts (profile_of profile) source.old.octets a n
         → IfOk result (λ found. elim found as (λ _. Type 0) [
-          | Some x ↦ (x.apdu ≡ a.number) × (x.octets ≡ n) × (x.normal ≡ length (normal_form_in (profile_of profile) a))
-              × (IsTrue x.is_normal ↔ (take n source.old.octets ≡ normal_form_in (profile_of profile) a))
+          | Some x ↦ (x.apdu ≡ a.number) × (x.octets ≡ n)
+              × (x.normal ≡ length (normal_form_in (profile_of profile) a))
+              × (IsTrue x.is_normal ↔ (take n source.old.octets
+              ≡ normal_form_in (profile_of profile) a))
           | None ↦ ⊥
         ]) }
-    ensures none { (f : Fault) → 0 < length source.old.octets → OnlyRefuses (profile_of profile) source.old.octets f
+    ensures none { (f : Fault) → 0 < length source.old.octets
+        → OnlyRefuses (profile_of profile) source.old.octets f
         → IfOk result (λ _. ⊥) }
-    ensures refused { (f : Fault) (x : Refusal) → OnlyRefuses (profile_of profile) source.old.octets f
+    ensures refused { (f : Fault) (x : Refusal)
+        → OnlyRefuses (profile_of profile) source.old.octets f
         → result ≡ Err (ReadFailure.Refused x) → fault_of x ≡ f }
 {
     check_one_as(alloc, profile, source)
@@ -87,10 +96,13 @@ fn slices_are_compared_in_each_profile(
     second: &[u8],
     alloc: Global,
 ) -> (Result<bool, (Side, Failure)>, Result<bool, (Side, Failure)>)
-    ensures same { (a b : Apdu) → SpellsApdu (profile_of profile) a first.now → SpellsApdu (profile_of profile) b second.now
+    ensures same { (a b : Apdu) → SpellsApdu (profile_of profile) a first.now
+        → SpellsApdu (profile_of profile) b second.now
         → IfOk result.0 (λ same. (IsTrue same ↔ (a ≡ b))
-        × (IsTrue same ↔ (normal_form_in (profile_of profile) a ≡ normal_form_in (profile_of profile) b))) }
-    ensures refused { (s t : Side) (x y : Refusal) → result.0 ≡ Err (s, Failure.Refused x) → result.1 ≡ Err (t, Failure.Refused y)
+        × (IsTrue same ↔ (normal_form_in (profile_of profile) a
+        ≡ normal_form_in (profile_of profile) b))) }
+    ensures refused { (s t : Side) (x y : Refusal) → result.0 ≡ Err (s, Failure.Refused x)
+        → result.1 ≡ Err (t, Failure.Refused y)
         → (s ≡ t) × (x ≡ y) }
 {
     (
@@ -107,7 +119,8 @@ fn slices_are_normal_in_each_profile(
 ) -> (Result<bool, Failure>, Result<bool, Failure>)
     ensures normal { (a : Apdu) → SpellsApdu (profile_of profile) a octets.now
         → IfOk result.0 (λ yes. IsTrue yes ↔ (octets.now ≡ normal_form_in (profile_of profile) a)) }
-    ensures refused { (x y : Refusal) → result.0 ≡ Err (Failure.Refused x) → result.1 ≡ Err (Failure.Refused y) → x ≡ y }
+    ensures refused { (x y : Refusal) → result.0 ≡ Err (Failure.Refused x)
+        → result.1 ≡ Err (Failure.Refused y) → x ≡ y }
 {
     (
         is_normal_as(alloc, profile, octets),

@@ -20,8 +20,10 @@ fn messages_are_refused_in_one_way(
     source: &mut Pieces,
     alloc: Global,
 ) -> Result<Option<Message>, ReadFailure>
-    ensures none { (f : Fault) → 0 < length source.old.octets → OnlyRefuses profile_two source.old.octets f → IfOk result (λ _. ⊥) }
-    ensures one { (f : Fault) (x : Refusal) → OnlyRefuses profile_two source.old.octets f → result ≡ Err (ReadFailure.Refused x) → fault_of x ≡ f }
+    ensures none { (f : Fault) → 0 < length source.old.octets
+        → OnlyRefuses profile_two source.old.octets f → IfOk result (λ _. ⊥) }
+    ensures one { (f : Fault) (x : Refusal) → OnlyRefuses profile_two source.old.octets f
+        → result ≡ Err (ReadFailure.Refused x) → fault_of x ≡ f }
 {
     read_message(alloc, source)
 }
@@ -31,8 +33,10 @@ fn checks_are_refused_in_one_way(
     source: &mut Pieces,
     alloc: Global,
 ) -> Result<Option<Checked>, ReadFailure>
-    ensures none { (f : Fault) → 0 < length source.old.octets → OnlyRefuses profile_two source.old.octets f → IfOk result (λ _. ⊥) }
-    ensures one { (f : Fault) (x : Refusal) → OnlyRefuses profile_two source.old.octets f → result ≡ Err (ReadFailure.Refused x) → fault_of x ≡ f }
+    ensures none { (f : Fault) → 0 < length source.old.octets
+        → OnlyRefuses profile_two source.old.octets f → IfOk result (λ _. ⊥) }
+    ensures one { (f : Fault) (x : Refusal) → OnlyRefuses profile_two source.old.octets f
+        → result ≡ Err (ReadFailure.Refused x) → fault_of x ≡ f }
 {
     check_one(alloc, source)
 }
@@ -43,7 +47,8 @@ fn normal_forms_are_refused_in_one_way(
     sink: &mut Room<64>,
     alloc: Global,
 ) -> Result<Option<u32>, NormalFailure>
-    ensures { (f : Fault) → 0 < length source.old.octets → OnlyRefuses profile_two source.old.octets f → AnswersRefused result f }
+    ensures { (f : Fault) → 0 < length source.old.octets
+        → OnlyRefuses profile_two source.old.octets f → AnswersRefused result f }
 {
     normalise(alloc, source, sink)
 }
@@ -54,12 +59,15 @@ fn streams_have_one_result(
     sink: &mut Room<64>,
     alloc: Global,
 ) -> Result<u32, StreamFailure>
-    ensures count { (apdus : List Apdu) → IsStream profile_two source.old.octets apdus [] → length apdus ≤ 1_000_000
+    ensures count { (apdus : List Apdu) → IsStream profile_two source.old.octets apdus []
+        → length apdus ≤ 1_000_000
         → AnswersCount result (length apdus) }
     ensures written { (apdus : List Apdu) → IsStream profile_two source.old.octets apdus []
         → IfOk result (λ _. sink.new.octets ≡ sink.old.octets ++ flat_map normal_form apdus) }
-    ensures refused { (apdus : List Apdu) (rest : List ℕ) (f : Fault) → IsStream profile_two source.old.octets apdus rest
-        → length apdus < 1_000_000 → 0 < length rest → OnlyRefuses profile_two rest f → AnswersRefusedAfter result (length apdus) f }
+    ensures refused { (apdus : List Apdu) (rest : List ℕ) (f : Fault)
+        → IsStream profile_two source.old.octets apdus rest
+        → length apdus < 1_000_000 → 0 < length rest → OnlyRefuses profile_two rest f
+        → AnswersRefusedAfter result (length apdus) f }
 {
     normalise_stream(alloc, source, sink)
 }
@@ -70,7 +78,8 @@ fn sides_are_refused_in_one_way(
     second: &[u8],
     alloc: Global,
 ) -> (Result<bool, (Side, Failure)>, Result<bool, (Side, Failure)>)
-    ensures { (s t : Side) (x y : Refusal) → result.0 ≡ Err (s, Failure.Refused x) → result.1 ≡ Err (t, Failure.Refused y) → (s ≡ t) × (x ≡ y) }
+    ensures { (s t : Side) (x y : Refusal) → result.0 ≡ Err (s, Failure.Refused x)
+        → result.1 ≡ Err (t, Failure.Refused y) → (s ≡ t) × (x ≡ y) }
 {
     (
         same_message(alloc, first, second),
@@ -83,7 +92,8 @@ fn slices_are_refused_in_one_way(
     octets: &[u8],
     alloc: Global,
 ) -> (Result<bool, Failure>, Result<bool, Failure>)
-    ensures { (x y : Refusal) → result.0 ≡ Err (Failure.Refused x) → result.1 ≡ Err (Failure.Refused y) → x ≡ y }
+    ensures { (x y : Refusal) → result.0 ≡ Err (Failure.Refused x)
+        → result.1 ≡ Err (Failure.Refused y) → x ≡ y }
 {
     (is_normal(alloc, octets), is_normal(alloc, octets))
 }

@@ -30,7 +30,8 @@ fn decoders_return_what_they_were_fed(
     requires fed { (fed : List ℕ) × IsOpenAfter one.old fed × IsOpenAfter other.old fed }
     requires one { MayTake one.old piece.now }
     requires other { MayTake other.old piece.now }
-    ensures { result.0 ≢ Err Failure.OutOfMemory → result.1 ≢ Err Failure.OutOfMemory → result.0 ≡ result.1 }
+    ensures { result.0 ≢ Err Failure.OutOfMemory → result.1 ≢ Err Failure.OutOfMemory
+        → result.0 ≡ result.1 }
 {
     (one.feed(piece), other.feed(piece))
 }
@@ -104,14 +105,18 @@ fn slices_have_one_normal_form_in_each_profile(
     profile: Profile,
     alloc: Global,
 ) -> (Result<NormalForm, Failure>, Result<NormalForm, Failure>)
-    ensures form { (a : Apdu) (n : NormalForm) → SpellsApdu (profile_of profile) a octets.now → result.0 ≡ Ok n
+    ensures form { (a : Apdu) (n : NormalForm) → SpellsApdu (profile_of profile) a octets.now
+        → result.0 ≡ Ok n
         → n.octets.items ≡ normal_form_in (profile_of profile) a }
-    ensures same { (m n : NormalForm) → result.0 ≡ Ok m → result.1 ≡ Ok n → m.octets.items ≡ n.octets.items }
+    ensures same { (m n : NormalForm) → result.0 ≡ Ok m → result.1 ≡ Ok n
+        → m.octets.items ≡ n.octets.items }
     ensures read { (n : NormalForm) → result.0 ≡ Ok n → n.input_len ≡ length octets.now }
     ensures accepted { (a : Apdu) (x : Refusal) → SpellsApdu (profile_of profile) a octets.now
         → result.0 ≡ Err (Failure.Refused x) → ⊥ }
-    ensures refusal { (x y : Refusal) → result.0 ≡ Err (Failure.Refused x) → result.1 ≡ Err (Failure.Refused y) → x ≡ y }
-    ensures apart { (n : NormalForm) (x : Refusal) → result.0 ≡ Ok n → result.1 ≡ Err (Failure.Refused x) → ⊥ }
+    ensures refusal { (x y : Refusal) → result.0 ≡ Err (Failure.Refused x)
+        → result.1 ≡ Err (Failure.Refused y) → x ≡ y }
+    ensures apart { (n : NormalForm) (x : Refusal) → result.0 ≡ Ok n
+        → result.1 ≡ Err (Failure.Refused x) → ⊥ }
 {
     (
         decode_normal_as(alloc, profile, octets),

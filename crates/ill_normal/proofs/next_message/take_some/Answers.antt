@@ -20,7 +20,7 @@ returns-then-wanted-eq0-clause-takes g c =
     let fed = c.feed-seen.ensures in
     let same = fed_no_more c.args.framer.now c.feed-seen.new.self c.buffered-hand.result.now c.feed-seen.result c.if-seen-gt0.false fed.fed in
     takes_none _ _ _ _ _ _ (Consumes-nil (g.R.Source.left c.args.source.now)) same
-    (λ b h p. let some = c.need.ensures.some b (same b h) p in absurd (omega (arith, some, c.min-wanted.ensures, c.if-wanted-eq0.true, c.requires))) refl
+    (λ b h p. let some = c.missing_len.ensures.some b (same b h) p in absurd (omega (arith, some, c.min-wanted.ensures, c.if-wanted-eq0.true, c.requires))) refl
 
 pub returns-in-Ok-keep-clause-takes : goal.returns-in-Ok-keep-clause-takes
 returns-in-Ok-keep-clause-takes g c =
@@ -34,8 +34,8 @@ returns-in-Ok-keep-clause-takes g c =
     let front : xs ≡ take n given = take-append-le n given (drop c.min-wanted.result c.args.buffer.now) le in
     let size : length xs ≡ n = ap length front ∙ length-take-le n given le in
     subst (λ k. Takes (g.R.Source.left c.args.source.now) (g.R.Source.left c.take.new.self) c.args.framer.now c.feed.new.self c.args.kept.now.items c.keep-2.new.kept.items k) size
-    (takes_needed _ _ _ _ _ _ xs c.feed.result c.need.result
+    (takes_needed _ _ _ _ _ _ xs c.feed.result c.missing_len.result
     (subst (Consumes (g.R.Source.left c.args.source.now) (g.R.Source.left c.take.new.self)) (sym front) c.in-Ok-take.ensures.octets.0)
     c.feed.ensures.count (omega (arith, size, le, len, c.min-wanted.ensures))
-    (λ b w h lt. c.need.ensures.any b w (same b h) lt) (λ b h. c.feed.ensures.fed b (same b h)) c.feed.ensures.all
+    (λ b w h lt. c.missing_len.ensures.any b w (same b h) lt) (λ b h. c.feed.ensures.fed b (same b h)) c.feed.ensures.all
     (λ z. c.in-Ok-take.ensures.octets.1 (omega (arith, size, z)) (omega (arith, len, c.if-wanted-eq0.false))) c.in-Ok-keep.ensures)

@@ -12,7 +12,7 @@ overflow_cast-octets c =
     omega (arith, small)
 
 pub returns-in-Ok-Some-clause-answers : goal.returns-in-Ok-Some-clause-answers
-returns-in-Ok-Some-clause-answers c = c.whole.ensures c.args.octets.now refl (subst (λ m. HasBegun c.args.octets.now (Ok m)) c.in-Ok-Some.field-0-is c.in-Ok-Some.ensures)
+returns-in-Ok-Some-clause-answers c = c.message_of_slice.ensures c.args.octets.now refl (subst (λ m. HasBegun c.args.octets.now (Ok m)) c.in-Ok-Some.field-0-is c.in-Ok-Some.ensures)
 
 pub returns-in-Ok-None-clause-answers : goal.returns-in-Ok-None-clause-answers
 returns-in-Ok-None-clause-answers c =

@@ -13,7 +13,7 @@ returns-in-Ok-true g c p opened =
     let read = reads_filled p g.D.Draft.holds g.D.Draft.has _ _ _ _ c.fill.new.reader c.ended.result _ _ (c.in-Ok.ensures.filled p opened) done c.in-Ok.ensures.taken c.in-Ok.ensures.stays in
     subst (λ e. ReadsNextIn (profile_of p) {T = ℕ} (g.R.Source.left c.args.source.now) (g.R.Source.left c.fill.new.source) (g.R.Source.is_broken c.args.source.now) (g.R.Source.is_broken c.fill.new.source)
     (λ n octets. (n ≡ length octets) × IsReadOf p g.D.Draft.has c.fill.new.reader.path.draft octets × Appends (g.K.Recorder.kept c.args.recorder.now) (g.K.Recorder.kept c.fill.new.recorder) octets) e)
-    (ap (read_result c.fill.new.reader.at) (c.in-Ok-true.is ∙ ap Ok c.in-Ok-true.field-0-test) ∙ ap (λ n. Ok (Some n)) (sym c.at.ensures)) read
+    (ap (read_result c.fill.new.reader.at) (c.in-Ok-true.is ∙ ap Ok c.in-Ok-true.field-0-test) ∙ ap (λ n. Ok (Some n)) (sym c.offset.ensures)) read
 
 pub returns-in-Ok-false : goal.returns-in-Ok-false
 returns-in-Ok-false g c p opened =

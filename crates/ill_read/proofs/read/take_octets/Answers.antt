@@ -36,12 +36,12 @@ returns-clause-fed g c p b h exact =
     let long : length piece ≡ n = ap length (take-append-le n given (drop c.min-wanted.result c.args.buffer.now) le) ∙ length-take-le n given le in
     let needed : length piece ≤ c.request_len.result = omega (arith, long, len, le, c.min-wanted.ensures, c.min.ensures) in
     let space = c.requires.space in let room = c.requires.room in
-    let ends : NoneEndsWithin p (b ++ piece) = pulled_exact p g.D.Draft.holds g.D.Draft.has d b piece c.request_len.result h c.take-2.ensures.octets exact c.request_len.ensures.closed
+    let ends : NoneEndsWithin p (b ++ piece) = pulled_exact p g.D.Draft.holds g.D.Draft.has d b piece c.request_len.result h c.read_piece.ensures.octets exact c.request_len.ensures.closed
     (λ a k opened ok accepted. c.request_len.ensures.at_least p b piece a k h ok opened accepted) needed in
     record {
-      fed = c.take-2.ensures.fed p b h;
+      fed = c.read_piece.ensures.fed p b h;
       exact = ends;
-      ended = λ e. pulled_ended d c.take-2.new.self _ c.request_len.result c.min-wanted.result c.take-2.ensures.stays (λ opened. c.request_len.ensures.some p b h opened)
+      ended = λ e. pulled_ended d c.read_piece.new.self _ c.request_len.result c.min-wanted.result c.read_piece.ensures.stays (λ opened. c.request_len.ensures.some p b h opened)
           (λ z. omega (arith, z, c.min-wanted.ensures, c.min.ensures, space, room))
           (λ l. c.in_ok-count.ensures.octets.1 (let q = ap length e in omega (arith, q, long)) (omega (arith, l, len)));
     }

@@ -3,7 +3,7 @@ use Rattle.ill_schema.specs.Content.{Content}
 use Rattle.ill_grammar.specs.Contents.{absent_content}
 use Rattle.ill_read.specs.Outline.{IsPassed}
 use Rattle.ill_text.specs.Marks.{entry_text}
-use Rattle.ill_text.specs.code.Trails.{place_at}
+use Rattle.ill_text.specs.code.FieldPaths.{place_at}
 use Rattle.ill_text.proofs.Lines.{no_default, same_row}
 use Rattle.ill_text.proofs.Sent.{adds_as, adds_nothing}
 use Rattle.ill_text.proofs.leaf.put_default.Goals as goal
@@ -13,6 +13,6 @@ returns-in_default-presence g c =
     let none = λ (e : Option Content) (h : IsPassed c.args.part e). no_default c.in-Some.row.presence c.in-Some.row.node e (λ d q. c.in_default-presence.not-Default d q)
     (ap absent_content (same_row _ c.in-Some.row h.0 (sym c.row.ensures ∙ c.in-Some.is) h.1) ∙ h.2) in
     record {
-      adds = λ e node h. adds_as _ _ _ _ (ap (entry_text (place_at c.args.trail.now c.args.name.now node)) (sym (none e h))) (adds_nothing _);
+      adds = λ e node h. adds_as _ _ _ _ (ap (entry_text (place_at c.args.path.now c.args.name.now node)) (sym (none e h))) (adds_nothing _);
       stays = λ h. h;
     }

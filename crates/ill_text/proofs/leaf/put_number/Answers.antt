@@ -3,14 +3,14 @@ use Rattle.std.specs.Fmt.{signed_decimal}
 use Rattle.std.proofs.lemmas.Int.{to_z-of_z}
 use Rattle.ill_text.specs.Numbers.{number_name}
 use Rattle.ill_text.specs.Shown.{in_brackets}
-use Rattle.ill_text.specs.code.Trails.{path_of}
+use Rattle.ill_text.specs.code.FieldPaths.{path_of}
 use Rattle.ill_text.proofs.Lines.{line_join}
 use Rattle.ill_text.proofs.Sent.{adds_as, adds_then}
 use Rattle.ill_text.proofs.leaf.put_number.Goals as goal
 
 pub returns-clause-adds : goal.returns-clause-adds
 returns-clause-adds g c =
-    let p = path_of c.args.trail.now in
+    let p = path_of c.args.path.now in
     let z = c.args.number in
     let fits : FitsSigned w64 z = search rules in
     let b = in_brackets (number_name c.args.name.now z) in

@@ -2,7 +2,7 @@ use Rattle.std.proofs.Common.{◌≡◌, ◌+◌, ◌-◌, ◌∙◌, ap, sym, s
 use Rattle.ber_leaf.specs.Leaf.{value}
 use Rattle.ill_grammar.specs.LeafTypes.{IsContentIn, leaf_is}
 use Rattle.ill_text.specs.Shown.{leaf_text, line}
-use Rattle.ill_text.specs.code.Trails.{path_of}
+use Rattle.ill_text.specs.code.FieldPaths.{path_of}
 use Rattle.ill_text.proofs.Lines.{leaf_parts, whole_rest}
 use Rattle.ill_text.proofs.Sent.{adds_as}
 use Rattle.ill_text.proofs.show.put_marked_leaf.Goals as goal
@@ -13,4 +13,4 @@ returns-clause-adds g c p octets rest content e =
     let parts = leaf_parts octets rest c.args.marks.now n e c.put_leaf-count.ensures.exact in
     let at : c.min.result ≡ n + 1 = omega (arith, c.min.ensures, parts.2) in
     let is = c.put_leaf-count.ensures.adds p (subst (IsContentIn p (leaf_is c.args.leaf)) (sym parts.0) content) in
-    (ap (λ (k : ℕ). take (length c.args.marks.now - k) (drop k c.args.marks.now)) at ∙ whole_rest (n + 1) c.args.marks.now ∙ parts.1, adds_as _ _ _ _ (ap (λ o. line (path_of c.args.trail.now) (leaf_text c.args.name.now (value (leaf_is c.args.leaf) o))) parts.0) is)
+    (ap (λ (k : ℕ). take (length c.args.marks.now - k) (drop k c.args.marks.now)) at ∙ whole_rest (n + 1) c.args.marks.now ∙ parts.1, adds_as _ _ _ _ (ap (λ o. line (path_of c.args.path.now) (leaf_text c.args.name.now (value (leaf_is c.args.leaf) o))) parts.0) is)

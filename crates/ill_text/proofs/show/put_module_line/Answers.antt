@@ -6,7 +6,7 @@ use Rattle.ill_text.specs.Shown.{Place, leaf_text, line, lines_of, tree_text}
 use Rattle.ill_text.specs.code.MarkedOctets.{IsLeafOf, SaysOctets}
 use Rattle.ill_schema.specs.Content.{Content}
 use Rattle.ill_text.specs.code.Sending.{Adds, Sending, sending}
-use Rattle.ill_text.specs.code.Trails.{path_of}
+use Rattle.ill_text.specs.code.FieldPaths.{path_of}
 use Rattle.ill_text.proofs.Lines.{leaf_parts, says_nothing, whole_rest}
 use Rattle.ill_text.proofs.Sent.{adds_as}
 use Rattle.ill_text.proofs.show.put_module_line.Goals as goal
@@ -20,7 +20,7 @@ leaf_line path l c octets o p a b at same k put =
 pub returns-clause-adds : goal.returns-clause-adds
 returns-clause-adds g c x octets rest p here is e =
     let marks = c.args.marks.now in
-    let path = path_of c.args.trail.now in
+    let path = path_of c.args.path.now in
     let old = sending (g.W.Sink.contents c.args.sink.now) (g.W.Sink.is_broken c.args.sink.now) c.args.out.now in
     let left : (n : ℕ) → n ≡ leading_octets marks → c.match-first.count ≡ n → take (length marks - c.min.result) (drop c.min.result marks) ≡ rest = λ n exact count.
     let parts = leaf_parts octets rest marks n e exact in

@@ -3,7 +3,7 @@ use Rattle.ill_schema.specs.declared.node.NodeId.{NodeId}
 use Rattle.ill_schema.specs.Profiles.{profile_of}
 use Rattle.ill_text.specs.Shown.{Place, lines_of}
 use Rattle.ill_text.specs.Marks.{alternative_in}
-use Rattle.ill_text.specs.code.Trails.{head_line, place_at}
+use Rattle.ill_text.specs.code.FieldPaths.{head_line, place_at}
 use Rattle.ill_text.specs.declared.field_path.FieldPath.{Start}
 use Rattle.ill_text.proofs.Lines.{body_lines, path_of-Start}
 use Rattle.ill_text.proofs.Sent.{adds_as, adds_then}

@@ -17,8 +17,10 @@ fn words_give_one_order<'a>(
     words: &'a [String],
     alloc: Global,
 ) -> (Result<Order<'a>, LineFault>, Result<Order<'a>, LineFault>)
-    ensures task { (one other : Order) → result.0 ≡ Ok one → result.1 ≡ Ok other → IsSameTask one.task other.task }
-    ensures flags { (one other : Order) → result.0 ≡ Ok one → result.1 ≡ Ok other → HasSameFlags one other }
+    ensures task { (one other : Order) → result.0 ≡ Ok one → result.1 ≡ Ok other
+        → IsSameTask one.task other.task }
+    ensures flags { (one other : Order) → result.0 ≡ Ok one → result.1 ≡ Ok other
+        → HasSameFlags one other }
 {
     (order(alloc, words), order(alloc, words))
 }
@@ -46,7 +48,8 @@ fn the_module_profile_is_named<'a>(
     words: &'a [String],
     alloc: Global,
 ) -> Result<Order<'a>, LineFault>
-    requires { map string_bytes words.now ≡ codes "illcanon" ∷ codes "same" ∷ codes "--profile" ∷ codes "module" ∷ codes "A" ∷ codes "B" ∷ [] }
+    requires { map string_bytes words.now ≡ codes "illcanon" ∷ codes "same" ∷ codes "--profile"
+        ∷ codes "module" ∷ codes "A" ∷ codes "B" ∷ [] }
     ensures { IfOk result (λ order. order.profile ≡ Module) }
 {
     order(alloc, words)
@@ -54,7 +57,8 @@ fn the_module_profile_is_named<'a>(
 
 /// Words that name another profile give no order.
 fn no_other_profile_is_named<'a>(words: &'a [String], alloc: Global) -> Result<Order<'a>, LineFault>
-    requires { map string_bytes words.now ≡ codes "illcanon" ∷ codes "dump" ∷ codes "--profile=3" ∷ codes "A" ∷ [] }
+    requires { map string_bytes words.now ≡ codes "illcanon" ∷ codes "dump" ∷ codes "--profile=3"
+        ∷ codes "A" ∷ [] }
     ensures { IsRefusedBy (InvalidValue ∷ []) result }
 {
     order(alloc, words)
@@ -62,7 +66,8 @@ fn no_other_profile_is_named<'a>(words: &'a [String], alloc: Global) -> Result<O
 
 /// Words that name a profile twice give no order.
 fn a_profile_is_named_once<'a>(words: &'a [String], alloc: Global) -> Result<Order<'a>, LineFault>
-    requires { map string_bytes words.now ≡ codes "illcanon" ∷ codes "show" ∷ codes "--profile=2" ∷ codes "--profile=2" ∷ codes "A" ∷ [] }
+    requires { map string_bytes words.now ≡ codes "illcanon" ∷ codes "show" ∷ codes "--profile=2"
+        ∷ codes "--profile=2" ∷ codes "A" ∷ [] }
     ensures { IsRefusedBy (ArgumentConflict ∷ []) result }
 {
     order(alloc, words)

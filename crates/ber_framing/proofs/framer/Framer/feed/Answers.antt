@@ -15,7 +15,7 @@ loop-count-preserved c =
         | inr ge ↦
             let fed = c.loop-count.invariant.fed b h in
             within_next b xs count k ge
-            (c.step-count.ensures.within (b ++ take count xs) (k - count) fed (subst IsPart (append-nil (b ++ take count xs)) (c.need.ensures.any (b ++ take count xs) [] fed c.if-need-gt0.true)) (omega arith))
+            (c.step-count.ensures.within (b ++ take count xs) (k - count) fed (subst IsPart (append-nil (b ++ take count xs)) (c.missing_len.ensures.any (b ++ take count xs) [] fed c.if-missing_len-gt0.true)) (omega arith))
       ];
       fed = λ b h. next_octets c.step-count.new.self b xs count c.step-count.result
           (c.step-count.ensures.fed (b ++ take count xs) (c.loop-count.invariant.fed b h));

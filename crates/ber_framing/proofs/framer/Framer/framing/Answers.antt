@@ -6,10 +6,10 @@ pub returns-in-Unframed : goal.returns-in-Unframed
 returns-in-Unframed c b h = is_unframed c.args.self.now b _ h c.in-Unframed.is
 
 pub returns-then-self-eq0 : goal.returns-then-self-eq0
-returns-then-self-eq0 c b h = is_whole c.args.self.now b h c.in-Between.is c.if-self-eq0.true
+returns-then-self-eq0 c b h = is_whole c.args.self.now b h c.in-BetweenElements.is c.if-self-eq0.true
 
 pub returns-else-self-eq0 : goal.returns-else-self-eq0
-returns-else-self-eq0 c b h = is_part c.args.self.now b h (λ _ e. let b = c.in-Between.is in cc) (λ _. omega arith)
+returns-else-self-eq0 c b h = is_part c.args.self.now b h (λ _ e. let b = c.in-BetweenElements.is in cc) (λ _. omega arith)
 
 pub returns-in_default : goal.returns-in_default
-returns-in_default c b h = is_part c.args.self.now b h c.in_default.not-Unframed (λ e. absurd (c.in_default.not-Between e))
+returns-in_default c b h = is_part c.args.self.now b h c.in_default.not-Unframed (λ e. absurd (c.in_default.not-BetweenElements e))

@@ -2,12 +2,12 @@ use Rattle.std.proofs.Common.{ℕ, sym, ap, ◌∙◌}
 use Rattle.ber_leaf.specs.Profile.{profile_two}
 use Rattle.ill_refusals.specs.Next.{opening}
 use Rattle.ill_grammar.specs.Cells.{next_from}
-use Rattle.ill_grammar.specs.Places.{Where, element_found}
+use Rattle.ill_grammar.specs.Places.{PlaceView, element_found}
 use Rattle.ill_grammar.proofs.Going.{element-due, first-opens}
 use Rattle.ill_grammar.proofs.place.Found.first.Goals as goal
 
 pub returns-clause-place : goal.returns-clause-place
-returns-clause-place c = let f = c.args.self in ap (λ (n : ℕ). let at : Where = record { part = f.tagged.now.part; node = f.tagged.now.node; position = n } in at) c.first_position.ensures
+returns-clause-place c = let f = c.args.self in ap (λ (n : ℕ). let at : PlaceView = record { part = f.tagged.now.part; node = f.tagged.now.node; position = n } in at) c.first_position.ensures
 
 pub returns-clause-next : goal.returns-clause-next
 returns-clause-next c =

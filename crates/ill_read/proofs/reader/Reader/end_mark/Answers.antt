@@ -7,7 +7,7 @@ use Rattle.ill_read.proofs.reader.Reader.end_mark.Goals as goal
 pub returns-in_default-clause-goes : goal.returns-in_default-clause-goes
 returns-in_default-clause-goes g c p room s rest more b available_len joined bounded judged =
     let at = c.args.self.now.at in let w = c.args.window.now in
-    c.cut.ensures.goes p w room s rest more b available_len joined bounded (judged ∙ mark_part p b.place at (cut_fault (profile_of p) b.place at rest) w c.in_default.ensures.lookup.3)
+    c.refuse_cut.ensures.goes p w room s rest more b available_len joined bounded (judged ∙ mark_part p b.place at (cut_fault (profile_of p) b.place at rest) w c.in_default.ensures.lookup.3)
 
 pub returns-then-second-eq0-clause-goes : goal.returns-then-second-eq0-clause-goes
 returns-then-second-eq0-clause-goes g c p room s rest more b available_len joined bounded judged =
