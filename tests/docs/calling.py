@@ -11,33 +11,27 @@ TOP = Path(__file__).resolve().parents[2]
 # each file of a crate, and its calls that are quoted
 CALLS = [
     ("ill_normal", "single", "normalise"),
-    ("ill_normal", "stream", "normalise_stream"),
-    ("ill_normal", "compare", "same_message is_normal"),
-    ("ill_normal", "check", "check_one"),
-    ("ill_normal", "digest", "message_digest"),
-    ("ill_read", "normal", "decode_normal"),
-    ("ill_read", "read", "decode read_message"),
-    ("ill_write", "normal", "normal_bytes write_normal"),
-    ("ill_apdu", "apdu", "to_message from_message"),
+    ("ill_normal", "compare", "same_message"),
+    ("ill_read", "read", "decode"),
+    ("ill_write", "normal", "normal_bytes"),
+    ("ill_apdu", "apdu", "from_message"),
 ]
 TEXT = """# Calling illcanon from Rattle
 
-`ill_normal` reads messages and gives their normal forms; most callers need no other crate. `ill_apdu` has APDUs as structs, and `ill_write` writes the normal forms of messages that were built in code. A clause names an APDU by its number and value (`Apdu` of `ill_schema/specs/Apdu.antt`), what octets spell by `SpellsApdu`, and the normal form by `normal_form`. [DEFINITIONS.md](DEFINITIONS.md) says where each definition is, and [PROVED.md](PROVED.md) what is proved of each call.
+Most callers need `ill_normal` alone: it reads messages and gives their normal forms. `ill_apdu` has APDUs as structs, `ill_write` the normal forms of messages built in code.
 
 ## What differs from what one would expect
 
-- Each call that may need memory takes an allocator, and out of memory is one of its errors. A clause that excludes it says so.
-- A source is left after the message, whatever follows: no octet after it is taken. A slice given to `decode`, `decode_normal` or `same_message` must hold one message and nothing else; octets after it are the refusal `TrailingBytes`.
-- `read_message` and `normalise` return `None` at the end of the input. An input that ends within a message is a refusal, `Truncated`.
+- A call that may need memory takes an allocator, and out of memory is one of its errors.
+- A source is left right after the message. A slice given to `decode`, `decode_normal` or `same_message` must hold one message and nothing else; octets after it are `TrailingBytes`.
+- `read_message` and `normalise` return `None` at the end of the input. An input that ends within a message is `Truncated`.
 - A refusal counts its offset from the first octet of the message, not of the input.
-- Nothing is written for a message that is refused. Of a message whose writing failed, the sink has the first octets, as many as the error says.
-- A call without a profile reads profile 2. Those that end in `_as` take a `Profile`.
-- `decode`, `read_message`, `Decoder` and the structs of `ill_apdu` are of profile 2 alone.
-- That a spelling is accepted is a clause of its own (`accepts`): `IfOk` alone would allow a call that always fails.
+- Nothing is written for a refused message. If writing fails, the sink has as many octets as the error says.
+- Calls that end in `_as` take a `Profile`; the others read profile 2. `decode`, `read_message`, `Decoder` and the structs of `ill_apdu` have profile 2 alone.
 
 ## A caller
 
-`crates/example_client` is a caller whose contracts are proved from these. This one keeps the normal form of a message in an archive:
+This one, in `crates/example_client`, keeps the normal form of a message in an archive. Its contract is proved from public contracts alone:
 
 ```rust
 {caller}
@@ -45,7 +39,9 @@ TEXT = """# Calling illcanon from Rattle
 
 ## Contracts
 
-These are quoted from `src/`. A word in them is one of the `ghost use` lines of the quoted file.
+A clause names an APDU by its number and value (`Apdu`), what octets spell by `SpellsApdu`, and the normal form by `normal_form`; all three are in `ill_schema/specs/Apdu.antt`. The `ghost use` lines of a source file say where its other words are. That a spelling is accepted is a clause of its own (`accepts`): `IfOk` alone would allow a call that always fails.
+
+Some contracts, as the sources have them. `python3 tests/docs/proved.py ill_normal normalise_stream` prints any other.
 
 ```text
 {contracts}

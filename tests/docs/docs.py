@@ -1,5 +1,5 @@
 #!/usr/bin/env python3
-"""Checks the documents: links and names of files, sizes, words, the version, and the examples with their output.
+"""Checks the documents: links and names of files, sizes, words, the version, the list of causes, and the examples with their output.
 
 Usage: tests/docs/docs.py [PROGRAM]
 
@@ -106,7 +106,7 @@ def check_sizes(path, text):
         return
     paragraph, start = [], 1
     for number, line in [*prose(text), (0, "")]:
-        if line.strip() and not line.startswith(("|", "#", "- ", "1. ")):
+        if line.strip() and "|" not in line and not line.startswith(("#", "- ", "1. ")):
             start = start if paragraph else number
             paragraph += line.split()
             continue
@@ -126,6 +126,18 @@ def check_version():
         found = re.search(pattern, path.read_text(), re.M)
         if not found or found.group(1) != wanted:
             fault(path, 1, f"the version is not {wanted}, that of crates/ill_args/src/commands.rt")
+
+
+def check_causes():
+    """`help causes` has a line for each cause, with its name and its text."""
+    texts = re.findall(r'Cause::(\w+)(?:\(_\))? => "([^"]+)"', (ROOT / "crates/ill_schema/src/refusal.rt").read_text().partition("fn text(")[2])
+    path = ROOT / "crates/ill_args/src/topics.rt"
+    listed = re.findall(r"^([A-Z]\w+) {2,}(\S.*)$", path.read_text(), re.M)
+    for name, text in texts:
+        if (name, text) not in listed:
+            fault(path, 1, f"no line for {name}: {text}")
+    if len(listed) != len(texts):
+        fault(path, 1, f"{len(listed)} causes, and there are {len(texts)}")
 
 
 def blocks(text):
@@ -193,6 +205,7 @@ def main():
         if program.exists() and path.parent != ROOT / "vectors":
             examples += run_examples(path, text, program)
     check_version()
+    check_causes()
     for line in faults:
         print(line)
     ran = f"{examples} examples" if program.exists() else "no example was run: the program is not built"

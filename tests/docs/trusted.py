@@ -1,10 +1,12 @@
 """What must be believed: follows contracts through specs/, and prints the files and definitions that they reach.
 
-With --check, fails where docs/TRUSTED.md is not what it prints. With --private, prints the files of specs/ that no public contract
+With --check, fails where docs/TRUSTED.md is not what it prints, or README.md has other numbers. With --names, prints the definitions
+that are reached in each file. With --private, prints the files of specs/ that no public contract
 reaches, and those of specs/code/ that one does.
 """
 import os
 import re
+import signal
 import sys
 
 TOP = os.path.join(os.path.dirname(os.path.abspath(__file__)), "..", "..")
@@ -226,21 +228,9 @@ def lines_of(module, names):
     return sum(len(file.items[name]) for name in names)
 
 
-def table(found):
-    rows, total = [], 0
-    for module in sorted(found):
-        lines = lines_of(module, found[module])
-        total += lines
-        names = ", ".join(f"`{name}`" for name in file_of(module).items if name in found[module])
-        rows.append(f"| `{file_of(module).path}` | {lines} | {names} |")
-    return rows, total
-
-
-def section(title, text, seeds):
-    found = reached(seeds)
-    rows, total = table(found)
-    head = [f"## {title}", "", text, "", f"{len(found)} files, {total} lines without comments and blank lines.", "", "| File in `crates/` | Lines | Definitions |", "|---|---|---|"]
-    return [*head, *rows, ""]
+def size(found):
+    """How many files and lines the definitions have."""
+    return len(found), sum(lines_of(module, names) for module, names in found.items())
 
 
 # The claims of README.md, each with the functions that it names, and the crates that these are in.
@@ -251,6 +241,34 @@ CLAIMS = [
     ("One cause at one offset", [("ill_refusals", "one_outcome"), ("ill_normal", "one_refusal_of_a_slice")]),
 ]
 
+# The other columns: a mark, what it is of, the crate, and its functions (None for all that it passes on).
+OTHERS = [
+    ("J", "The program's jobs", "ill_commands", ("run_as", "run_same_as")),
+    ("L", "The program's lines", "ill_lines", ("run_lines_as",)),
+    ("C", "The calls for C", "ill_c", None),
+]
+
+TEXT = """# What must be believed
+
+The definitions between a theorem and its reader: those that a contract cites, those that these cite, and so on. `tests/docs/trusted.py` makes this list.
+
+Mark | Claim | Functions whose contracts say it | Files | Lines
+---|---|---|---|---
+{rows}
+
+Claims 1 to 4 are those of the [README](../README.md#what-is-proved). Together they need {claim_lines} lines in {claim_files} files, without comments and blank lines.
+
+Not listed, but to be believed: the types that the Rust code declares, and the definitions of std, `jiff`, `json`, `hex` and `sha2` that are cited. The functions of `ill_refusals/specs/Reading.antt` are not listed and need not be believed: the law `ill_refusals::headers_are_read` says what they read, and the list has the words of that law.
+
+## Files
+
+For each file of `crates/`: how many of its lines are needed, and for which claims. `python3 tests/docs/trusted.py --names` prints the definitions.
+
+```text
+{files}
+```
+"""
+
 # How a function is named that is in a type.
 NAMES = {"feed": "Decoder::feed"}
 
@@ -260,28 +278,57 @@ LAWS = {(READING, name): ("ill_refusals", "headers_are_read") for name in ("clas
 PRODUCT = "ber_core ber_framing ber_leaf ill_schema ill_refusals ill_read ill_write ill_normal ill_text ill_json ill_commands ill_dump ill_lines ill_args ill_files ill_cli ill_c ill_typed ill_parts ill_apdu".split()
 
 
-def claims():
-    """What each of the claims of README.md reaches, and all of them together."""
-    rows, all_seeds = ["| Claim | Functions | Files | Lines |", "|---|---|---|---|"], []
-    for title, functions in CLAIMS:
-        seeds = [seed for crate, name in functions for seed in contracts_of(crate, (name,))]
-        files, lines = table(reached(seeds))
-        all_seeds += seeds
-        rows.append(f"| {title} | {', '.join(f'`{crate}::{NAMES.get(name, name)}`' for crate, name in functions)} | {len(files)} | {lines} |")
-    return rows, all_seeds
+def columns():
+    """Each column of the list: its mark, what it is of, the functions whose contracts it follows, and what they reach."""
+    for number, (title, functions) in enumerate(CLAIMS, 1):
+        calls = ", ".join(f"`{crate}::{NAMES.get(name, name)}`" for crate, name in functions)
+        yield str(number), title, calls, reached([seed for crate, name in functions for seed in contracts_of(crate, (name,))])
+    for mark, title, crate, names in OTHERS:
+        calls = ", ".join(f"`{crate}::{name}`" for name in names) if names else f"all of `{crate}`"
+        yield mark, title, calls, reached([*contracts_of(crate, names)])
+
+
+def union(parts):
+    """All that the parts reach."""
+    found = {}
+    for part in parts:
+        for module, names in part.items():
+            found.setdefault(module, set()).update(names)
+    return found
 
 
 def document():
-    run = [*contracts_of("ill_commands", ("run_as", "run_same_as"))]
-    rows, all_claims = claims()
-    text = ["# What must be believed", ""]
-    text += ["The definitions between a theorem and its reader. `tests/docs/trusted.py` prints this list, and `tests/all.sh` fails where it is out of date. Each definition is named with the words that it cites, and so on to the end. The types that Rust code declares, and the definitions of std, of `jiff`, of `json`, of `hex` and of `sha2`, are cited too, and not listed.", ""]
-    text += ["`ill_refusals::headers_are_read` is a law: what the definitions of `ill_refusals/specs/Reading.antt` read at the front of octets is an identifier or a length as X.690 spells it. So in place of these the list has the words of that law.", ""]
-    text += section("The theorem", "What the contracts of the functions say that README.md names beside its four claims. The last claim needs the causes and their order; the third one needs, besides, what a decoder needs and how it stands for the octets that it was fed.\n\n" + "\n".join(rows), all_claims)
-    text += section("The program's jobs", "All that the contracts of `ill_commands::run_as` and `ill_commands::run_same_as` say, in either profile, with causes and offsets, text and hexadecimal digits.", run)
-    text += section("Lines", "All that the contract of `ill_lines::run_lines_as` says.", contracts_of("ill_lines", ("run_lines_as",)))
-    text += section("The calls for C", "All that the contracts of `ill_c` say, with what a call leaves in the caller's memory, and causes as numbers.", contracts_of("ill_c"))
-    return "\n".join(text)
+    of = [*columns()]
+    claims = union(found for mark, _, _, found in of if mark.isdigit())
+    everything = union(found for *_, found in of)
+    rows = [f"{mark} | {title} | {calls} | {size(found)[0]} | {size(found)[1]:,}" for mark, title, calls, found in of]
+    files, folder = [], None
+    for module in sorted(everything, key=lambda module: file_of(module).path):
+        at, name = os.path.split(file_of(module).path)
+        if at != folder:
+            files.append(f"{at}/")
+            folder = at
+        marks = "".join(mark if module in found else "." for mark, _, _, found in of)
+        files.append(f"  {name:<18}{lines_of(module, everything[module]):>4}  {marks}")
+    values = {"rows": "\n".join(rows), "files": "\n".join(files), "claim_files": size(claims)[0], "claim_lines": f"{size(claims)[1]:,}"}
+    return TEXT.format(**values)
+
+
+def names():
+    """The definitions of each file that the list has."""
+    for module, found in sorted(union(found for *_, found in columns()).items()):
+        print(file_of(module).path, *(name for name in file_of(module).items if name in found))
+
+
+def readme_faults():
+    """The numbers of the claims that README.md doesn't give."""
+    with open(os.path.join(TOP, "README.md"), encoding="utf-8") as it:
+        text = " ".join(it.read().split())
+    of = [found for mark, _, _, found in columns() if mark.isdigit()]
+    for found in [*of, union(of)]:
+        files, lines = size(found)
+        if not re.search(rf"{lines:,} (lines )?in {files}\b", text):
+            yield f"README.md doesn't say: {lines:,} lines in {files} files"
 
 
 def private():
@@ -306,6 +353,11 @@ if __name__ == "__main__":
         private()
     elif sys.argv[1:] == ["--check"]:
         with open(LIST, encoding="utf-8") as it:
-            sys.exit(0 if it.read() == document() else "docs/TRUSTED.md is out of date: python3 tests/docs/trusted.py > docs/TRUSTED.md")
+            found = [] if it.read() == document() else ["docs/TRUSTED.md is out of date: python3 tests/docs/trusted.py > docs/TRUSTED.md"]
+        found += readme_faults()
+        sys.exit("\n".join(found) or 0)
+    elif sys.argv[1:] == ["--names"]:
+        signal.signal(signal.SIGPIPE, signal.SIG_DFL)
+        names()
     else:
         sys.stdout.write(document())
