@@ -2,7 +2,7 @@
 # Builds the programs and runs what isn't part of `rt ci`: the documents and their examples, the test vectors, the program on its rows and
 # under faults, allocations of memory refused in turn, and the calls for C. Where Python, GNU time or YAZ's headers are installed: the
 # package for Python, the comparisons with the model in Python, the time and memory of the worst inputs, and the comparison with other
-# codecs. Takes minutes where the crates have to be proved first.
+# codecs; where binaryen and wabt are, the page, in the browsers that are there. Takes minutes where the crates have to be proved first.
 cd "$(dirname "$0")" || exit 2
 status=0
 log=$(mktemp) || exit 2
@@ -41,6 +41,10 @@ run python3 ../examples/make.py --check
 run python3 ../vectors/make.py --check
 run ../bindings/python/tests/run.sh
 for script in memory/files_allocations.py program/progress.py program/packaging.py program/outputs.py; do run $script; done
+if has wasm-opt && has wasm-validate; then
+    build "the page" make -C ../bindings/web
+    run ../bindings/web/tests/run.sh
+fi
 [ -e /usr/include/yaz/ill.h ] && run program/peer.py
 for profile in 2 module; do
     run ../vectors/run.py --adapter illcanon --profile $profile

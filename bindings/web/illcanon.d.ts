@@ -1,0 +1,88 @@
+/** The greatest number of octets of a message, and of its normal form. */
+export const LIMIT: 1048576;
+
+/** The causes, by their numbers from 1. */
+export const CAUSES: readonly string[];
+
+/** Octets. No call changes them. */
+export type Octets = ArrayBufferView | ArrayBuffer;
+
+/** Profile 2, or the module profile, which has every row of the module of ISO 10161-1. */
+export type Profile = "2" | "module";
+
+/** How a message is read. The profile is "2" where none is given. */
+export interface Reading {
+  profile?: Profile;
+}
+
+/** How a message is written: also the number in its first line, which is 1 where none is given. */
+export interface Writing extends Reading {
+  number?: number;
+}
+
+/** Octets that are not exactly one message. */
+export class Refused extends Error {
+  /** The offset of what the refusal is about, in octets from the first one of the message. */
+  readonly offset: number;
+  /** A word such as "Missing"; docs/DEFINITIONS.md lists them. */
+  readonly cause: string;
+  /** The part that is missing or left out, such as "Expired.service-date-time", or null. */
+  readonly part: string | null;
+  /** The number of the message, from 1: of `same` and `messages`. */
+  readonly number: number;
+}
+
+/** Memory ran out. Nothing is known of the octets, and the next call begins with all the memory again. */
+export class OutOfMemory extends Error {}
+
+/** The module stopped, which its proof excludes. Nothing is known of the octets, and the next call begins anew. */
+export class Stopped extends Error {}
+
+/** A message as it is spelled. */
+export interface Dump {
+  /** A line of the message, and one for each element. Of a refused message: the elements before the place, and the refusal in words. */
+  text: string;
+  refusal: Refused | null;
+}
+
+/** A message of many, or a refused element among them. */
+export interface Found {
+  /** Its number, from 1. */
+  number: number;
+  /** The offset of its first octet in the input. */
+  offset: number;
+  /** The octets, in the memory of the input. */
+  octets: Uint8Array;
+  /** True if it is in normal form. */
+  isNormal: boolean;
+  /** The number of octets of its normal form; null where it is refused. */
+  normalSize: number | null;
+  /** Why it is refused, with an offset from its own first octet, or null. */
+  refusal: Refused | null;
+  /** False if it is refused and its end can't be known: it is then the last one, and its octets are all that are left. */
+  isEndKnown: boolean;
+}
+
+/** The calls. Each may throw OutOfMemory and Stopped, and TypeError or RangeError where its arguments are not what they are to be. */
+export class Illcanon {
+  private constructor();
+  /** The normal form of the message that the octets are. Throws Refused. */
+  normalise(octets: Octets, options?: Reading): Uint8Array;
+  /** Says whether the octets are the normal form of the message that they are. Throws Refused. */
+  check(octets: Octets, options?: Reading): boolean;
+  /** Says whether two messages are the same, however each is spelled. Throws Refused, whose `number` is 1 or 2. */
+  same(first: Octets, second: Octets, options?: Reading): boolean;
+  /** The message that the octets are as text, a line for each leaf. Throws Refused. */
+  show(octets: Octets, options?: Writing): string;
+  /** SHA-256 of the normal form of the message that the octets are: the same for all spellings. Throws Refused. */
+  digest(octets: Octets, options?: Reading): Uint8Array;
+  /** The message as it is spelled, also where it is refused. */
+  dump(octets: Octets, options?: Writing): Dump;
+  /** The messages that the octets are, one after another. Refused ones are passed over by their identifiers and lengths. */
+  messages(octets: Octets, options?: Reading): Generator<Found, void, void>;
+  /** The number of octets of memory that the calls hold. */
+  readonly memorySize: number;
+}
+
+/** Compiles the module: that beside this file, or another, as octets, a URL, a Response or a WebAssembly.Module. */
+export function load(source?: Octets | URL | string | Response | WebAssembly.Module): Promise<Illcanon>;

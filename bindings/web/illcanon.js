@@ -1,0 +1,315 @@
+/* The calls of illcanon for JavaScript, over octets in memory. Node and browsers load it: see README.md.
+ *
+ * The calls are those of bindings/c/illcanon.h, compiled to WebAssembly. Addresses and sizes are BigInt there, since the proved code has
+ * 64 bits for each.
+ */
+
+/** The greatest number of octets of a message, and of its normal form. */
+export const LIMIT = 1048576;
+
+/** The causes, by their numbers from 1. */
+export const CAUSES = [
+  "Truncated", "BadTag", "BadLength", "TooLong", "Overrun", "TooDeep", "UnexpectedTag", "LeftOut", "WrongForm", "Missing", "BadEnd",
+  "BadBoolean", "BadInteger", "IntegerTooLong", "BadText", "BadDate", "BadTime", "TrailingBytes", "NormalTooLong", "BadNull", "BadOid",
+  "BadBits",
+];
+
+const DONE = 0, REFUSED = 1, SECOND_REFUSED = 2, NEEDS_MORE = 3, NO_ROOM = 4, OUT_OF_MEMORY = 5;
+
+/** The profiles by their names, with their numbers in the module. */
+const PROFILES = { 2: 2, module: 3 };
+
+const REFUSAL_SIZE = 72, PART_AT = 8;
+const DIGEST_SIZE = 32;
+
+/** The number of octets of an input that are copied to the module at once. */
+const WINDOW = 8 * LIMIT;
+
+/** The memory above which the module begins anew, so that one large input doesn't hold it. */
+const MOST_KEPT = 268435456;
+
+/** Octets that are not exactly one message. */
+export class Refused extends Error {
+  constructor(offset, cause, part = null, number = 1) {
+    super(`refused at ${offset} in message ${number}: ${cause}${part ? ` ${part}` : ""}`);
+    this.name = "Refused";
+    Object.assign(this, { offset, cause, part, number });
+  }
+}
+
+/** Memory ran out. Nothing is known of the octets, and the next call begins with all the memory again. */
+export class OutOfMemory extends Error {
+  constructor() {
+    super("out of memory");
+    this.name = "OutOfMemory";
+  }
+}
+
+/** The module stopped, which its proof excludes. Nothing is known of the octets, and the next call begins anew. */
+export class Stopped extends Error {
+  constructor(cause) {
+    super(`the module stopped: ${cause.message}`, { cause });
+    this.name = "Stopped";
+  }
+}
+
+/** Compiles the module: that beside this file, or another, as octets, a URL, a Response or a WebAssembly.Module. */
+export async function load(source = new URL("build/illcanon.wasm", import.meta.url)) {
+  if (source instanceof WebAssembly.Module) return new Illcanon(source);
+  return new Illcanon(await WebAssembly.compile(await octetsFrom(source)));
+}
+
+async function octetsFrom(source) {
+  if (source instanceof ArrayBuffer || ArrayBuffer.isView(source)) return source;
+  if (typeof Response === "function" && source instanceof Response) return source.arrayBuffer();
+  const url = new URL(source, import.meta.url);
+  if (url.protocol === "file:" && typeof process === "object") return (await import("node:fs/promises")).readFile(url);
+  const answer = await fetch(url);
+  if (!answer.ok) throw new Error(`${url}: ${answer.status}`);
+  return answer.arrayBuffer();
+}
+
+/** The octets as a Uint8Array over the same memory. */
+function viewOf(octets) {
+  if (octets instanceof Uint8Array) return octets;
+  if (octets instanceof ArrayBuffer) return new Uint8Array(octets);
+  if (ArrayBuffer.isView(octets)) return new Uint8Array(octets.buffer, octets.byteOffset, octets.byteLength);
+  throw new TypeError("octets are a Uint8Array, another view, or an ArrayBuffer");
+}
+
+function profileNumber({ profile = "2" } = {}) {
+  if (!Object.hasOwn(PROFILES, profile)) throw new RangeError(`profile ${profile} is neither "2" nor "module"`);
+  return PROFILES[profile];
+}
+
+function messageNumber({ number = 1 } = {}) {
+  if (!Number.isInteger(number) || number < 0 || number > 0xffffffff) throw new RangeError(`number ${number}`);
+  return number;
+}
+
+const ASCII = new TextDecoder("latin1");
+
+/** The calls. One made by `load` has a memory of its own. */
+export class Illcanon {
+  #module;
+  #exports;
+
+  constructor(module) {
+    this.#module = module;
+    this.#restart();
+  }
+
+  #restart() {
+    this.#exports = new WebAssembly.Instance(this.#module, {}).exports;
+  }
+
+  /** The number of octets of memory that the module has. */
+  get memorySize() {
+    return this.#exports.memory.buffer.byteLength;
+  }
+
+  /** The normal form of the message that the octets are. */
+  normalise(octets, options) {
+    const view = viewOf(octets);
+    return this.#written("illcanon_normalise_as", view, options, [], view.length + 4096).octets;
+  }
+
+  /** Says whether the octets are the normal form of the message that they are. */
+  check(octets, options) {
+    return this.#answered("illcanon_check_as", [viewOf(octets)], options);
+  }
+
+  /** Says whether two messages are the same, however each is spelled. */
+  same(first, second, options) {
+    return this.#answered("illcanon_same_as", [viewOf(first), viewOf(second)], options);
+  }
+
+  /** The message that the octets are as text, a line for each leaf. */
+  show(octets, options) {
+    const view = viewOf(octets);
+    return ASCII.decode(this.#written("illcanon_show_as", view, options, [messageNumber(options)], 8 * view.length + 4096).octets);
+  }
+
+  /** SHA-256 of the normal form of the message that the octets are: the same for all spellings. */
+  digest(octets, options) {
+    return this.#written("illcanon_digest_as", viewOf(octets), options, [], DIGEST_SIZE).octets;
+  }
+
+  /** The message as it is spelled, a line for each element, and why it is refused, or null. */
+  dump(octets, options) {
+    const view = viewOf(octets);
+    const made = this.#made("illcanon_dump_as", view, options, [messageNumber(options)], 16 * view.length + 4096);
+    return { text: ASCII.decode(made.octets), refusal: made.refusal };
+  }
+
+  /** The messages that the octets are, one after another, each with its place, as it is spelled. Refused ones are passed over. */
+  messages(octets, options) {
+    return this.#messages(viewOf(octets), profileNumber(options));
+  }
+
+  *#messages(input, profile) {
+    const window = { input, at: 0, count: 0, block: 0n, exports: null };
+    try {
+      for (let at = 0, number = 1; at < input.length; number++) {
+        const found = this.#next(window, at, profile, number);
+        this.#trim(window);
+        yield found;
+        at += found.octets.length;
+        if (!found.isEndKnown) return;
+      }
+    } finally {
+      this.#close(window);
+    }
+  }
+
+  /** Runs `work`, which takes blocks by its argument. After a fault the memory may be half written, so the module begins anew. */
+  #run(work) {
+    const blocks = [];
+    const take = (size) => {
+      const block = this.#take(size);
+      blocks.push(block);
+      return block;
+    };
+    try {
+      const result = work(take);
+      for (const block of blocks) this.#exports.page_give(block);
+      return result;
+    } catch (error) {
+      this.#restart();
+      if (error instanceof WebAssembly.RuntimeError) throw new Stopped(error);
+      throw error;
+    }
+  }
+
+  #take(size) {
+    const block = this.#exports.page_take(BigInt(size));
+    if (block === 0n) throw new OutOfMemory();
+    return block;
+  }
+
+  #view(at, size) {
+    return new Uint8Array(this.#exports.memory.buffer, Number(at), size);
+  }
+
+  #put(take, octets) {
+    const at = take(octets.length || 1);
+    this.#view(at, octets.length).set(octets);
+    return at;
+  }
+
+  #size(at) {
+    return Number(new DataView(this.#exports.memory.buffer).getBigUint64(Number(at), true));
+  }
+
+  #refusal(at, number = 1) {
+    const octets = this.#view(at, REFUSAL_SIZE), numbers = new DataView(octets.buffer, octets.byteOffset, PART_AT);
+    const part = ASCII.decode(octets.subarray(PART_AT, octets.indexOf(0, PART_AT)));
+    return new Refused(numbers.getUint32(0, true), CAUSES[numbers.getUint32(4, true) - 1], part || null, number);
+  }
+
+  /** The status that a call returned, where memory did not run out. */
+  #call(name, ...words) {
+    const status = this.#exports[name](...words);
+    if (status === OUT_OF_MEMORY) throw new OutOfMemory();
+    return status;
+  }
+
+  /** What a call writes into a buffer, which is made larger where it is too short; and the refusal. */
+  #made(name, view, options, words, room) {
+    const profile = profileNumber(options);
+    return this.#run((take) => {
+      const input = this.#put(take, view), size = take(8), why = take(REFUSAL_SIZE);
+      let buffer = take(room);
+      const run = () => this.#call(name, profile, input, BigInt(view.length), ...words, buffer, BigInt(room), size, why);
+      let status = run();
+      if (status === NO_ROOM) {
+        room = this.#size(size);
+        buffer = take(room);
+        status = run();
+      }
+      const refusal = status === REFUSED ? this.#refusal(why) : null;
+      const isWritten = status === DONE || name === "illcanon_dump_as";
+      return { octets: isWritten ? this.#view(buffer, this.#size(size)).slice() : null, refusal };
+    });
+  }
+
+  /** What a call writes of octets that are a message. */
+  #written(...words) {
+    const made = this.#made(...words);
+    if (made.refusal) throw made.refusal;
+    return made;
+  }
+
+  /** What a call says of octets that are messages. */
+  #answered(name, views, options) {
+    const profile = profileNumber(options);
+    const answer = this.#run((take) => {
+      const words = views.flatMap((view) => [this.#put(take, view), BigInt(view.length)]), flag = take(4), why = take(REFUSAL_SIZE);
+      const status = this.#call(name, profile, ...words, flag, why);
+      return status === DONE ? this.#view(flag, 1)[0] === 1 : this.#refusal(why, status === SECOND_REFUSED ? 2 : 1);
+    });
+    if (answer instanceof Refused) throw answer;
+    return answer;
+  }
+
+  /** The message that begins at an offset of the input, or what is refused there. */
+  #next(window, at, profile, number) {
+    return this.#run((take) => {
+      // A message has at most LIMIT octets, so none is cut short by a window of one octet more.
+      const { place, count } = this.#open(window, at, LIMIT + 1);
+      const read = take(8), size = take(8), why = take(REFUSAL_SIZE), buffer = take(LIMIT);
+      const status = this.#call("illcanon_normalise_next_as", profile, place, BigInt(count), read, buffer, BigInt(LIMIT), size, why);
+      if (status === DONE) {
+        const octets = window.input.subarray(at, at + this.#size(read)), normal = this.#view(buffer, this.#size(size));
+        const isNormal = areEqual(octets, normal);
+        return { number, offset: at, octets, isNormal, normalSize: normal.length, refusal: null, isEndKnown: true };
+      }
+      const refusal = status === NEEDS_MORE ? new Refused(count, "Truncated", null, number) : this.#refusal(why, number);
+      const end = this.#framed(window, at, size);
+      const octets = window.input.subarray(at, end === null ? window.input.length : at + end);
+      return { number, offset: at, octets, isNormal: false, normalSize: null, refusal, isEndKnown: end !== null };
+    });
+  }
+
+  /** The number of octets of the element that begins there, by its identifiers and lengths alone; null where its end can't be known. */
+  #framed(window, at, size) {
+    for (let most = LIMIT + 1; ; most *= 4) {
+      const { place, count } = this.#open(window, at, most);
+      const status = this.#call("illcanon_frame", place, BigInt(count), size);
+      if (status === DONE) return this.#size(size);
+      if (status !== NEEDS_MORE || at + count === window.input.length) return null;
+    }
+  }
+
+  /** Where the octets of the input from an offset on are in the module's memory, and how many: at least `most`, or all. */
+  #open(window, at, most) {
+    const count = Math.min(most, window.input.length - at);
+    if (window.exports !== this.#exports || at < window.at || at + count > window.at + window.count) {
+      this.#close(window);
+      const octets = window.input.subarray(at, at + Math.max(count, WINDOW));
+      const block = this.#take(octets.length);
+      this.#view(block, octets.length).set(octets);
+      Object.assign(window, { at, count: octets.length, block, exports: this.#exports });
+    }
+    return { place: window.block + BigInt(at - window.at), count };
+  }
+
+  /** Gives a window back. */
+  #close(window) {
+    if (window.exports === this.#exports) this.#exports.page_give(window.block);
+    window.exports = null;
+  }
+
+  /** Gives the memory back that the end of a large element was looked for in. */
+  #trim(window) {
+    if (window.count <= WINDOW) return;
+    this.#close(window);
+    if (this.memorySize > MOST_KEPT) this.#restart();
+  }
+}
+
+function areEqual(one, other) {
+  if (one.length !== other.length) return false;
+  for (let at = 0; at < one.length; at++) if (one[at] !== other[at]) return false;
+  return true;
+}

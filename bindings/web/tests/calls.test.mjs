@@ -1,0 +1,202 @@
+/* The calls for JavaScript in Node: node --test calls.test.mjs. Expected values are worked out by hand, or are those of other programs. */
+import assert from "node:assert/strict";
+import { execFileSync } from "node:child_process";
+import { createHash } from "node:crypto";
+import { readFileSync } from "node:fs";
+import test from "node:test";
+import * as module from "illcanon";
+
+const { CAUSES, LIMIT, OutOfMemory, Refused, Stopped, load } = module;
+const of = (hex) => Uint8Array.from(Buffer.from(hex, "hex"));
+const file = (name) => new Uint8Array(readFileSync(new URL(`../../../examples/${name}`, import.meta.url)));
+const WASM = new URL("../build/illcanon.wasm", import.meta.url);
+
+const EXPIRED = of("741f301d800102a10aa1031b0147a2031b0151a20ca00a80083230323430323239");
+const INDEFINITE = of("74803080800102a180a1801b01470000a2801b015100000000a280a080800832303234303232390000000000000000");
+const EXTENDED = of("742e302c800102a10aa1031b0147a2031b0151a20ca00a80083230323430323239bf310c300a800101810100a2020500");
+const MISSING = of("748030808001020000");
+const TEXT = `message 7 Expired
+protocol-version-num = 2
+transaction-id.transaction-group-qualifier = general "G"
+transaction-id.transaction-qualifier = general "Q"
+service-date-time.date-time-of-this-service.date = 20240229
+`;
+
+const calls = await load();
+
+test("a message has one normal form", () => {
+  assert.deepEqual(calls.normalise(INDEFINITE), EXPIRED);
+  assert.deepEqual(calls.normalise(file("expired-long-form.ber")), EXPIRED);
+  assert.equal(calls.check(EXPIRED), true);
+  assert.equal(calls.check(INDEFINITE), false);
+  assert.equal(calls.same(INDEFINITE, EXPIRED), true);
+  assert.equal(calls.same(EXPIRED, [...calls.messages(file("every-part.ber"))][0].octets), false);
+});
+
+test("the digest is SHA-256 of the normal form", () => {
+  assert.equal(Buffer.from(calls.digest(INDEFINITE)).toString("hex"), createHash("sha256").update(EXPIRED).digest("hex"));
+});
+
+test("a message is shown", () => {
+  assert.equal(calls.show(INDEFINITE, { number: 7 }), TEXT);
+  assert.equal(calls.show(EXPIRED).split("\n")[0], "message 1 Expired");
+  assert.equal(calls.show(EXPIRED, { number: 4294967295 }).split("\n")[0], "message 4294967295 Expired");
+});
+
+test("a message is written element by element", () => {
+  const { text, refusal } = calls.dump(EXPIRED, { number: 3 });
+  assert.equal(refusal, null);
+  const lines = text.trimEnd().split("\n");
+  assert.equal(lines[0], "message 3: Expired, 33 octets, normal");
+  assert.equal(lines.length, 12);
+  assert.match(lines[3], /^ +4 +80 01  protocol-version-num = 2$/);
+});
+
+test("a refused message is written up to its place, with the refusal", () => {
+  const { text, refusal } = calls.dump(MISSING);
+  assert.deepEqual([refusal.offset, refusal.cause, refusal.part], [7, "Missing", "Expired.transaction-id"]);
+  assert.match(text, /^message 1: refused\n/);
+  assert.match(text, /\nrefused at 7: Missing Expired\.transaction-id\n/);
+});
+
+test("each call refuses alike", () => {
+  const rows = [
+    [new Uint8Array(0), 0, "Truncated", null],
+    [EXPIRED.subarray(0, 32), 32, "Truncated", null],
+    [Uint8Array.from([...EXPIRED, 0]), 33, "TrailingBytes", null],
+    [of("741f301d800102a2"), 7, "UnexpectedTag", null],
+    [MISSING, 7, "Missing", "Expired.transaction-id"],
+    [of("6280"), 0, "LeftOut", "ILL-APDU.Forward-Notification"],
+  ];
+  for (const [octets, offset, cause, part] of rows) {
+    const refuses = (number) => (error) => {
+      assert.ok(error instanceof Refused && error instanceof Error);
+      assert.deepEqual([error.offset, error.cause, error.part, error.number], [offset, cause, part, number]);
+      return true;
+    };
+    for (const call of ["normalise", "check", "show", "digest"]) assert.throws(() => calls[call](octets), refuses(1));
+    assert.throws(() => calls.same(octets, octets), refuses(1));
+    assert.throws(() => calls.same(EXPIRED, octets), refuses(2));
+    assert.ok(refuses(1)(calls.dump(octets).refusal));
+  }
+  assert.throws(() => calls.check(MISSING), { message: "refused at 7 in message 1: Missing Expired.transaction-id" });
+});
+
+test("the module profile is read where it is named", () => {
+  assert.throws(() => calls.check(EXTENDED), { cause: "LeftOut", offset: 33 });
+  assert.throws(() => calls.check(EXTENDED, { profile: "2" }), { cause: "LeftOut" });
+  assert.equal(calls.check(EXTENDED, { profile: "module" }), false);
+  const forms = [...calls.messages(file("module.ber"), { profile: "module" })].map(({ octets }) => calls.normalise(octets, { profile: "module" }));
+  assert.deepEqual(new Uint8Array(Buffer.concat(forms)), file("module.der"));
+});
+
+test("streams are taken apart", () => {
+  const octets = file("every-part.ber"), found = [...calls.messages(octets)];
+  assert.deepEqual(new Uint8Array(Buffer.concat(found.map((message) => message.octets))), octets);
+  assert.deepEqual(new Uint8Array(Buffer.concat(found.map((message) => calls.normalise(message.octets)))), file("every-part.der"));
+  assert.deepEqual(found.map(({ number }) => number), found.map((_, at) => at + 1));
+  assert.deepEqual([...calls.messages(new Uint8Array(0))], []);
+});
+
+test("refused messages are passed over", () => {
+  const octets = Buffer.concat([EXPIRED, of("74803003800102" + "0000"), INDEFINITE, of("740430020500"), EXPIRED]);
+  const found = [...calls.messages(octets)].map(({ offset, octets: own, refusal, isNormal, isEndKnown }) => [offset, own.length, refusal && refusal.cause, isNormal, isEndKnown]);
+  assert.deepEqual(found, [
+    [0, 33, null, true, true], [33, 9, "Missing", false, true], [42, 47, null, false, true], [89, 6, "UnexpectedTag", false, true], [95, 33, null, true, true],
+  ]);
+});
+
+test("the work ends where the end of a refused message can't be known", () => {
+  const found = [...calls.messages(Buffer.concat([EXPIRED, of("74ff"), EXPIRED]))];
+  assert.deepEqual(found.map(({ isEndKnown, octets }) => [isEndKnown, octets.length]), [[true, 33], [false, 35]]);
+  const cut = [...calls.messages(Buffer.concat([EXPIRED, EXPIRED.subarray(0, 20)]))];
+  assert.deepEqual([cut[1].refusal.cause, cut[1].refusal.offset, cut[1].isEndKnown], ["Truncated", 20, false]);
+});
+
+test("a refused element may be larger than the window of the input", () => {
+  const size = 40000000, large = new Uint8Array(size + 6 + EXPIRED.length);
+  large.set([0x74, 0x84, size >> 24, (size >> 16) & 255, (size >> 8) & 255, size & 255]);
+  large.set(EXPIRED, size + 6);
+  const found = [...calls.messages(large)];
+  assert.deepEqual(found.map(({ octets, refusal }) => [octets.length, refusal && refusal.cause]), [[size + 6, "TooLong"], [33, null]]);
+});
+
+test("other calls may be made between two messages, also after memory ran out", () => {
+  const stream = calls.messages(Buffer.concat([EXPIRED, INDEFINITE, EXPIRED])), sizes = [];
+  for (const { octets } of stream) {
+    sizes.push(octets.length);
+    assert.throws(() => calls.normalise(new Uint8Array(900000000)), OutOfMemory);
+    assert.equal(calls.check(EXPIRED), true);
+  }
+  assert.deepEqual(sizes, [33, 47, 33]);
+});
+
+test("memory that runs out is said, and the next call works", () => {
+  for (const call of ["normalise", "check", "show", "digest", "dump"]) {
+    assert.throws(() => calls[call](new Uint8Array(900000000)), OutOfMemory);
+    assert.deepEqual(calls.normalise(INDEFINITE), EXPIRED);
+  }
+  assert.ok(calls.memorySize < 16000000, String(calls.memorySize));
+});
+
+test("a module that stops is said, and begins anew", async () => {
+  const text = `(module (memory (export "memory") 1) (global $count (mut i32) (i32.const 0))
+    (func (export "page_take") (param i64) (result i64) i64.const 1024)
+    (func (export "page_give") (param i64))
+    (func (export "illcanon_check_as") (param i32 i64 i64 i64 i64) (result i32)
+      (global.set $count (i32.add (global.get $count) (i32.const 1)))
+      (if (i32.gt_u (global.get $count) (i32.const 1)) (then unreachable))
+      i32.const 0))`;
+  const calls = await load(execFileSync("wat2wasm", ["-", "--output=-"], { input: text }));
+  assert.equal(calls.check(EXPIRED), false);
+  assert.throws(() => calls.check(EXPIRED), Stopped);
+  assert.equal(calls.check(EXPIRED), false);
+});
+
+test("octets are any view or buffer, and are not changed", () => {
+  const copy = Uint8Array.from([9, ...INDEFINITE]);
+  for (const octets of [copy.subarray(1), Buffer.from(INDEFINITE), INDEFINITE.slice().buffer, new DataView(copy.buffer, 1)]) {
+    assert.deepEqual(calls.normalise(octets), EXPIRED);
+  }
+  assert.deepEqual(copy, Uint8Array.from([9, ...INDEFINITE]));
+  for (const other of ["74", [0x74], null, undefined, 7]) {
+    for (const call of ["normalise", "messages", "dump"]) assert.throws(() => calls[call](other), TypeError);
+  }
+});
+
+test("profiles and numbers are checked", () => {
+  for (const profile of ["1", "3", 3, "toString", null]) {
+    for (const call of ["check", "messages"]) assert.throws(() => calls[call](EXPIRED, { profile }), RangeError);
+  }
+  for (const number of [-1, 4294967296, 1.5, "1"]) assert.throws(() => calls.show(EXPIRED, { number }), RangeError);
+  for (const number of [-1, 4294967296]) assert.throws(() => calls.dump(EXPIRED, { number }), RangeError);
+});
+
+test("the module is loaded as octets, a URL, a Response or a module", async () => {
+  const octets = readFileSync(WASM), compiled = await WebAssembly.compile(octets);
+  for (const source of [octets, octets.buffer.slice(octets.byteOffset, octets.byteOffset + octets.length), WASM, WASM.href, new Response(octets), compiled]) {
+    assert.equal((await load(source)).check(EXPIRED), true);
+  }
+  await assert.rejects(load(new Uint8Array(8)), WebAssembly.CompileError);
+});
+
+test("the largest message is read, and one octet more is refused", () => {
+  assert.equal(LIMIT, 2 ** 20);
+  assert.throws(() => calls.check(of("7483100000")), { cause: "TooLong" });
+});
+
+test("the causes are those of the header for C", () => {
+  const header = readFileSync(new URL("../../c/illcanon.h", import.meta.url), "utf8");
+  const named = [...header.matchAll(/^ +ILLCANON_([A-Z_]+) = (\d+),? +\/\* (?!profile|the module|what|the octets are not|of two|the octets may|the buffer|malloc|the number)/gm)];
+  for (const [, name, number] of named) assert.equal(CAUSES[number - 1].toUpperCase(), name.replaceAll("_", ""));
+  assert.equal(named.length, CAUSES.length);
+});
+
+test("the types name what the module has", () => {
+  const types = readFileSync(new URL("../illcanon.d.ts", import.meta.url), "utf8");
+  const named = [...types.matchAll(/^export (?:const|class|function) (\w+)/gm)].map(([, name]) => name);
+  assert.deepEqual(named.sort(), Object.keys(module).sort());
+  const body = types.slice(types.indexOf("export class Illcanon"));
+  const members = [...body.matchAll(/^  (?:readonly )?(\w+)[(:]/gm)].map(([, name]) => name);
+  assert.deepEqual(members.sort(), Object.getOwnPropertyNames(module.Illcanon.prototype).filter((name) => name !== "constructor").sort());
+});

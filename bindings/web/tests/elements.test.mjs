@@ -1,0 +1,91 @@
+/* The tree of elements, of each test vector of up to 20,000 octets: node --test elements.test.mjs. */
+import assert from "node:assert/strict";
+import { readFileSync, readdirSync } from "node:fs";
+import test from "node:test";
+import { load } from "../illcanon.js";
+import { Elements, meaningOfNote } from "../page/elements.js";
+import { fromBase64, kindOfFile, octetsOfText, toBase64, toHex } from "../page/octet_text.js";
+
+const VECTORS = new URL("../../../vectors/", import.meta.url), LARGEST = 20000;
+const calls = await load();
+
+function* vectors() {
+  for (const name of readdirSync(VECTORS).filter((it) => it.endsWith(".json") && it !== "schema.json" && it !== "streams.json")) {
+    const { profile = "2", groups } = JSON.parse(readFileSync(new URL(name, VECTORS), "utf8"));
+    for (const vector of groups.flatMap((group) => group.vectors)) {
+      if (vector.octets !== undefined && vector.octets.length <= 2 * LARGEST) yield { ...vector, profile, octets: Uint8Array.from(Buffer.from(vector.octets, "hex")) };
+    }
+  }
+}
+
+/** Compares a tree with the octets that it is of. */
+function checkTree(elements, octets, vector) {
+  for (let i = 0; i < elements.count; i++) {
+    const { offset, header, isMark, notes, name } = elements.element(i), end = elements.end(i, octets.length), parent = elements.parents[i];
+    assert.deepEqual(header, [...octets.subarray(offset, offset + header.length)], `${vector.id}: header ${i}`);
+    assert.ok(name, `${vector.id}: name ${i}`);
+    assert.ok(end >= offset + (isMark ? 2 : 0) && end <= octets.length, `${vector.id}: end ${i}`);
+    for (const note of notes) assert.ok(meaningOfNote(note), `${vector.id}: the note ${note} has no meaning`);
+    if (parent >= 0) assert.ok(parent < i && elements.depths[parent] === elements.depths[i] - 1 && elements.offsets[parent] < offset, `${vector.id}: parent ${i}`);
+    if (vector.result === "valid" && parent >= 0) assert.ok(end <= elements.end(parent, octets.length), `${vector.id}: ${i} ends in its parent`);
+  }
+}
+
+test("each header of the tree is what the octets are there", () => {
+  let count = 0, valid = 0;
+  for (const vector of vectors()) {
+    const { text, refusal } = calls.dump(vector.octets, { profile: vector.profile }), elements = new Elements(text);
+    checkTree(elements, vector.octets, vector);
+    assert.equal(elements.refusal !== null, refusal !== null);
+    if (vector.result === "valid") {
+      assert.equal(elements.count, text.split("\n").length - 2, vector.id);
+      assert.equal(elements.end(0, vector.octets.length), vector.octets.length, vector.id);
+      valid++;
+    }
+    count++;
+  }
+  assert.ok(count > 5000 && valid > 2000, `${count} ${valid}`);
+});
+
+test("an element of the indefinite form ends with its end mark", () => {
+  const octets = Uint8Array.from(Buffer.from("74803080800102a180a1801b01470000a2801b015100000000a280a080800832303234303232390000000000000000", "hex"));
+  const elements = new Elements(calls.dump(octets).text), named = (name) => [...Array(elements.count).keys()].find((i) => elements.element(i).name === name);
+  assert.equal(elements.end(named("transaction-group-qualifier"), 47), 16);
+  assert.equal(elements.end(named("transaction-id"), 47), 25);
+  assert.equal(elements.end(0, 47), 47);
+  assert.deepEqual(elements.path(named("date")), ["Expired", "service-date-time", "date-time-of-this-service", "date"]);
+});
+
+test("a closed element hides what is in it", () => {
+  const elements = new Elements(calls.dump(Uint8Array.from(Buffer.from("741f301d800102a10aa1031b0147a2031b0151a20ca00a80083230323430323239", "hex"))).text);
+  assert.equal(elements.shown.length, 11);
+  elements.isClosed[3] = 1;
+  elements.show();
+  assert.deepEqual([...elements.shown], [0, 1, 2, 3, 8, 9, 10]);
+  assert.equal(elements.shown[elements.placeOf(5)], 3);
+  assert.equal(elements.at(12), 5);
+});
+
+test("texts of octets are read", () => {
+  const octets = Uint8Array.from({ length: 256 }, (_, octet) => octet);
+  for (const text of [toHex(octets), toHex(octets, " "), toHex(octets, ", 0x"), toHex(octets, "\\x"), Buffer.from(octets).toString("base64"), toBase64(octets)]) {
+    assert.deepEqual(octetsOfText(text), octets);
+  }
+  assert.equal(toBase64(octets), Buffer.from(octets).toString("base64url"));
+  assert.deepEqual(octetsOfText("-----BEGIN X-----\ndB8w\n-----END X-----"), Uint8Array.of(0x74, 0x1f, 0x30));
+  assert.throws(() => octetsOfText("741"), /odd in number/);
+  assert.throws(() => octetsOfText("74 é"), /neither hexadecimal nor base64: “é” comes after 2 digits/);
+  assert.throws(() => octetsOfText(" \n"), /no octets/);
+  assert.throws(() => fromBase64("dB8w5"), /no base64/);
+});
+
+test("files are octets or text", () => {
+  const encoded = (text) => new TextEncoder().encode(text);
+  assert.equal(kindOfFile(encoded("74 1F\r\n30")), "hexadecimal");
+  assert.equal(kindOfFile(encoded("dB8wHYABAqEKoQMbAUeiAxsBUaIMoAqACDIwMjQwMjI5\n")), "base64");
+  assert.equal(kindOfFile(encoded("t0")), "octets");
+  assert.equal(kindOfFile(new Uint8Array(0)), "octets");
+  for (const name of ["every-part.ber", "module.ber", "expired-long-form.ber"]) {
+    assert.equal(kindOfFile(readFileSync(new URL(`../../../examples/${name}`, import.meta.url))), "octets");
+  }
+});

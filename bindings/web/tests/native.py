@@ -1,0 +1,48 @@
+"""What the native library answers: the texts of messages, which no test vector has. The line is the second one of answers.js."""
+import ctypes
+import zlib
+from ctypes import byref, c_char, c_size_t, c_uint32
+
+from vectors import octets_of
+
+PROFILES = {"2": 2, "module": 3}
+CAUSES = (
+    " Truncated BadTag BadLength TooLong Overrun TooDeep UnexpectedTag LeftOut WrongForm Missing BadEnd BadBoolean BadInteger "
+    "IntegerTooLong BadText BadDate BadTime TrailingBytes NormalTooLong BadNull BadOid BadBits"
+).split(" ")
+DONE, REFUSED, NO_ROOM = 0, 1, 4
+MOST_SHOWN = 2000000
+
+
+class Refusal(ctypes.Structure):
+    _fields_ = [("at", c_uint32), ("cause", c_uint32), ("part", c_char * 64)]
+
+    def __str__(self):
+        return f"{CAUSES[self.cause]}@{self.at}{' ' + self.part.decode() if self.part else ''}"
+
+
+class Native:
+    def __init__(self, path):
+        self.library = ctypes.CDLL(str(path))
+
+    def written(self, call, profile, octets):
+        """The refusal, or None, and the text that a call writes."""
+        room, size, refusal = 65536, c_size_t(), Refusal()
+        while True:
+            buffer = ctypes.create_string_buffer(room)
+            status = getattr(self.library, f"illcanon_{call}_as")(
+                c_uint32(PROFILES[profile]), octets, c_size_t(len(octets)), c_uint32(7), buffer, c_size_t(room), byref(size), byref(refusal))
+            if status != NO_ROOM:
+                break
+            room = size.value
+        assert status in (DONE, REFUSED), status
+        return refusal if status == REFUSED else None, buffer.raw[: size.value]
+
+    def texts(self, test):
+        octets = b"" if test["isStream"] else octets_of(test["vector"])
+        if test["isStream"] or len(octets) > MOST_SHOWN:
+            return ""
+        refusal, text = self.written("dump", test["profile"], octets)
+        said = f"dump {refusal or 'done'} {len(text)}:{zlib.crc32(text):08x}"
+        refusal, text = self.written("show", test["profile"], octets)
+        return f"{said}; show {refusal or f'{len(text)}:{zlib.crc32(text):08x}'}"

@@ -1,0 +1,429 @@
+#!/usr/bin/env python3
+"""Tries the page in a browser, and takes pictures of it: page.py chromium|firefox [PICTURES]"""
+import base64
+import json
+import sys
+import time
+from pathlib import Path
+
+from browser import IS_READY, PAGE, start, without_webassembly
+from vectors import VECTORS, octets_of
+
+ROOT = VECTORS.parent
+NAME = sys.argv[1]
+PICTURES = Path(sys.argv[2]) if len(sys.argv) > 2 else None
+TAB, ENTER, HOME, END, DOWN, UP, RIGHT, LEFT = "\ue004", "\ue007", "\ue011", "\ue010", "\ue015", "\ue013", "\ue014", "\ue012"
+
+EVERY = (ROOT / "examples/every-part.ber").read_bytes()
+LONG_FORM = (ROOT / "examples/expired-long-form.ber").read_bytes()
+MODULE = (ROOT / "examples/module.ber").read_bytes()
+EXPIRED = bytes.fromhex("741f301d800102a10aa1031b0147a2031b0151a20ca00a80083230323430323239")
+# An EXPIRED; one that ends after its version; one with a NULL where its version is due.
+REFUSED = EXPIRED + bytes.fromhex("74053003800102740430020500")
+# The names and sizes of a check of the same example, one line a message.
+CHECK = (ROOT / "examples/every-part.check").read_text(encoding="utf-8").splitlines()
+
+failed = []
+
+
+def vector(file, wanted):
+    for group in json.loads((VECTORS / f"{file}.json").read_text(encoding="utf-8"))["groups"]:
+        for it in group["vectors"]:
+            if it["id"] == wanted:
+                return octets_of(it)
+    raise KeyError(wanted)
+
+
+def check(what, is_so):
+    print("ok    " if is_so else "FAILED", what, flush=True)
+    if not is_so:
+        failed.append(what)
+
+
+class Session:
+    """The page in a browser, and what a test does with it."""
+
+    def __init__(self, size=(1440, 900), fragment=""):
+        self.browser = start(NAME, size, fragment)
+        self.theme("light")
+
+    def run(self, code, *words):
+        return self.browser.execute_script(f"const {{ page }} = illcanonPage; {code}", *words)
+
+    def wait(self, code, *words):
+        result = self.browser.execute_async_script(
+            f"const {{ page }} = illcanonPage, done = arguments[arguments.length - 1], words = arguments; (async () => {{ {code} }})().then((it) => done(it), (error) => done('failed: ' + error));",
+            *words)
+        assert not str(result).startswith("failed: "), result
+        return result
+
+    def drop(self, octets, name):
+        """Drops a file on the page, and returns how many milliseconds it takes until it is read and drawn."""
+        self.run("page.clear()")
+        return self.wait("""const octets = Uint8Array.from(atob(words[0]), (it) => it.charCodeAt(0)), transfer = new DataTransfer();
+            transfer.items.add(new File([octets], words[1]));
+            const begin = performance.now();
+            dispatchEvent(new DragEvent("drop", { dataTransfer: transfer }));
+            await settled();
+            return Math.round(performance.now() - begin);
+            async function settled() {
+              const { said, fault } = { said: document.getElementById("said"), fault: document.getElementById("fault") };
+              said.textContent = "";
+              while (!said.textContent.includes(" read of ") && fault.hidden) await new Promise((next) => setTimeout(next, 5));
+              await new Promise((drawn) => requestAnimationFrame(() => setTimeout(drawn)));
+            }""", base64.b64encode(octets).decode(), name)
+
+    def paste(self, text):
+        self.run("page.clear(); document.getElementById('text').value = arguments[0]; document.getElementById('read').click()", text)
+        return self.wait("for (let i = 0; i < 400 && !page.messages.length && document.getElementById('fault').hidden; i++) await new Promise((next) => setTimeout(next, 5));"
+                         "return page.messages.map((message) => message.size)")
+
+    def text(self, selector):
+        return self.run("return document.querySelector(arguments[0]).innerText", selector)
+
+    def focus(self, identifier):
+        self.run("document.getElementById(arguments[0]).focus()", identifier)
+
+    def press(self, *keys):
+        self.browser.press(keys)
+
+    def theme(self, which):
+        self.run("document.documentElement.dataset.theme = arguments[0]", which)
+
+    def picture(self, name):
+        if PICTURES:
+            time.sleep(0.4)
+            self.browser.save_screenshot(str(PICTURES / f"{NAME}-{name}.png"))
+
+    def in_dark(self, name):
+        self.theme("dark")
+        self.picture(name)
+        self.theme("light")
+
+    def active(self):
+        return self.run("return document.getElementById('tree').getAttribute('aria-activedescendant')")
+
+    def quit(self):
+        self.browser.quit()
+
+
+def try_start(page):
+    page.picture("start")
+    page.in_dark("start-dark")
+    check("the start offers four examples", page.run("return document.querySelectorAll('#examples button').length") == 4)
+    page.run("document.querySelectorAll('#examples button')[2].click()")
+    page.wait("while (!page.messages.length) await new Promise((next) => setTimeout(next, 5)); await new Promise((next) => setTimeout(next, 100))")
+    check("the example of the module profile is read in it", page.run("return page.messages.every((message) => !message.refusal) && document.getElementById('profile').value") == "module")
+    page.picture("module")
+    page.run("page.clear(); document.getElementById('profile').value = '2'")
+
+
+def try_messages(page):
+    print(f"      every-part.ber: {page.drop(EVERY, 'every-part.ber')} ms")
+    check("every message of the example is read", page.run("return page.messages.length") == 24)
+    check("the list says what they are", "24 messages in every-part.ber" in page.text("#summary") and "Not normal 2" in page.text(".filters"))
+    said = page.run("return page.messages.map((it, i) => `message ${i + 1}: ${page.nameOf(it)}, ${it.size} octets, ` + (it.isNormal ? 'normal' : `not normal, normal form ${it.normalSize} octets`))")
+    check("names, sizes and decisions are those of the example's list", said == CHECK)
+    page.picture("every-part")
+    page.in_dark("every-part-dark")
+    page.run("document.querySelector('[data-filter=other]').click()")
+    check("the filter lists what is not normal", page.run("return document.querySelectorAll('#list [role=option]').length") == 2)
+    page.focus("list")
+    page.press(DOWN)
+    check("the arrow keys move in the list", page.run("return document.querySelector('#list [aria-selected=true]').id") != "m0")
+    page.run("document.querySelector('[data-filter=all]').click()")
+
+
+def try_elements(page):
+    page.drop(LONG_FORM, "expired-long-form.ber")
+    page.run("page.view.tree.select(7)")
+    page.picture("element")
+    check("each element's header is what the octets are", page.run("""const { elements, message } = page.view;
+        for (let i = 0; i < elements.count; i++) elements.element(i).header.forEach((octet, at) => { if (octet !== message.octets[elements.offsets[i] + at]) throw i; });
+        return elements.count""") == 11)
+    page.focus("tree")
+    page.press(HOME, DOWN, DOWN)
+    check("the arrow keys move in the tree", page.active() == "e2")
+    page.press(LEFT, LEFT, LEFT)
+    check("an element is closed by keys", page.run("return document.querySelectorAll('#tree [role=treeitem]').length") == 2 and page.active() == "e0")
+    page.press(RIGHT, END)
+    check("it is opened by keys", page.active() == "e1")
+    page.press(RIGHT, END)
+    check("End goes to the last element", page.active() == "e10")
+    page.press(ENTER, LEFT)
+    check("Left goes to the element round it", page.active() == "e9")
+    states = page.run("return [...document.querySelectorAll('#tree [role=treeitem]')].map((it) => [it.getAttribute('aria-level'), it.getAttribute('aria-posinset'), it.getAttribute('aria-setsize'), it.getAttribute('aria-expanded')])")
+    check("the tree has levels and places", states[0] == ["1", "1", "1", "true"] and states[2] == ["3", "1", "3", None] and states[8] == ["3", "3", "3", "true"])
+    for octet, wanted in (10, "transaction-id"), (26, "GeneralString"), (43, "date"), (0, "Expired"):
+        page.run("""const line = document.querySelectorAll('#hex .v')[arguments[0] >> 4], range = document.createRange();
+            const walk = document.createTreeWalker(line.querySelector('.digits'), NodeFilter.SHOW_TEXT);
+            let column = (arguments[0] & 15) * 3 + ((arguments[0] & 15) > 7 ? 1 : 0), node = walk.nextNode();
+            for (; column >= node.length; node = walk.nextNode()) column -= node.length;
+            range.setStart(node, column); range.setEnd(node, column + 1);
+            const at = range.getBoundingClientRect();
+            line.dispatchEvent(new MouseEvent('click', { clientX: at.left + at.width / 2, clientY: at.top + at.height / 2, bubbles: true }));""", octet)
+        check(f"a click on octet {octet} finds {wanted}", page.text("#detail .path b") == wanted)
+    page.focus("hex")
+    page.press(DOWN, DOWN, LEFT)
+    check("the arrow keys move in the octets", page.text("#detail .path b") == "date-time-of-this-service")
+
+
+def try_views(page):
+    page.drop(LONG_FORM, "expired-long-form.ber")
+    for tab in "text", "normal":
+        page.run("document.getElementById(`tab-${arguments[0]}`).click()", tab)
+        page.picture(f"tab-{tab}")
+    check("the normal form is shown", page.run("return [...document.querySelectorAll('#normal .digits')].map((it) => it.textContent).join('').replace(/ /g, '')") == EXPIRED.hex())
+    page.wait("await page.read(Uint8Array.from(words[0]), 'expired.der'); page.choose(0); document.getElementById('other').value = '2'; document.getElementById('tab-same').click()", list(EXPIRED))
+    check("two spellings are the same", "same" in page.text("#verdict") and "different" not in page.text("#verdict"))
+    page.picture("same")
+    page.wait("await page.read(Uint8Array.from(atob(words[0]), (it) => it.charCodeAt(0)), 'every-part.ber'); page.choose(0); const it = document.getElementById('other'); it.value = '8'; it.dispatchEvent(new Event('input'))",
+              base64.b64encode(EVERY).decode())
+    check("two messages are different", "different" in page.text("#verdict"))
+    page.picture("different")
+    page.run("document.getElementById('tab-elements').click()")
+
+
+def try_refusals(page):
+    page.drop(REFUSED + LONG_FORM, "refused.ber")
+    check("the work goes on after a refused message", page.run("return page.messages.map((it) => it.refusal ? it.refusal.cause : 'good').join()") == "good,Missing,UnexpectedTag,good")
+    page.run("page.choose(2)")
+    shown = page.text("#refused")
+    for line in "Refused at offset 4: UnexpectedTag", "The tag is not due there.", "[UNIVERSAL 5] primitive: 05", "[0] protocol-version-num":
+        check(f"the refusal says: {line}", line in shown)
+    page.picture("refused")
+    page.run("page.choose(1)")
+    page.in_dark("refused-dark")
+    for octets, name, cause in (bytes.fromhex("74ff"), "no-length.ber", "BadLength"), (b"%PDF-1.7 and so on", "paper.pdf", "UnexpectedTag"), (b"\0", "nul", "BadTag"):
+        page.drop(octets, name)
+        check(f"{name} is refused: {cause}", cause in page.text("#refused"))
+    page.drop(MODULE, "module.ber")
+    check("a part that profile 2 leaves out is refused", "LeftOut" in page.text("#refused"))
+    page.run("document.getElementById('read-module').click()")
+    page.wait("for (let i = 0; i < 400 && page.messages.some((it) => it.refusal); i++) await new Promise((next) => setTimeout(next, 5))")
+    check("the module profile reads it", page.run("return page.messages.every((it) => !it.refusal) && document.getElementById('refused').hidden"))
+    page.run("page.clear(); document.getElementById('profile').value = '2'")
+
+
+def try_texts(page):
+    pem = f"-----BEGIN ILL-----\n{base64.encodebytes(EXPIRED).decode()}-----END ILL-----\n"
+    forms = {
+        "hexadecimal": EXPIRED.hex(), "hexadecimal with blanks": EXPIRED.hex(" ").upper(), "a table in C": ", ".join(f"0x{octet:02x}" for octet in EXPIRED),
+        "base64": base64.b64encode(EXPIRED).decode(), "base64 of links": base64.urlsafe_b64encode(EXPIRED).decode().rstrip("="), "base64 between lines": pem,
+    }
+    for what, text in forms.items():
+        check(f"{what} is read", page.paste(text) == [33])
+    for what, text, wanted in ("an odd digit", "741", "odd in number"), ("another character", "74 zz!", "neither hexadecimal nor base64"), ("no text", "  ", "no octets"):
+        page.paste(text)
+        check(f"{what} is refused in words", wanted in page.text("#fault"))
+    for what, octets in ("hexadecimal", EXPIRED.hex().encode()), ("base64", base64.encodebytes(EXPIRED)):
+        page.drop(octets, "text.txt")
+        check(f"a file of {what} is read", page.run("return page.messages.map((it) => it.size)") == [33] and what in page.text("#summary"))
+    evil = b'<img src=x onerror=alert(1)>"\\</script>'
+    body = bytes.fromhex("800102") + bytes([0xA1, 9 + len(evil), 0xA1, 2 + len(evil), 0x1B, len(evil)]) + evil + bytes.fromhex("a2031b0151a20ca00a80083230323430323239")
+    body = bytes([0x30, len(body)]) + body
+    page.drop(b"\x74" + bytes([len(body)]) + body, "<img src=x onerror=alert(2)>.ber")
+    check("markup in a value and in a name is text", page.run("return !document.querySelector('img') && page.messages.length === 1") and "<img src=x" in page.text("#tree"))
+    page.picture("markup")
+    octets = body.replace(b"img ", b"\xe2\x80\xae\x07")
+    page.run("document.getElementById('profile').value = 'module'")
+    page.drop(b"\x74" + bytes([len(octets)]) + octets, "escapes.ber")
+    check("control characters are written as escapes", page.run("return !page.messages[0].refusal && /\\\\xe2\\\\x80\\\\xae\\\\x07/.test(document.getElementById('tree').innerText)"))
+    page.run("page.clear(); document.getElementById('profile').value = '2'")
+
+
+def try_large(page):
+    for name in "limit-message", "limit-many-items", "limit-many-empty-items", "limit-many-segments":
+        octets = vector("limits", name)
+        taken = page.drop(octets, f"{name}.ber")
+        count, last, nodes = page.wait("""const begin = performance.now(), { count } = page.view.elements;
+            page.view.tree.select(count - 1);
+            await new Promise((drawn) => requestAnimationFrame(() => setTimeout(drawn)));
+            return [count, Math.round(performance.now() - begin), document.querySelectorAll('*').length]""")
+        print(f"      {name}: {len(octets):,} octets, {count:,} elements, {taken} ms to read and draw, {last} ms to the last element, {nodes} nodes")
+        check(f"{name} is drawn with few nodes", nodes < 2500 and page.active() == f"e{count - 1}")
+        if name == "limit-many-empty-items":
+            page.picture("many-elements")
+    for tab in "text", "normal":
+        taken = page.wait("const begin = performance.now(); document.getElementById(`tab-${words[0]}`).click(); await new Promise((drawn) => requestAnimationFrame(() => setTimeout(drawn))); return Math.round(performance.now() - begin)", tab)
+        print(f"      its view {tab}: {taken} ms")
+    page.run("document.getElementById('tab-elements').click()")
+    print(f"      100,000 messages: {page.drop(EXPIRED * 100000, '100000.ber')} ms")
+    check("100,000 messages are read", page.run("return page.messages.length") == 100000)
+    page.picture("100000")
+    try_turns(page)
+    try_files(page)
+
+
+def try_turns(page):
+    """Files that are dropped at once are read one after another, also where the profile is changed meanwhile, and not once the page is cleared."""
+    drops = """page.clear();
+        const [unit, count, then] = words, octets = new Uint8Array(unit.length * count);
+        for (let at = 0; at < octets.length; at += unit.length) octets.set(unit, at);
+        for (const name of ['one', 'two', 'three']) {
+          const transfer = new DataTransfer();
+          transfer.items.add(new File([octets], name));
+          dispatchEvent(new DragEvent('drop', { dataTransfer: transfer }));
+        }
+        while (page.messages.length === 0) await new Promise((next) => setTimeout(next, 1));
+        if (then === 'profile') await page.setProfile('module');
+        if (then === 'clear') page.clear();
+        for (let i = 0; i < 200 && page.messages.length < 3 * count; i++) await new Promise((next) => setTimeout(next, then === 'clear' ? 3 : 50));
+        await page.turn;
+        return page.messages.map((message) => message.file).filter((file, at, all) => at === 0 || file !== all[at - 1]).concat(page.messages.length)"""
+    names = {then: page.wait(drops, list(EXPIRED), 30000, then) for then in ("wait", "profile", "clear")}
+    for then in "wait", "profile":
+        check(f"three files at once are read in turn ({then}) {names[then]}", sorted(map(str, names[then])) == ["90000", "one", "three", "two"])
+    check("a cleared page reads nothing more", names["clear"] == [0])
+    page.run("page.clear(); document.getElementById('profile').value = '2'")
+
+
+def try_files(page):
+    """Files that the page makes itself: of 256 MiB and an octet, of 256 MiB of zeros, of large refused messages, and of too many messages."""
+    drop = """page.clear();
+        const [size, step, unit] = words, octets = new Uint8Array(size), transfer = new DataTransfer(), begin = performance.now();
+        for (let at = 0; unit && at + step <= size; at += step) octets.set(unit, at);
+        transfer.items.add(new File([octets], 'large.ber'));
+        dispatchEvent(new DragEvent('drop', { dataTransfer: transfer }));
+        const { said, fault } = { said: document.getElementById('said'), fault: document.getElementById('fault') };
+        said.textContent = '';
+        while (!said.textContent.includes(' read of ') && fault.hidden) await new Promise((next) => setTimeout(next, 20));
+        return [page.messages.length, fault.textContent, Math.round(performance.now() - begin)]"""
+    count, fault, _ = page.wait(drop, 268435457, 0, None)
+    check("a file of 256 MiB and an octet is refused in words", count == 0 and "more than 256 MiB" in fault)
+    count, fault, taken = page.wait(drop, 268435456, 0, None)
+    check(f"a file of 256 MiB of zeros is read: {taken} ms", (count, fault) == (1, "") and "BadTag" in page.text("#refused"))
+    count, fault, taken = page.wait(drop, 268435456, 1048576, list(bytes.fromhex("74830ffffb")))
+    check(f"a file of 256 refused messages of 1 MiB is read: {taken} ms", (count, fault) == (256, ""))
+    count, fault, taken = page.wait(drop, 33 * 1000001, 33, list(EXPIRED))
+    check(f"of 1,000,001 messages all but one are read: {taken} ms", count == 1000000 and "only the first 1,000,000 messages are read" in fault)
+    page.run("page.clear()")
+
+
+def try_faults(page):
+    page.drop(REFUSED + LONG_FORM, "refused.ber")
+    page.run("const { calls } = page, dump = calls.dump; calls.dump = () => calls.normalise(new Uint8Array(900000000)); page.choose(3); calls.dump = dump")
+    check("memory that runs out is said", "memory of the reader ran out" in page.text("#fault"))
+    page.run("page.choose(0)")
+    check("and the work goes on", page.run("return document.getElementById('fault').hidden") and page.text("#title") == "Expired")
+
+
+def try_links(page):
+    page.drop(LONG_FORM, "expired-long-form.ber")
+    link = page.wait("let copied = ''; navigator.clipboard && (navigator.clipboard.writeText = async (text) => { copied = text; }); document.getElementById('copy-link').click();"
+                     "for (let i = 0; i < 100 && !copied; i++) await new Promise((next) => setTimeout(next, 5)); return copied")
+    check("a link carries the message after its #", link.split("#")[-1] == f"octets={base64.urlsafe_b64encode(LONG_FORM).decode().rstrip('=')}")
+    other = Session(fragment=f"#profile=module&octets={base64.urlsafe_b64encode(MODULE[:200]).decode().rstrip('=')}")
+    check("a link is read", other.run("return [page.messages[0].octets[0], document.getElementById('profile').value]") == [MODULE[0], "module"])
+    other.run("location.hash = 'octets=!'")
+    other.wait("await new Promise((next) => setTimeout(next, 200))")
+    check("a bad link is refused in words", "The link was not read" in other.text("#fault"))
+    other.quit()
+    page.drop(vector("limits", "limit-message"), "large.ber")
+    check("a large message has no link", page.run("return document.getElementById('copy-link').disabled"))
+
+
+def try_controls(page):
+    """Each control that is seen has a name, and is reached by Tab, or by arrow keys in its list of tabs."""
+    page.drop(REFUSED + LONG_FORM, "refused.ber")
+    page.run("page.choose(1); document.getElementById('paste').click(); document.activeElement.blur()")
+    wanted = page.run("""return [...document.querySelectorAll('button, select, input, textarea, summary, [tabindex="0"]')]
+        .filter((it) => it.checkVisibility() && !it.disabled && it.tabIndex >= 0).map((it, i) => { it.dataset.control = i; return i; })""")
+    try_names(page)
+    unnamed = page.run("""const nameOf = (it) => it.getAttribute('aria-label') || (it.labels && it.labels.length && it.labels[0].innerText) || it.textContent.trim();
+        return [...document.querySelectorAll('[data-control]')].filter((it) => !nameOf(it)).map((it) => it.outerHTML)""")
+    check(f"each of {len(wanted)} controls has a name {unnamed or ''}", not unnamed)
+    page.run("document.querySelector('.skip').focus()")
+    reached = set()
+    for _ in range(len(wanted) + 5):
+        page.press(TAB)
+        reached.add(page.run("return document.activeElement.dataset.control || ''"))
+    missed = [page.run("return document.querySelector(`[data-control='${arguments[0]}']`).outerHTML.slice(0, 120)", i) for i in wanted if str(i) not in reached]
+    check(f"each is reached by Tab {missed or ''}", not missed)
+    page.focus("tab-elements")
+    page.run("page.choose(3)")
+    page.press(RIGHT)
+    check("arrow keys move between the views", page.run("return document.activeElement.id") == "tab-text" and "message 4 Expired" in page.text("#lines"))
+    page.press(HOME)
+
+
+def try_names(page):
+    """What a screen reader gets of Chromium: a name for each control, and the places of the elements in their tree."""
+    if NAME != "chromium":
+        return
+    nodes = page.browser.execute_cdp_cmd("Accessibility.getFullAXTree", {})["nodes"]
+    seen = [(it["role"]["value"], it.get("name", {}).get("value", ""), {p["name"]: p["value"].get("value") for p in it.get("properties", [])}) for it in nodes if not it["ignored"]]
+    unnamed = [role for role, name, states in seen if states.get("focusable") and not name and role not in ("RootWebArea", "main")]
+    check(f"a screen reader gets a name for each control {unnamed or ''}", len(seen) > 50 and not unnamed)
+    items = [(name, states.get("level")) for role, name, states in seen if role == "treeitem"]
+    check("and the levels of the elements", [level for _, level in items] == [1, 2, 3] and items[2][0].endswith("protocol-version-num = 2"))
+
+
+def try_printing(page):
+    page.drop(EVERY, "every-part.ber")
+    lines = "return [document.querySelectorAll('#tree [role=treeitem]').length, page.view.elements.count, document.querySelectorAll('#hex .v').length, Math.ceil(page.messages[0].size / page.view.hex.perLine)]"
+    before = page.run(lines)
+    page.run("dispatchEvent(new Event('beforeprint'))")
+    printed = page.run(lines)
+    check("all lines are printed, and before that those in sight", before[0] < before[1] and printed[0] == printed[1] and printed[2] == printed[3])
+    if NAME == "chromium":
+        page.browser.execute_cdp_cmd("Emulation.setEmulatedMedia", {"media": "print"})
+        page.picture("print")
+        check("the bar and the list are not printed", page.run("return !document.querySelector('.tools').checkVisibility() && !document.querySelector('.side').checkVisibility()"))
+        paper = base64.b64decode(page.browser.execute_cdp_cmd("Page.printToPDF", {})["data"])
+        check("more than a page is printed", paper.count(b"/Type /Page\n") + paper.count(b"/Type /Page/") > 1 or paper.count(b"/Type/Page") > 2)
+        page.browser.execute_cdp_cmd("Emulation.setEmulatedMedia", {"media": ""})
+    page.run("dispatchEvent(new Event('afterprint'))")
+    check("after it those in sight are drawn", page.run(lines)[0] == before[0])
+
+
+def try_policy(page):
+    blocked = page.wait("""const seen = []; addEventListener("securitypolicyviolation", (event) => seen.push(event.effectiveDirective));
+        try { await fetch("http://127.0.0.1:9/"); } catch {}
+        await new Promise((done) => setTimeout(done, 200));
+        return [seen, performance.getEntriesByType("resource").map((it) => it.name).filter((it) => !it.startsWith("http://127.0.0.1:9/"))];""")
+    check("the page can't send, and loaded nothing", blocked == [["connect-src"], []])
+    if NAME == "chromium":
+        severe = [it for it in page.browser.get_log("browser") if it["level"] == "SEVERE" and "127.0.0.1:9" not in it["message"]]
+        check(f"no error was logged {severe or ''}", not severe)
+
+
+def try_narrow():
+    page = Session((420, 860))
+    page.picture("narrow-start")
+    for octets, name in (LONG_FORM, "narrow"), (REFUSED, "narrow-refused"):
+        page.drop(octets, "message.ber")
+        page.run("page.choose(page.messages.length - 1)")
+        check(f"nothing is wider than a narrow window ({name})", page.run("return document.documentElement.scrollWidth <= innerWidth"))
+        page.picture(name)
+    check("octets are in lines of eight", page.run("return document.querySelector('#hex .digits').textContent.trim().split(/ +/).length") <= 8)
+    page.run("document.getElementById('hex').scrollIntoView()")
+    page.picture("narrow-octets")
+    page.quit()
+
+
+def try_without_webassembly():
+    """A browser that can't run the module says so."""
+    browser = without_webassembly(NAME)
+    browser.get(PAGE.as_uri())
+    ready = browser.execute_async_script(IS_READY)
+    said = browser.execute_script("return document.getElementById('fault').innerText")
+    check(f"a browser without WebAssembly says so: {said}", ready is None and "can’t run the reader, which needs WebAssembly" in said)
+    if PICTURES:
+        browser.save_screenshot(str(PICTURES / f"{NAME}-without-webassembly.png"))
+    browser.quit()
+
+
+def main():
+    page = Session()
+    for part in (try_start, try_messages, try_elements, try_views, try_refusals, try_texts, try_controls, try_links, try_faults, try_printing, try_large, try_policy):
+        part(page)
+    page.quit()
+    try_narrow()
+    try_without_webassembly()
+    print(f"{len(failed)} failed")
+    return bool(failed)
+
+
+if __name__ == "__main__":
+    sys.exit(main())
