@@ -43,6 +43,16 @@ static uint32_t print(const uint8_t *message, size_t size, uint32_t number, stru
     return status;
 }
 
+/* Why a message is refused. */
+static void print_refusal(uint32_t number, const struct illcanon_refusal *refusal) {
+    char name[32];
+    size_t size;
+    if (illcanon_cause_name(refusal->cause, (uint8_t *)name, sizeof name, &size) != ILLCANON_DONE)
+        size = 0;
+    fprintf(stderr, "message %lu is refused at %lu: %.*s %s\n", (unsigned long)number, (unsigned long)refusal->at, (int)size, name,
+            refusal->part);
+}
+
 int main(void) {
     size_t count, at, size;
     uint32_t number, status = ILLCANON_DONE;
@@ -64,8 +74,7 @@ int main(void) {
     case ILLCANON_DONE:
         return 0;
     case ILLCANON_REFUSED:
-        fprintf(stderr, "message %lu is refused at %lu: cause %lu %s\n", (unsigned long)number, (unsigned long)refusal.at,
-                (unsigned long)refusal.cause, refusal.part);
+        print_refusal(number, &refusal);
         return 1;
     case ILLCANON_NEEDS_MORE:
         fprintf(stderr, "message %lu is cut off\n", (unsigned long)number);

@@ -36,13 +36,14 @@ extern "C" {
 
 /* How a call ended. The numbers don't change. */
 enum illcanon_status {
-    ILLCANON_DONE = 0,           /* what was asked for is there */
-    ILLCANON_REFUSED = 1,        /* the octets are not a message, and the refusal says why */
-    ILLCANON_SECOND_REFUSED = 2, /* of two, the first is a message and the second is not, and the refusal says why */
-    ILLCANON_NEEDS_MORE = 3,     /* the octets may be the beginning of a message: at least one more is needed */
-    ILLCANON_NO_ROOM = 4,        /* the buffer is too short; the size says how many octets it needs */
-    ILLCANON_OUT_OF_MEMORY = 5,  /* malloc or realloc returned NULL; nothing was written */
-    ILLCANON_UNKNOWN_PROFILE = 6 /* the number is not an illcanon_profile; nothing was read or written */
+    ILLCANON_DONE = 0,            /* what was asked for is there */
+    ILLCANON_REFUSED = 1,         /* the octets are not a message, and the refusal says why */
+    ILLCANON_SECOND_REFUSED = 2,  /* of two, the first is a message and the second is not, and the refusal says why */
+    ILLCANON_NEEDS_MORE = 3,      /* the octets may be the beginning of a message: at least one more is needed */
+    ILLCANON_NO_ROOM = 4,         /* the buffer is too short; the size says how many octets it needs */
+    ILLCANON_OUT_OF_MEMORY = 5,   /* malloc or realloc returned NULL; nothing was written */
+    ILLCANON_UNKNOWN_PROFILE = 6, /* the number is not an illcanon_profile; nothing was read or written */
+    ILLCANON_UNKNOWN_CAUSE = 7    /* the number is not an illcanon_cause; nothing was written */
 };
 
 /* The profile of the messages that a call reads, where its name ends in _as. All other calls read profile 2. The numbers don't change. */
@@ -125,6 +126,18 @@ uint32_t illcanon_same(const uint8_t *first, size_t first_size, const uint8_t *s
 uint32_t illcanon_show(const uint8_t *octets, size_t octets_size, uint32_t number, uint8_t *buffer, size_t buffer_size, size_t *size,
                        struct illcanon_refusal *refusal);
 
+/* Writes the message that the octets are as a line of JSON (RFC 8259), as `illcanon show --json` does and docs/show.schema.json describes:
+ * an object of the number, the offset, how many octets the message has, the name of its APDU, whether it is in normal form, and its value.
+ * The number and the offset are those that the call is given. The line is ASCII and ends with a newline, and no zero follows.
+ *
+ *   DONE           the line is the first *size octets of the buffer. No octet after it is touched.
+ *   NO_ROOM        it has *size octets, more than buffer_size. The buffer is as it was.
+ *   REFUSED        *refusal says why the octets are not exactly one message.
+ *   OUT_OF_MEMORY
+ */
+uint32_t illcanon_json(const uint8_t *octets, size_t octets_size, uint32_t number, uint64_t offset, uint8_t *buffer, size_t buffer_size,
+                       size_t *size, struct illcanon_refusal *refusal);
+
 /* Writes the digest of the message that the octets are: SHA-256 (FIPS 180-4) of its normal form. So it is one for all spellings.
  *
  *   DONE           the digest is the first *size octets of the buffer, which are ILLCANON_DIGEST_SIZE. No octet after it is touched.
@@ -182,8 +195,25 @@ uint32_t illcanon_dump(const uint8_t *octets, size_t octets_size, uint32_t numbe
  */
 uint32_t illcanon_frame(const uint8_t *octets, size_t octets_size, size_t *size);
 
-/* The same calls in a profile, but for illcanon_frame. The first argument is its number, an illcanon_profile. Each does with messages of that profile what the
- * call without _as does with those of profile 2, and leaves the same in memory. It has one status more:
+/* Writes the name of a cause, an illcanon_cause, in ASCII, such as "Truncated". No zero follows. It takes no memory.
+ *
+ *   DONE           the name is the first *size octets of the buffer. No octet after it is touched.
+ *   NO_ROOM        it has *size octets, more than buffer_size. The buffer is as it was.
+ *   UNKNOWN_CAUSE  the number is not an illcanon_cause. Memory is as it was.
+ */
+uint32_t illcanon_cause_name(uint32_t cause, uint8_t *buffer, size_t buffer_size, size_t *size);
+
+/* Writes the version of the library, in ASCII: that of the header that belongs to it, ILLCANON_VERSION. No zero follows. It takes no
+ * memory. A program that is linked with a shared library compares the two.
+ *
+ *   DONE           the version is the first *size octets of the buffer. No octet after it is touched.
+ *   NO_ROOM        it has *size octets, more than buffer_size. The buffer is as it was.
+ */
+uint32_t illcanon_version(uint8_t *buffer, size_t buffer_size, size_t *size);
+
+/* The same calls in a profile, but for illcanon_frame, illcanon_cause_name and illcanon_version. The first argument is its number, an
+ * illcanon_profile. Each does with messages of that profile what the call without _as does with those of profile 2, and leaves the same in
+ * memory. It has one status more:
  *
  *   UNKNOWN_PROFILE  the number is not an illcanon_profile. Memory is as it was.
  *
@@ -207,6 +237,10 @@ uint32_t illcanon_same_as(uint32_t profile, const uint8_t *first, size_t first_s
 
 /* Writes the message in the profile that the octets are as text, under a number, as illcanon_show does. */
 uint32_t illcanon_show_as(uint32_t profile, const uint8_t *octets, size_t octets_size, uint32_t number, uint8_t *buffer,
+                          size_t buffer_size, size_t *size, struct illcanon_refusal *refusal);
+
+/* Writes the message in the profile that the octets are as a line of JSON, under a number and an offset, as illcanon_json does. */
+uint32_t illcanon_json_as(uint32_t profile, const uint8_t *octets, size_t octets_size, uint32_t number, uint64_t offset, uint8_t *buffer,
                           size_t buffer_size, size_t *size, struct illcanon_refusal *refusal);
 
 /* Writes the digest of the message in the profile that the octets are, as illcanon_digest does. */

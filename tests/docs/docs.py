@@ -121,6 +121,10 @@ def check_version():
         ("bindings/c/Makefile", r"^VERSION = (\S+)"),
         ("bindings/c/illcanon.h", r'ILLCANON_VERSION "([^"]+)"'),
         ("bindings/python/pyproject.toml", r'^version = "([^"]+)"'),
+        ("bindings/python/backend/wheel_of_illcanon.py", r'VERSION = "illcanon", "([^"]+)"'),
+        ("bindings/python/illcanon/_library.py", r'^VERSION = "([^"]+)"'),
+        ("crates/ill_c/src/version.rt", r'VERSION: &\[u8\] = b"([^"]+)"'),
+        ("crates/ill_c/specs/Version.antt", r'^version = codes "([^"]+)"'),
     ]:
         path = ROOT / file
         found = re.search(pattern, path.read_text(), re.M)

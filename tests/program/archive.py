@@ -147,4 +147,5 @@ def main():
         print("archive.py: no valgrind, so no instructions are compared")
 
 
-main()
+if __name__ == "__main__":
+    main()

@@ -2,6 +2,7 @@
  *
  *   calls PROFILE FILE FORMS    expects their normal forms one after another in FORMS
  *   calls PROFILE show FILE     writes their texts
+ *   calls PROFILE json FILE     writes their lines of JSON
  *   calls PROFILE dump FILE     writes their elements
  *   calls PROFILE digest FILE   writes their digests, a line for each
  *   calls PROFILE rows FILE     makes each call on the octets of each row of FILE that is of the profile. A row has its name, its profile
@@ -16,6 +17,10 @@ typedef uint32_t writing(const uint8_t *, size_t, uint8_t *, size_t, size_t *, s
 
 static uint32_t show_first(const uint8_t *octets, size_t count, uint8_t *buffer, size_t room, size_t *size, struct illcanon_refusal *refusal) {
     return show(octets, count, 1, buffer, room, size, refusal);
+}
+
+static uint32_t json_first(const uint8_t *octets, size_t count, uint8_t *buffer, size_t room, size_t *size, struct illcanon_refusal *refusal) {
+    return json(octets, count, 1, 0, buffer, room, size, refusal);
 }
 
 static uint32_t dump_first(const uint8_t *octets, size_t count, uint8_t *buffer, size_t room, size_t *size, struct illcanon_refusal *refusal) {
@@ -76,10 +81,10 @@ static void refused_dump_is(struct octets octets, uint32_t at, uint32_t cause, c
 
 /* Octets that each call refuses in one way, with nothing else changed. */
 static void refused(struct octets octets, uint32_t at, uint32_t cause, const char *part, struct octets good) {
-    static writing *const calls[] = {normalise, show_first, digest};
+    static writing *const calls[] = {normalise, show_first, json_first, digest};
     uint8_t buffer[100];
     memset(buffer, UNTOUCHED, sizeof buffer);
-    for (int i = 0; i < 3; i++) {
+    for (size_t i = 0; i < sizeof calls / sizeof *calls; i++) {
         struct illcanon_refusal refusal = untouched();
         size_t size = 77;
         EXPECT(calls[i](octets.at, octets.count, buffer, sizeof buffer, &size, &refusal) == ILLCANON_REFUSED);
@@ -179,6 +184,7 @@ static void message_is(struct octets message, struct octets wanted) {
     normal_is(message, (uint32_t)are_equal(form, message));
     same_is(message, form, 1);
     written(show_first, message);
+    written(json_first, message);
     written(dump_first, message);
     struct octets one = written(digest, message), other = written(digest, form);
     EXPECT(one.count == ILLCANON_DIGEST_SIZE && are_equal(one, other));
@@ -234,6 +240,7 @@ static void no_profile_is(uint32_t number, struct octets good) {
     memset(buffer, UNTOUCHED, sizeof buffer);
     EXPECT(illcanon_normalise_as(number, good.at, good.count, buffer, sizeof buffer, &size, &refusal) == ILLCANON_UNKNOWN_PROFILE);
     EXPECT(illcanon_show_as(number, good.at, good.count, 1, buffer, sizeof buffer, &size, &refusal) == ILLCANON_UNKNOWN_PROFILE);
+    EXPECT(illcanon_json_as(number, good.at, good.count, 1, 0, buffer, sizeof buffer, &size, &refusal) == ILLCANON_UNKNOWN_PROFILE);
     EXPECT(illcanon_dump_as(number, good.at, good.count, 1, buffer, sizeof buffer, &size, &refusal) == ILLCANON_UNKNOWN_PROFILE);
     EXPECT(illcanon_digest_as(number, good.at, good.count, buffer, sizeof buffer, &size, &refusal) == ILLCANON_UNKNOWN_PROFILE);
     EXPECT(illcanon_check_as(number, good.at, good.count, &answer, &refusal) == ILLCANON_UNKNOWN_PROFILE);
@@ -242,6 +249,56 @@ static void no_profile_is(uint32_t number, struct octets good) {
     EXPECT(illcanon_normalise_next_as(number, good.at, good.count, &read, buffer, sizeof buffer, &size, &refusal) ==
            ILLCANON_UNKNOWN_PROFILE);
     EXPECT(size == 77 && read == 77 && answer == 77 && is_untouched(&refusal) && all_are(buffer, sizeof buffer, UNTOUCHED));
+}
+
+/* A text that a call wrote into a buffer of 40 octets, and nothing after it. */
+static int is_text(const uint8_t *buffer, size_t size, const char *text) {
+    return size == strlen(text) && memcmp(buffer, text, size) == 0 && all_are(buffer + size, 40 - size, UNTOUCHED);
+}
+
+/* The line of a message under the largest number and offset. */
+static void line_is(struct octets good) {
+    static const char wanted[] =
+        "{\"number\":4294967295,\"offset\":18446744073709551615,\"octets\":33,\"apdu\":\"Expired\",\"normal\":true,\"value\":{"
+        "\"protocol-version-num\":2,\"transaction-id\":{\"transaction-group-qualifier\":{\"general\":\"G\"},"
+        "\"transaction-qualifier\":{\"general\":\"Q\"}},\"service-date-time\":{\"date-time-of-this-service\":{\"date\":\"20240229\"}}}}\n";
+    struct illcanon_refusal refusal = untouched();
+    uint8_t buffer[sizeof wanted];
+    size_t size = 77;
+    EXPECT(json(good.at, good.count, UINT32_MAX, UINT64_MAX, buffer, sizeof buffer, &size, &refusal) == ILLCANON_DONE);
+    EXPECT(size == sizeof wanted - 1 && memcmp(buffer, wanted, size) == 0 && is_untouched(&refusal));
+}
+
+/* Each cause has its name, and no other number has one. */
+static void names_are(void) {
+    static const uint32_t none[] = {0, CAUSES_SIZE, 0x102, 0x80000001, UINT32_MAX};
+    uint8_t buffer[40];
+    size_t size;
+    for (uint32_t cause = 1; cause < CAUSES_SIZE; cause++) {
+        size_t wanted = strlen(CAUSES[cause]);
+        memset(buffer, UNTOUCHED, sizeof buffer);
+        size = 77;
+        EXPECT(illcanon_cause_name(cause, buffer, wanted - 1, &size) == ILLCANON_NO_ROOM);
+        EXPECT(size == wanted && all_are(buffer, sizeof buffer, UNTOUCHED));
+        size = 77;
+        EXPECT(illcanon_cause_name(cause, buffer, wanted, &size) == ILLCANON_DONE && is_text(buffer, size, CAUSES[cause]));
+        EXPECT(illcanon_cause_name(cause, buffer, sizeof buffer, &size) == ILLCANON_DONE && is_text(buffer, size, CAUSES[cause]));
+    }
+    memset(buffer, UNTOUCHED, sizeof buffer);
+    size = 77;
+    for (size_t i = 0; i < sizeof none / sizeof *none; i++)
+        EXPECT(illcanon_cause_name(none[i], buffer, sizeof buffer, &size) == ILLCANON_UNKNOWN_CAUSE);
+    EXPECT(size == 77 && all_are(buffer, sizeof buffer, UNTOUCHED));
+}
+
+/* The version is that of the header. */
+static void version_is(void) {
+    size_t wanted = strlen(ILLCANON_VERSION), size = 77;
+    uint8_t buffer[40];
+    memset(buffer, UNTOUCHED, sizeof buffer);
+    EXPECT(illcanon_version(buffer, wanted - 1, &size) == ILLCANON_NO_ROOM && size == wanted && all_are(buffer, sizeof buffer, UNTOUCHED));
+    size = 77;
+    EXPECT(illcanon_version(buffer, wanted, &size) == ILLCANON_DONE && is_text(buffer, size, ILLCANON_VERSION));
 }
 
 static struct octets from_hexadecimal(const char *text) {
@@ -314,6 +371,19 @@ static void print_texts(numbering *call, const char *name) {
     }
 }
 
+/* Writes the line of JSON of each message of a file. */
+static void print_lines(const char *name) {
+    static uint8_t buffer[1 << 20];
+    struct octets messages[MESSAGES];
+    size_t count = read_messages(name, messages, MESSAGES), size;
+    struct illcanon_refusal refusal;
+    uint64_t offset = 0;
+    for (size_t i = 0; i < count; offset += messages[i].count, i++) {
+        EXPECT(json(messages[i].at, messages[i].count, (uint32_t)i + 1, offset, buffer, sizeof buffer, &size, &refusal) == ILLCANON_DONE);
+        fwrite(buffer, 1, size, stdout);
+    }
+}
+
 /* Writes the digest of each message of a file, a line for each. */
 static void print_digests(const char *name) {
     uint8_t buffer[ILLCANON_DIGEST_SIZE];
@@ -336,6 +406,8 @@ int main(int count, char **words) {
     set_profile(words[1]);
     if (strcmp(words[2], "show") == 0)
         print_texts(show, words[3]);
+    else if (strcmp(words[2], "json") == 0)
+        print_lines(words[3]);
     else if (strcmp(words[2], "dump") == 0)
         print_texts(dump, words[3]);
     else if (strcmp(words[2], "digest") == 0)
@@ -346,6 +418,9 @@ int main(int count, char **words) {
         static const uint32_t numbers[] = {0, 1, 4, 0x102, 0x80000003, 0xFFFFFFFF};
         file_is(words[2], words[3]);
         refusals_are(good);
+        line_is(good);
+        names_are();
+        version_is();
         for (size_t i = 0; i < sizeof numbers / sizeof *numbers; i++)
             no_profile_is(numbers[i], good);
     }

@@ -1,6 +1,6 @@
 /* `mutants PROGRAM COUNT PROFILE FILE..`: messages of the files, changed at random, are taken apart and normalised by the calls as by the
- * program's `canonicalise`, in two steps and in one: the same octets, the same refusal. Those that are accepted have the same text as by
- * its `show`. The calls are those in the profile or, where PROFILE is `-`, those that are given none. */
+ * program's `canonicalise`, in two steps and in one: the same octets, the same refusal. Those that are accepted have the same text and the
+ * same lines of JSON as by its `show`. The calls are those in the profile or, where PROFILE is `-`, those that are given none. */
 #include "support.h"
 
 #include <spawn.h>
@@ -65,18 +65,19 @@ static void run_program(const char *program, const char *const *words, const uin
     output->status = WIFEXITED(status) ? WEXITSTATUS(status) : -1;
 }
 
-enum calls { NEXT_AND_NORMALISE, NORMALISE_NEXT, NEXT_AND_SHOW };
+enum calls { NEXT_AND_NORMALISE, NORMALISE_NEXT, NEXT_AND_SHOW, NEXT_AND_JSON };
 
 /* The calls that make the output of the message at the front. */
-static uint32_t call_on_front(enum calls calls, const uint8_t *octets, size_t count, uint32_t number, size_t *size, uint8_t *to, size_t room,
-                              size_t *written, struct illcanon_refusal *refusal) {
+static uint32_t call_on_front(enum calls calls, const uint8_t *octets, size_t count, uint32_t number, uint64_t offset, size_t *size, uint8_t *to,
+                              size_t room, size_t *written, struct illcanon_refusal *refusal) {
     if (calls == NORMALISE_NEXT)
         return normalise_next(octets, count, size, to, room, written, refusal);
     uint32_t status = next(octets, count, size, refusal);
     if (status != ILLCANON_DONE)
         return status;
-    status = calls == NEXT_AND_SHOW ? show(octets, *size, number, to, room, written, refusal)
-                                    : normalise(octets, *size, to, room, written, refusal);
+    status = calls == NEXT_AND_SHOW   ? show(octets, *size, number, to, room, written, refusal)
+             : calls == NEXT_AND_JSON ? json(octets, *size, number, offset, to, room, written, refusal)
+                                      : normalise(octets, *size, to, room, written, refusal);
     EXPECT(status == ILLCANON_DONE);
     return status;
 }
@@ -90,7 +91,7 @@ static void make_calls(enum calls calls, const uint8_t *octets, size_t count, st
     output->status = 0;
     output->line[0] = 0;
     for (size_t at = 0; at < count; at += size, number++) {
-        status = call_on_front(calls, octets + at, count - at, number, &size, output->out + output->out_size, ROOM - output->out_size,
+        status = call_on_front(calls, octets + at, count - at, number, at, &size, output->out + output->out_size, ROOM - output->out_size,
                                &written, &refusal);
         if (status == ILLCANON_NEEDS_MORE) {
             refusal.at = (uint32_t)(count - at);
@@ -183,6 +184,7 @@ int main(int words, char **names) {
     const char *option = profile == ILLCANON_PROFILE_MODULE ? "--profile=module" : NULL;
     const char *const canonicalise[] = {names[1], "canonicalise", "-", "-", option, NULL};
     const char *const show_words[] = {names[1], "show", "-", option, NULL};
+    const char *const json_words[] = {names[1], "show", "--json", "-", option, NULL};
     total = strtoul(names[2], NULL, 10);
     for (int i = 4; i < words; i++)
         count += read_messages(names[i], messages + count, MESSAGES - count);
@@ -198,6 +200,9 @@ int main(int words, char **names) {
             accepted++;
             make_calls(NEXT_AND_SHOW, octets, size, &found);
             run_program(names[1], show_words, octets, size, &wanted);
+            EXPECT(are_equal(&found, &wanted));
+            make_calls(NEXT_AND_JSON, octets, size, &found);
+            run_program(names[1], json_words, octets, size, &wanted);
             EXPECT(are_equal(&found, &wanted));
         }
     }

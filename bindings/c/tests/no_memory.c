@@ -48,6 +48,10 @@ static uint32_t make_show(void) {
     return show(message.at, message.count, 1, buffer, ROOM, &size, &refusal);
 }
 
+static uint32_t make_json(void) {
+    return json(message.at, message.count, 1, 0, buffer, ROOM, &size, &refusal);
+}
+
 static uint32_t make_dump(void) {
     return dump(message.at, message.count, 1, buffer, ROOM, &size, &refusal);
 }
@@ -91,6 +95,26 @@ static void refuse_each(const char *name, uint32_t (*call)(void)) {
     printf("%s: %ld refused\n", name, k - 1);
 }
 
+/* A call that takes no memory is done where there is none. */
+static void takes_none(const char *name, uint32_t (*call)(void)) {
+    refusals = left = 0;
+    EXPECT(call() == ILLCANON_DONE && refusals == 0);
+    left = -1;
+    printf("%s: takes no memory\n", name);
+}
+
+static uint32_t make_frame(void) {
+    return illcanon_frame(message.at, message.count, &size);
+}
+
+static uint32_t make_cause_name(void) {
+    return illcanon_cause_name(ILLCANON_MISSING, buffer, ROOM, &size);
+}
+
+static uint32_t make_version(void) {
+    return illcanon_version(buffer, ROOM, &size);
+}
+
 int main(int count, char **words) {
     struct octets messages[64];
     if (count != 3)
@@ -101,11 +125,15 @@ int main(int count, char **words) {
     buffer = fenced(ROOM);
     refuse_each("normalise", make_normalise);
     refuse_each("show", make_show);
+    refuse_each("json", make_json);
     refuse_each("dump", make_dump);
     refuse_each("digest", make_digest);
     refuse_each("check", make_check);
     refuse_each("same", make_same);
     refuse_each("next", make_next);
     refuse_each("normalise_next", make_normalise_next);
+    takes_none("frame", make_frame);
+    takes_none("cause_name", make_cause_name);
+    takes_none("version", make_version);
     return failures != 0;
 }

@@ -36,9 +36,9 @@ names_are() {
 
 # The names of the calls, each with a space after it.
 names() {
-    for call in check digest dump frame next normalise normalise_next same show; do
+    for call in cause_name check digest dump frame json next normalise normalise_next same show version; do
         printf 'illcanon_%s ' $call
-        [ $call = frame ] || printf 'illcanon_%s_as ' $call
+        case $call in cause_name | frame | version) ;; *) printf 'illcanon_%s_as ' $call ;; esac
     done
 }
 
@@ -85,6 +85,9 @@ for profile in - 2; do
         ./calls $profile show "$file" >shown
         "$program" show "$file" >wanted
         try "show $profile $(basename "$file")" cmp shown wanted
+        ./calls $profile json "$file" >lines
+        "$program" show --json "$file" >wanted
+        try "json $profile $(basename "$file")" cmp lines wanted
         ./calls $profile dump "$file" >dumped
         "$program" dump "$file" >wanted
         try "dump $profile $(basename "$file")" cmp dumped wanted
@@ -96,6 +99,9 @@ try "calls module examples" ./calls module "$examples/module.ber" "$examples/mod
 ./calls module show "$examples/module.ber" >shown
 "$program" show --profile module "$examples/module.ber" >wanted
 try "show module examples" cmp shown wanted
+./calls module json "$examples/module.ber" >lines
+"$program" show --json --profile module "$examples/module.ber" >wanted
+try "json module examples" cmp lines wanted
 ./calls module dump "$examples/module.ber" >dumped
 "$program" dump --profile module "$examples/module.ber" >wanted
 try "dump module examples" cmp dumped wanted

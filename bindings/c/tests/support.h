@@ -72,6 +72,12 @@ static inline uint32_t dump(const uint8_t *octets, size_t count, uint32_t number
                         : illcanon_dump(octets, count, number, buffer, room, size, refusal);
 }
 
+static inline uint32_t json(const uint8_t *octets, size_t count, uint32_t number, uint64_t offset, uint8_t *buffer, size_t room, size_t *size,
+                            struct illcanon_refusal *refusal) {
+    return profile != 0 ? illcanon_json_as(profile, octets, count, number, offset, buffer, room, size, refusal)
+                        : illcanon_json(octets, count, number, offset, buffer, room, size, refusal);
+}
+
 static inline uint32_t digest(const uint8_t *octets, size_t count, uint8_t *buffer, size_t room, size_t *size,
                               struct illcanon_refusal *refusal) {
     return profile != 0 ? illcanon_digest_as(profile, octets, count, buffer, room, size, refusal)

@@ -3,24 +3,19 @@ from __future__ import annotations
 
 import ctypes
 import enum
-from typing import Callable, Iterator, Literal, Optional, Tuple, Union
+import json
+import mmap
+from typing import Callable, Dict, Iterator, Literal, NoReturn, Optional, Tuple, Union
 
-from ._library import Refusal, library
+from ._library import CAUSES, Refusal, library
 
-Octets = Union[bytes, bytearray, memoryview]
+Octets = Union[bytes, bytearray, memoryview, mmap.mmap]
 Profile = Literal["2", "module"]
 
 # The profiles by their names, with their numbers in C.
 PROFILES = {"2": 2, "module": 3}
 
-# The causes, by their numbers from 1.
-CAUSES = (
-    "Truncated BadTag BadLength TooLong Overrun TooDeep UnexpectedTag LeftOut WrongForm Missing BadEnd BadBoolean BadInteger "
-    "IntegerTooLong BadText BadDate BadTime TrailingBytes NormalTooLong BadNull BadOid BadBits"
-).split()
-
-
-# The greatest number of octets of a normal form.
+# The greatest number of octets of a message, and of its normal form.
 LIMIT = 1048576
 
 
@@ -34,31 +29,59 @@ class Status(enum.IntEnum):
     NO_ROOM = 4
     OUT_OF_MEMORY = 5
     UNKNOWN_PROFILE = 6
+    UNKNOWN_CAUSE = 7
 
 
 class Refused(ValueError):
     """Octets that are not a message.
 
-    `offset` counts octets from the first one of the message, `cause` is a word such as `Missing` (docs/DEFINITIONS.md lists them),
-    `part` is the part that is missing or left out, such as `Expired.service-date-time`, or None. `message` is the number of the
-    message, from 1, where there are more: of `same` and `messages`.
+    `offset` counts octets from the first one of the message, `cause` is a word such as `Missing` (docs/DEFINITIONS.md lists them), and
+    `cause_number` its number in C. `part` is the part that is missing or left out, such as `Expired.service-date-time`, or None.
+
+    Where there are more messages, `message` is the number of this one, from 1: of `same`, `messages`, `normal_forms` and `results`. Of the
+    last three `start` is the number of octets before it. Of `results`, `octets` is the message that is refused, and `end_known` is False
+    where nothing says where it ends: then `octets` is None, and no result follows.
     """
 
-    def __init__(self, offset: int, cause: str, part: Optional[str] = None, message: int = 1) -> None:
+    def __init__(
+        self,
+        offset: int,
+        cause: str,
+        part: Optional[str] = None,
+        message: int = 1,
+        *,
+        start: int = 0,
+        octets: Optional[bytes] = None,
+        end_known: bool = True,
+    ) -> None:
         self.offset = offset
         self.cause = cause
         self.part = part
         self.message = message
+        self.start = start
+        self.octets = octets
+        self.end_known = end_known
         super().__init__(offset, cause, part, message)
+
+    @property
+    def cause_number(self) -> int:
+        """The number of the cause in C."""
+        return CAUSES.index(self.cause) + 1
 
     def __str__(self) -> str:
         part = f" {self.part}" if self.part else ""
-        return f"refused at {self.offset} in message {self.message}: {self.cause}{part}"
+        end = "" if self.end_known else "; its end is unknown"
+        return f"refused at {self.offset} in message {self.message}: {self.cause}{part}{end}"
 
 
 def _bytes(octets: Octets) -> bytes:
     """The octets as bytes, which end in C where they end here; a number or a text is a TypeError."""
-    return octets if isinstance(octets, bytes) else bytes(memoryview(octets))
+    return octets if type(octets) is bytes else bytes(memoryview(octets))
+
+
+def _address(octets: bytes) -> int:
+    """Where the octets are in memory, as long as there is a name for them."""
+    return ctypes.cast(ctypes.c_char_p(octets), ctypes.c_void_p).value or 0
 
 
 def _number_of(profile: Profile) -> int:
@@ -68,32 +91,51 @@ def _number_of(profile: Profile) -> int:
     return PROFILES[profile]
 
 
-def _refused(refusal: Refusal, message: int = 1) -> Refused:
-    return Refused(refusal.at, CAUSES[refusal.cause - 1], refusal.part.decode("ascii") or None, message)
+def _refused(refusal: Refusal, message: int = 1, start: int = 0) -> Refused:
+    if not 1 <= refusal.cause <= len(CAUSES):
+        raise SystemError(f"libillcanon reported the cause {refusal.cause}, which has no name")
+    return Refused(refusal.at, CAUSES[refusal.cause - 1], refusal.part.decode("ascii") or None, message, start=start)
 
 
-def _raise(status: int, refusal: Refusal, message: int = 1) -> None:
-    """Raises what a status other than DONE and NO_ROOM says."""
+def _raise(status: int, refusal: Refusal, message: int = 1, start: int = 0) -> NoReturn:
+    """Raises what a status says that gives no result."""
     if status == Status.REFUSED:
-        raise _refused(refusal, message)
-    if status == Status.SECOND_REFUSED:
-        raise _refused(refusal, 2)
+        raise _refused(refusal, message, start)
     if status == Status.OUT_OF_MEMORY:
         raise MemoryError
-    if status == Status.UNKNOWN_PROFILE:
-        raise ValueError("profile")
+    raise _broken(status)
+
+
+def _broken(status: int) -> SystemError:
+    """The error of a library whose call ends with a status that its header doesn't name of it, or doesn't write what that says."""
+    return SystemError(f"libillcanon ended a call with the status {status}, and not as its header says")
 
 
 def _written(call: Callable[..., int], room: int) -> bytes:
     """What a call writes: it is called once more where the room was too small."""
-    refusal, size = Refusal(), ctypes.c_size_t()
+    refusal = Refusal()
+    status, octets = _put(call, room, refusal)
+    if status != Status.DONE:
+        _raise(status, refusal)
+    return octets
+
+
+def _put(call: Callable[..., int], room: int, refusal: Refusal) -> Tuple[int, bytes]:
+    """How a call ends that has the room which it needs, and what it wrote."""
+    size = ctypes.c_size_t()
     while True:
         buffer = ctypes.create_string_buffer(max(room, 1))
         status = call(buffer, room, ctypes.byref(size), ctypes.byref(refusal))
-        if status == Status.DONE:
-            return buffer.raw[: size.value]
-        _raise(status, refusal)
+        if size.value <= room:
+            return status, ctypes.string_at(buffer, size.value)
+        if status != Status.NO_ROOM:
+            raise _broken(status)
         room = size.value
+
+
+def _room(octets: bytes, times: int) -> int:
+    """The room for what is made of octets: this many times theirs, and none where they are more than a message has."""
+    return times * len(octets) + 256 if len(octets) <= LIMIT else 0
 
 
 def normalise(octets: Octets, *, profile: Profile = "2") -> bytes:
@@ -102,7 +144,7 @@ def normalise(octets: Octets, *, profile: Profile = "2") -> bytes:
     Raises `Refused` where they are not exactly one message.
     """
     profile_number, octets = _number_of(profile), _bytes(octets)
-    return _written(lambda *memory: library.illcanon_normalise_as(profile_number, octets, len(octets), *memory), len(octets))
+    return _written(lambda *memory: library.illcanon_normalise_as(profile_number, octets, len(octets), *memory), _room(octets, 1))
 
 
 def check(octets: Octets, *, profile: Profile = "2") -> bool:
@@ -112,8 +154,8 @@ def check(octets: Octets, *, profile: Profile = "2") -> bool:
     """
     profile_number, octets = _number_of(profile), _bytes(octets)
     refusal, normal = Refusal(), ctypes.c_uint32()
-    _raise(library.illcanon_check_as(profile_number, octets, len(octets), ctypes.byref(normal), ctypes.byref(refusal)), refusal)
-    return normal.value == 1
+    status: int = library.illcanon_check_as(profile_number, octets, len(octets), ctypes.byref(normal), ctypes.byref(refusal))
+    return _answer(status, normal, refusal)
 
 
 def same(first: Octets, second: Octets, *, profile: Profile = "2") -> bool:
@@ -124,7 +166,18 @@ def same(first: Octets, second: Octets, *, profile: Profile = "2") -> bool:
     profile_number, first, second = _number_of(profile), _bytes(first), _bytes(second)
     refusal, answer = Refusal(), ctypes.c_uint32()
     memory = ctypes.byref(answer), ctypes.byref(refusal)
-    _raise(library.illcanon_same_as(profile_number, first, len(first), second, len(second), *memory), refusal)
+    status: int = library.illcanon_same_as(profile_number, first, len(first), second, len(second), *memory)
+    if status == Status.SECOND_REFUSED:
+        raise _refused(refusal, 2)
+    return _answer(status, answer, refusal)
+
+
+def _answer(status: int, answer: ctypes.c_uint32, refusal: Refusal) -> bool:
+    """Whether a call that is done answered 1."""
+    if status != Status.DONE:
+        _raise(status, refusal)
+    if answer.value not in (0, 1):
+        raise _broken(status)
     return answer.value == 1
 
 
@@ -136,9 +189,28 @@ def show(octets: Octets, number: int = 1, *, profile: Profile = "2") -> str:
     profile_number, octets = _number_of(profile), _bytes(octets)
     if not 0 <= number < 2**32:
         raise ValueError("number")
-    room = 16 * len(octets)
-    text = _written(lambda *memory: library.illcanon_show_as(profile_number, octets, len(octets), number, *memory), room)
+    text = _written(lambda *memory: library.illcanon_show_as(profile_number, octets, len(octets), number, *memory), _room(octets, 16))
     return text.decode("ascii")
+
+
+def parse(octets: Octets, number: int = 1, offset: int = 0, *, profile: Profile = "2") -> Dict[str, object]:
+    """The message in the profile that the octets are as a dict of its parts, as docs/show.schema.json describes it.
+
+    `apdu` is the name of the APDU, `value` its value, `normal` whether the octets are its normal form, `octets` how many they are, and
+    `number` and `offset` what the call is given: from 0 to 4,294,967,295, and to 18,446,744,073,709,551,615. Each number is exact. In a
+    string each octet is the character of its number.
+
+    Raises `Refused` where they are not exactly one message.
+    """
+    profile_number, octets = _number_of(profile), _bytes(octets)
+    if not 0 <= number < 2**32:
+        raise ValueError("number")
+    if not 0 <= offset < 2**64:
+        raise ValueError("offset")
+    numbers = number, offset
+    line = _written(lambda *memory: library.illcanon_json_as(profile_number, octets, len(octets), *numbers, *memory), _room(octets, 16))
+    found: Dict[str, object] = json.loads(line)
+    return found
 
 
 def dump(octets: Octets, number: int = 1, *, profile: Profile = "2") -> Tuple[str, Optional[Refused]]:
@@ -149,18 +221,11 @@ def dump(octets: Octets, number: int = 1, *, profile: Profile = "2") -> Tuple[st
     profile_number, octets = _number_of(profile), _bytes(octets)
     if not 0 <= number < 2**32:
         raise ValueError("number")
-    refusal, size, room = Refusal(), ctypes.c_size_t(), 16 * len(octets) + 4096
-    while True:
-        buffer = ctypes.create_string_buffer(room)
-        status = library.illcanon_dump_as(
-            profile_number, octets, len(octets), number, buffer, room, ctypes.byref(size), ctypes.byref(refusal)
-        )
-        if status != Status.NO_ROOM:
-            break
-        room = size.value
+    refusal, room = Refusal(), _room(octets[:LIMIT], 16)
+    status, text = _put(lambda *memory: library.illcanon_dump_as(profile_number, octets, len(octets), number, *memory), room, refusal)
     if status not in (Status.DONE, Status.REFUSED):
         _raise(status, refusal)
-    return buffer.raw[: size.value].decode("ascii"), _refused(refusal) if status == Status.REFUSED else None
+    return text.decode("ascii"), _refused(refusal) if status == Status.REFUSED else None
 
 
 def frame(octets: Octets) -> Optional[int]:
@@ -169,10 +234,14 @@ def frame(octets: Octets) -> Optional[int]:
     None where the octets may be the beginning of an element. Raises `ValueError` where its end can't be known, whatever follows them.
     """
     octets, size = _bytes(octets), ctypes.c_size_t()
-    status = library.illcanon_frame(octets, len(octets), ctypes.byref(size))
+    status: int = library.illcanon_frame(octets, len(octets), ctypes.byref(size))
     if status == Status.REFUSED:
         raise ValueError("where the element ends can't be known")
-    return size.value if status == Status.DONE else None
+    if status == Status.NEEDS_MORE:
+        return None
+    if status != Status.DONE:
+        raise _broken(status)
+    return size.value
 
 
 def digest(octets: Octets, *, profile: Profile = "2") -> bytes:
@@ -187,7 +256,8 @@ def digest(octets: Octets, *, profile: Profile = "2") -> bytes:
 def messages(octets: Octets, *, profile: Profile = "2") -> Iterator[bytes]:
     """The messages in the profile that the octets are, one after another, each as it is spelled.
 
-    Raises `Refused` at the first octets that begin with none, after the messages before them. `message` is its number.
+    Raises `Refused` at the first octets that begin with none, after the messages before them. `message` is its number, and `start` the
+    number of octets before it. `results` goes on.
     """
     return _messages(_number_of(profile), octets)
 
@@ -197,7 +267,8 @@ def _messages(profile: int, octets: Octets) -> Iterator[bytes]:
     size = ctypes.c_size_t()
     at, number = 0, 1
     while at < len(octets):
-        _call_at(library.illcanon_next_as, profile, octets, at, number, ctypes.byref(size))
+        status = _call_at(library.illcanon_next_as, profile, octets, at, number, ctypes.byref(size))
+        _check_front(status, size.value, len(octets) - at)
         yield octets[at : at + size.value]
         at, number = at + size.value, number + 1
 
@@ -206,7 +277,7 @@ def normal_forms(octets: Octets, *, profile: Profile = "2") -> Iterator[bytes]:
     """The normal forms of the messages in the profile that the octets are, one after another. Each message is read once.
 
     Raises `Refused` at the first octets that begin with none, after the normal forms of the messages before them. `message` is its
-    number.
+    number, and `start` the number of octets before it.
     """
     return _normal_forms(_number_of(profile), octets)
 
@@ -218,9 +289,11 @@ def _normal_forms(profile: int, octets: Octets) -> Iterator[bytes]:
     at, number = 0, 1
     while at < len(octets):
         memory = ctypes.byref(read), buffer, len(buffer), ctypes.byref(size)
-        if _call_at(library.illcanon_normalise_next_as, profile, octets, at, number, *memory) == Status.NO_ROOM:
+        status = _call_at(library.illcanon_normalise_next_as, profile, octets, at, number, *memory)
+        if status == Status.NO_ROOM and size.value > len(buffer):
             buffer = ctypes.create_string_buffer(size.value)
             continue
+        _check_front(status, read.value, len(octets) - at)
         yield ctypes.string_at(buffer, size.value)
         at, number = at + read.value, number + 1
 
@@ -228,9 +301,15 @@ def _normal_forms(profile: int, octets: Octets) -> Iterator[bytes]:
 def _call_at(call: Callable[..., int], profile: int, octets: bytes, at: int, number: int, *memory: object) -> int:
     """Makes a call on the octets from an offset on, where the message of this number begins. Returns DONE or NO_ROOM."""
     refusal = Refusal()
-    start = (ctypes.cast(octets, ctypes.c_void_p).value or 0) + at
-    status = call(profile, start, len(octets) - at, *memory, ctypes.byref(refusal))
+    status = call(profile, _address(octets) + at, len(octets) - at, *memory, ctypes.byref(refusal))
     if status == Status.NEEDS_MORE:
-        raise Refused(len(octets) - at, "Truncated", None, number)
-    _raise(status, refusal, number)
+        raise Refused(len(octets) - at, "Truncated", None, number, start=at)
+    if status not in (Status.DONE, Status.NO_ROOM):
+        _raise(status, refusal, number, at)
     return status
+
+
+def _check_front(status: int, size: int, count: int) -> None:
+    """Checks that a call is done, and that what it found at the front of this many octets is some of them."""
+    if status != Status.DONE or not 0 < size <= count:
+        raise _broken(status)

@@ -3,6 +3,13 @@ from __future__ import annotations
 
 import ctypes
 import os
+from typing import Optional, Tuple
+
+# The version of the package, which is that of the library.
+VERSION = "0.2.0"
+
+# The greatest number of octets of a name or of a version.
+ROOM = 64
 
 
 class Refusal(ctypes.Structure):
@@ -13,26 +20,61 @@ class Refusal(ctypes.Structure):
 
 def _load() -> ctypes.CDLL:
     beside = os.path.join(os.path.dirname(os.path.abspath(__file__)), "libillcanon.so")
-    found = ctypes.CDLL(os.environ.get("ILLCANON_LIBRARY") or beside)
-    octets = [ctypes.c_uint32, ctypes.c_char_p, ctypes.c_size_t]
-    front = [ctypes.c_uint32, ctypes.c_void_p, ctypes.c_size_t, ctypes.POINTER(ctypes.c_size_t)]
-    written = [ctypes.c_void_p, ctypes.c_size_t, ctypes.POINTER(ctypes.c_size_t), ctypes.POINTER(Refusal)]
+    name = os.environ.get("ILLCANON_LIBRARY") or beside
+    found = ctypes.CDLL(name)
+    _check_version(found, name)
+    octets = [ctypes.c_uint32, ctypes.c_void_p, ctypes.c_size_t]
+    text = [ctypes.c_void_p, ctypes.c_size_t, ctypes.POINTER(ctypes.c_size_t)]
+    written = [*text, ctypes.POINTER(Refusal)]
     answer = [ctypes.POINTER(ctypes.c_uint32), ctypes.POINTER(Refusal)]
     types = {
         "illcanon_normalise_as": [*octets, *written],
         "illcanon_show_as": [*octets, ctypes.c_uint32, *written],
+        "illcanon_json_as": [*octets, ctypes.c_uint32, ctypes.c_uint64, *written],
         "illcanon_dump_as": [*octets, ctypes.c_uint32, *written],
         "illcanon_digest_as": [*octets, *written],
         "illcanon_check_as": [*octets, *answer],
-        "illcanon_same_as": [*octets, ctypes.c_char_p, ctypes.c_size_t, *answer],
-        "illcanon_next_as": [*front, ctypes.POINTER(Refusal)],
-        "illcanon_normalise_next_as": [*front, *written],
-        "illcanon_frame": [ctypes.c_char_p, ctypes.c_size_t, ctypes.POINTER(ctypes.c_size_t)],
+        "illcanon_same_as": [*octets, ctypes.c_void_p, ctypes.c_size_t, *answer],
+        "illcanon_next_as": [*octets, ctypes.POINTER(ctypes.c_size_t), ctypes.POINTER(Refusal)],
+        "illcanon_normalise_next_as": [*octets, ctypes.POINTER(ctypes.c_size_t), *written],
+        "illcanon_frame": [ctypes.c_void_p, ctypes.c_size_t, ctypes.POINTER(ctypes.c_size_t)],
+        "illcanon_cause_name": [ctypes.c_uint32, *text],
     }
-    for name, arguments in types.items():
-        call = getattr(found, name)
+    for call_name, arguments in types.items():
+        call = getattr(found, call_name)
         call.argtypes, call.restype = arguments, ctypes.c_uint32
     return found
 
 
+def _check_version(found: ctypes.CDLL, name: str) -> None:
+    """Raises ImportError where the library is of another version than the package."""
+    call = getattr(found, "illcanon_version", None)
+    if call is None:
+        raise ImportError(f"{name} has no illcanon_version: it is not libillcanon {VERSION}, which this package needs")
+    call.argtypes, call.restype = [ctypes.c_void_p, ctypes.c_size_t, ctypes.POINTER(ctypes.c_size_t)], ctypes.c_uint32
+    buffer, size = ctypes.create_string_buffer(ROOM), ctypes.c_size_t()
+    status = call(buffer, ROOM, ctypes.byref(size))
+    version = buffer.raw[: size.value].decode("ascii", "replace") if status == 0 else "of an unknown version"
+    if version != VERSION:
+        raise ImportError(f"{name} is libillcanon {version}, and this package needs {VERSION}")
+
+
+def _causes() -> Tuple[str, ...]:
+    """The names of the causes, by their numbers from 1, up to the first number that is no cause's."""
+    names = []
+    for number in range(1, 256):
+        name = _cause_name(number)
+        if name is None:
+            break
+        names.append(name)
+    return tuple(names)
+
+
+def _cause_name(number: int) -> Optional[str]:
+    buffer, size = ctypes.create_string_buffer(ROOM), ctypes.c_size_t()
+    status = library.illcanon_cause_name(number, buffer, ROOM, ctypes.byref(size))
+    return buffer.raw[: size.value].decode("ascii") if status == 0 else None
+
+
 library = _load()
+CAUSES = _causes()

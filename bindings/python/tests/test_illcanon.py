@@ -1,19 +1,25 @@
 """The calls on the files of examples/, on worked messages of the module profile, and on octets that are refused; and in both profiles on
-random messages, some changed, beside the encoder and the judge of tests/. COUNT (2,000) messages of each profile are made.
+random messages, some changed, beside the encoder and the judge of tests/. COUNT (2,000) messages of each profile are made. What the
+package does with a library that breaks its header is tried on one that `cc` makes here.
 """
 import functools
 import glob
 import hashlib
+import io
 import json
+import mmap
 import os
+import pickle
 import random
+import re
 import subprocess
 import sys
+import tempfile
 import threading
 import unittest
 
 import illcanon
-from illcanon import Refused
+from illcanon import Message, Refused
 
 TOP = os.path.join(os.path.dirname(os.path.abspath(__file__)), "..", "..", "..")
 PROGRAM = os.path.join(TOP, "crates", "illcanon", "out", "illcanon")
@@ -94,6 +100,27 @@ class Messages(unittest.TestCase):
         for number in (-1, 2**32):
             self.assertRaises(ValueError, illcanon.dump, EXPIRED, number)
 
+    def test_a_message_is_a_dict(self):
+        value = {
+            "protocol-version-num": 2,
+            "transaction-id": {"transaction-group-qualifier": {"general": "G"}, "transaction-qualifier": {"general": "Q"}},
+            "service-date-time": {"date-time-of-this-service": {"date": "20240229"}},
+        }
+        wanted = {"number": 1, "offset": 0, "octets": 33, "apdu": "Expired", "normal": True, "value": value}
+        self.assertEqual(illcanon.parse(EXPIRED), wanted)
+        self.assertEqual(illcanon.parse(octets_of("expired-long-form.ber")), {**wanted, "octets": 44, "normal": False})
+        numbers = {"number": 2**32 - 1, "offset": 2**64 - 1}
+        self.assertEqual(illcanon.parse(EXPIRED, 2**32 - 1, 2**64 - 1), {**wanted, **numbers})
+        for wrong in ((-1, 0), (2**32, 0), (1, -1), (1, 2**64)):
+            self.assertRaises(ValueError, illcanon.parse, EXPIRED, *wrong)
+
+    def test_dicts_are_those_of_the_program(self):
+        for name, profile in [*((name, "2") for name, _ in FILES), ("module.ber", "module")]:
+            found = [illcanon.parse(it.octets, it.number, it.offset, profile=profile) for it in illcanon.results(octets_of(name), profile=profile)]
+            words = [PROGRAM, "show", "--json", "--profile", profile, os.path.join(TOP, "examples", name)]
+            lines = subprocess.run(words, stdout=subprocess.PIPE, check=True).stdout.splitlines()
+            self.assertEqual(found, [json.loads(line) for line in lines])
+
     def test_elements_are_framed(self):
         for size in range(len(EXPIRED)):
             self.assertIsNone(illcanon.frame(EXPIRED[:size]))
@@ -112,6 +139,9 @@ class Messages(unittest.TestCase):
     def test_octets_are_anything_like_bytes(self):
         self.assertEqual(illcanon.normalise(bytearray(EXPIRED)), EXPIRED)
         self.assertEqual(illcanon.normalise(memoryview(b"x" + EXPIRED)[1:]), EXPIRED)
+        with mmap.mmap(-1, len(EXPIRED)) as mapped:
+            mapped.write(EXPIRED)
+            self.assertEqual(illcanon.normalise(mapped), EXPIRED)
         self.assertRaises(TypeError, illcanon.normalise, "text")
 
     def test_a_normal_form_may_be_longer(self):
@@ -153,7 +183,7 @@ class Refusals(unittest.TestCase):
             (bytes.fromhex("6280"), (0, "LeftOut", "ILL-APDU.Forward-Notification")),
         ]
         for octets, wanted in rows:
-            for call in (illcanon.normalise, illcanon.check, illcanon.show, illcanon.digest):
+            for call in SINGLE:
                 self.assertEqual(self.refused(call, octets), (*wanted, 1))
             text, refusal = illcanon.dump(octets)
             self.assertEqual((refusal.offset, refusal.cause, refusal.part, refusal.message), (*wanted, 1))
@@ -170,6 +200,15 @@ class Refusals(unittest.TestCase):
         self.assertEqual([next(forms), next(forms)], [EXPIRED, REQUEST])
         self.assertEqual(self.refused(next, forms), (7, "Missing", "Expired.transaction-id", 3))
         self.assertEqual(self.refused(list, illcanon.normal_forms(EXPIRED + EXPIRED[:20])), (20, "Truncated", None, 2))
+
+    def test_a_stream_says_where_it_stops(self):
+        for call in (illcanon.messages, illcanon.normal_forms):
+            with self.assertRaises(Refused) as caught:
+                list(call(EXPIRED + REQUEST + b"\x74\x00"))
+            self.assertEqual(caught.exception.start, len(EXPIRED + REQUEST))
+            with self.assertRaises(Refused) as caught:
+                list(call(EXPIRED + EXPIRED[:20]))
+            self.assertEqual(caught.exception.start, len(EXPIRED))
 
     def test_a_refusal_is_a_line(self):
         with self.assertRaises(ValueError) as caught:
@@ -196,7 +235,7 @@ supplemental-item-description[2].direct-reference = oid 69ffffffffffffffffff7f
 supplemental-item-description[2].encoding.arbitrary = bits 5 f8
 date-returned = 20240229
 """
-SINGLE = (illcanon.normalise, illcanon.check, illcanon.show, illcanon.digest)
+SINGLE = (illcanon.normalise, illcanon.check, illcanon.show, illcanon.parse, illcanon.digest)
 
 
 def worked_rows():
@@ -300,6 +339,239 @@ class Profiles(unittest.TestCase):
                 except Refused as fault:
                     found.append((fault.offset, fault.cause, fault.part, fault.message))
                 self.assertEqual(found, wanted, octets.hex())
+
+
+class Pieces:
+    """A stream that gives at most this many octets at once, by `read` alone."""
+
+    def __init__(self, octets, most):
+        self.stream, self.most = io.BytesIO(octets), most
+
+    def read(self, size):
+        return self.stream.read(min(size, self.most))
+
+
+INCOMPLETE = bytes.fromhex("748030808001020000")
+
+
+def facts(result):
+    """What a result says, as a row."""
+    if isinstance(result, Message):
+        return result.number, result.offset, result.octets
+    return result.message, result.start, result.octets, result.offset, result.cause, result.part, result.end_known
+
+
+class Results(unittest.TestCase):
+    def results_are(self, octets, wanted, profile="2"):
+        """The results of octets, which are the same however they come."""
+        for source in (octets, bytearray(octets), io.BytesIO(octets), Pieces(octets, 1), Pieces(octets, 7), Pieces(octets, 1 << 20)):
+            found = list(illcanon.results(source, profile=profile))
+            self.assertEqual([facts(result) for result in found], wanted)
+
+    def test_results_go_on_after_a_refused_message(self):
+        size = len(EXPIRED)
+        open_ended = bytes.fromhex("74803000000000")
+        rows = [
+            (1, 0, EXPIRED),
+            (2, size, b"\x74\x00", 2, "Missing", "Expired.protocol-version-num", True),
+            (3, size + 2, REQUEST),
+            (4, size + 2 + len(REQUEST), open_ended[:6], 4, "Missing", "Expired.protocol-version-num", True),
+        ]
+        octets = EXPIRED + b"\x74\x00" + REQUEST + open_ended[:6]
+        self.results_are(octets, rows)
+        self.results_are(octets + EXPIRED, [*rows, (5, len(octets), EXPIRED)])
+        self.results_are(b"", [])
+
+    def test_results_end_where_the_end_is_unknown(self):
+        size = len(EXPIRED)
+        self.results_are(EXPIRED + EXPIRED[:20], [(1, 0, EXPIRED), (2, size, None, 20, "Truncated", None, False)])
+        self.results_are(EXPIRED + INCOMPLETE, [(1, 0, EXPIRED), (2, size, None, 7, "Missing", "Expired.transaction-id", False)])
+        self.results_are(b"\x74\xff" + EXPIRED, [(1, 0, None, 0, "BadLength", None, False)])
+
+    def test_results_of_large_messages(self):
+        refused = b"\x74\x83\x03\x00\x00" + b"\x05\x00" * 0x18000
+        size = len(refused)
+        rows = [(1, 0, refused, 5, "UnexpectedTag", None, True), (2, size, EXPIRED)]
+        for source in (refused + EXPIRED, io.BytesIO(refused + EXPIRED), Pieces(refused + EXPIRED, 5000)):
+            self.assertTrue([facts(result) for result in illcanon.results(source)] == rows)
+
+    def test_results_of_files(self):
+        for name, profile in [*((name, "2") for name, _ in FILES), ("module.ber", "module")]:
+            with open(os.path.join(TOP, "examples", name), "rb") as file:
+                found = list(illcanon.results(file, profile=profile))
+            self.assertEqual([it.octets for it in found], list(illcanon.messages(octets_of(name), profile=profile)))
+            self.assertEqual(b"".join(it.octets for it in found), octets_of(name))
+            self.assertEqual([it.number for it in found], list(range(1, len(found) + 1)))
+
+    def test_what_came_is_given_before_more_is_read(self):
+        read, write = os.pipe()
+        with open(read, "rb") as stream, open(write, "wb", buffering=0) as sink:
+            found = illcanon.results(stream)
+            for _ in range(3):
+                sink.write(EXPIRED)
+                self.assertEqual(next(found).octets, EXPIRED)
+            os.set_blocking(read, False)
+            self.assertRaises(BlockingIOError, next, illcanon.results(stream.raw))
+
+    def test_a_result_is_whole_in_another_process(self):
+        for result in illcanon.results(EXPIRED + b"\x74\x00" + EXPIRED[:20]):
+            again = pickle.loads(pickle.dumps(result))
+            self.assertEqual((type(again), facts(again), str(again)), (type(result), facts(result), str(result)))
+
+    def test_a_result_is_a_line(self):
+        lines = [str(result) for result in illcanon.results(b"\x74\x00" + EXPIRED[:20])]
+        wanted = ["refused at 2 in message 1: Missing Expired.protocol-version-num", "refused at 20 in message 2: Truncated; its end is unknown"]
+        self.assertEqual(lines, wanted)
+
+    def test_other_sources_are_errors(self):
+        for source in ("text", 7, None, ["x"]):
+            self.assertRaises(TypeError, illcanon.results, source)
+        self.assertRaises(TypeError, list, illcanon.results(io.StringIO("text")))
+        self.assertRaises(ValueError, illcanon.results, EXPIRED, profile="3")
+
+    def test_causes_are_those_of_the_header(self):
+        with open(os.path.join(TOP, "bindings", "c", "illcanon.h"), encoding="utf-8") as file:
+            words = re.findall(r"ILLCANON_(\w+) = (\d+)", file.read().partition("enum illcanon_cause {")[2].partition("};")[0])
+        names = {int(number): word.title().replace("_", "") for word, number in words}
+        self.assertEqual(dict(enumerate(illcanon.CAUSES, 1)), names)
+        for number, name in names.items():
+            self.assertEqual(Refused(0, name).cause_number, number)
+
+
+# Calls that end with STATUS, whatever they are given, three of them with SIZE as their size, and 22 causes.
+WRONG_LIBRARY = """
+#include <stddef.h>
+#include <stdint.h>
+#include <string.h>
+enum { ILLCANON_DONE = 0, ILLCANON_UNKNOWN_CAUSE = 7 };
+#ifdef VERSION
+uint32_t illcanon_version(uint8_t *buffer, size_t room, size_t *size) {
+    (void)room;
+    memcpy(buffer, VERSION, *size = strlen(VERSION));
+    return ILLCANON_DONE;
+}
+#endif
+uint32_t illcanon_cause_name(uint32_t cause, uint8_t *buffer, size_t room, size_t *size) {
+    (void)room;
+    *buffer = 'X';
+    *size = 1;
+    return cause <= 22 ? ILLCANON_DONE : ILLCANON_UNKNOWN_CAUSE;
+}
+uint32_t illcanon_normalise_as(uint32_t profile, const uint8_t *octets, size_t count, uint8_t *buffer, size_t room, size_t *size) {
+    *size = SIZE;
+    return STATUS;
+}
+uint32_t illcanon_next_as(uint32_t profile, const uint8_t *octets, size_t count, size_t *size) {
+    *size = SIZE;
+    return STATUS;
+}
+uint32_t illcanon_frame(const uint8_t *octets, size_t count, size_t *size) {
+    *size = SIZE;
+    return STATUS;
+}
+#define CALL(name) uint32_t name(void) { return STATUS; }
+CALL(illcanon_show_as)
+CALL(illcanon_json_as)
+CALL(illcanon_dump_as)
+CALL(illcanon_digest_as)
+CALL(illcanon_check_as)
+CALL(illcanon_same_as)
+CALL(illcanon_normalise_next_as)
+"""
+# A call of each function. It prints the name of the error that each raises.
+CALL_EACH = """
+import illcanon
+first = lambda call: next(call(b"x"))
+calls = [illcanon.normalise, illcanon.check, illcanon.show, illcanon.parse, illcanon.digest, illcanon.dump, illcanon.frame]
+for call in [*calls, lambda octets: illcanon.same(octets, octets)]:
+    try:
+        print(call(b"x"))
+    except Exception as error:
+        print(type(error).__name__)
+for call in (illcanon.messages, illcanon.normal_forms, illcanon.results):
+    try:
+        print(first(call))
+    except Exception as error:
+        print(type(error).__name__)
+"""
+CALL_SIZED = """
+import illcanon
+for call in (illcanon.normalise, lambda octets: next(illcanon.messages(octets)), lambda octets: next(illcanon.results(octets))):
+    try:
+        print(call(b"x"))
+    except Exception as error:
+        print(type(error).__name__)
+"""
+# What each call makes of 64 MiB of octets in little more memory.
+LARGE = """
+import illcanon, resource
+octets = bytes(1 << 26)
+resource.setrlimit(resource.RLIMIT_AS, (1 << 28, 1 << 28))
+for call in (illcanon.normalise, illcanon.show, illcanon.parse, illcanon.digest, illcanon.check):
+    try:
+        call(octets)
+    except illcanon.Refused as refused:
+        print(refused.offset)
+print(illcanon.dump(octets)[1].offset)
+"""
+
+
+class Libraries(unittest.TestCase):
+    """What the package does with a library that isn't its own, or doesn't do as its header says."""
+
+    def run_with(self, program, *defined):
+        with tempfile.TemporaryDirectory() as folder:
+            source, made = os.path.join(folder, "wrong.c"), os.path.join(folder, "wrong.so")
+            with open(source, "w", encoding="ascii") as file:
+                file.write(WRONG_LIBRARY)
+            subprocess.run(["cc", "-shared", "-fPIC", "-w", "-o", made, *defined, source], check=True)
+            return self.run_python(program, {**os.environ, "ILLCANON_LIBRARY": made})
+
+    def run_python(self, program, environment=None):
+        return subprocess.run([sys.executable, "-c", program], env=environment, capture_output=True, text=True, check=False, timeout=60)
+
+    def test_a_library_of_another_version_is_refused(self):
+        for defined, words in [(["-DVERSION=\"0.1.9\""], "is libillcanon 0.1.9"), ([], "has no illcanon_version")]:
+            done = self.run_with("import illcanon", *defined, "-DSTATUS=0", "-DSIZE=0")
+            self.assertEqual(done.returncode, 1)
+            line = done.stderr.splitlines()[-1]
+            self.assertTrue(line.startswith("ImportError: ") and words in line and illcanon.__version__ in line, line)
+
+    def test_an_unknown_status_is_an_error(self):
+        version = f'-DVERSION="{illcanon.__version__}"'
+        # no size is written, and no cause is named 0
+        rows = [(status, ["SystemError"] * 11) for status in (4, 6, 7, 99)]
+        rows.append((5, ["MemoryError"] * 6 + ["SystemError"] + ["MemoryError"] * 4))
+        rows.append((1, ["SystemError"] * 6 + ["ValueError"] + ["SystemError"] * 4))
+        for status, wanted in rows:
+            done = self.run_with(CALL_EACH, version, f"-DSTATUS={status}", "-DSIZE=0")
+            self.assertEqual((done.stdout.split(), done.stderr), (wanted, ""), status)
+
+    def test_a_size_that_can_not_be_is_an_error(self):
+        version = f'-DVERSION="{illcanon.__version__}"'
+        for status, size, wanted in [(0, 1000, ["SystemError"] * 3), (0, 0, ["b''", "SystemError", "SystemError"])]:
+            done = self.run_with(CALL_SIZED, version, f"-DSTATUS={status}", f"-DSIZE={size}")
+            self.assertEqual((done.stdout.split(), done.stderr), (wanted, ""), size)
+
+    def test_large_octets_take_no_room(self):
+        done = self.run_python(LARGE)
+        self.assertEqual((done.stdout.split(), done.stderr), (["0"] * 6, ""))
+
+    def test_octets_end_where_they_end(self):
+        message = octets_of("every-part.ber")[: len(next(illcanon.messages(octets_of("every-part.ber"))))]
+
+        class Longer(bytes):
+            def __len__(self):
+                return len(message)
+
+        front = Longer(message[:70])
+        for call in SINGLE:
+            with self.assertRaises(Refused) as caught:
+                call(front)
+            self.assertEqual((caught.exception.offset, caught.exception.cause), (70, "Truncated"))
+        self.assertEqual([facts(result)[3:5] for result in illcanon.results(front)], [(70, "Truncated")])
+        self.assertIsNone(illcanon.frame(front))
+        self.assertRaises(Refused, list, illcanon.messages(front))
 
 
 def octets_in(vector, name="octets", runs="runs"):

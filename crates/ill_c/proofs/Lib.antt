@@ -1,5 +1,7 @@
 pub mod CTexts
+pub mod CauseNames
 pub mod Framings
 pub mod Fronts
+pub mod Made
 pub mod OneResult
 pub mod Parts

@@ -9,11 +9,12 @@ use Rattle.ill_read.specs.Answers.{RefusesWholeIn}
 use Rattle.ill_normal.proofs.Canonical.{refuses_once, refuses_whole, spells_once}
 use Rattle.ill_c.specs.declared.refusal.IllcanonRefusal.{IllcanonRefusal}
 use Rattle.ill_c.specs.declared.status.Status.{Status}
-use Rattle.ill_c.specs.Calls.{IsMade, WritesIn, ChecksIn, ComparesIn, FindsIn, WritesFrontIn, DumpsIn, Frames}
+use Rattle.ill_c.specs.Calls.{IsMade, WritesIn, ChecksIn, ComparesIn, FindsIn, WritesFrontIn, DumpsIn, Frames, NamesCause, Puts}
 use Rattle.ill_c.specs.Memory.{Change, Fills, Lacks, Reports, IsFlag}
-use Rattle.ill_c.specs.OneResult.{WritesOnce, ChecksOnce, ComparesOnce, FindsOnce, WritesFrontOnce, DumpsOnce, FramesOnce}
+use Rattle.ill_c.specs.OneResult.{WritesOnce, ChecksOnce, ComparesOnce, FindsOnce, WritesFrontOnce, DumpsOnce, FramesOnce, NamesCauseOnce, PutsOnce}
 use Rattle.ill_c.specs.Refusals.{reported}
 use Rattle.ill_c.specs.Status.{EndsWith, status_number}
+use Rattle.ill_c.proofs.CauseNames.{one_name}
 use Rattle.ill_c.proofs.Framings.{frame_at_front, part_has_no_front}
 
 -- a call whose octets are refused in one way reports that refusal
@@ -61,6 +62,7 @@ module _ (p : Profile) (make : Apdu → List ℕ) (s : List ℕ) (buffer : Chang
   wrote Status.SecondRefused h = absurd h
   wrote Status.NeedsMore h = absurd h
   wrote Status.UnknownProfile h = absurd h
+  wrote Status.UnknownCause h = absurd h
 
   pub writes_once : (n : ℕ) → EndsWith n (WritesIn p make s buffer size refusal) → WritesOnce p make s buffer size refusal n
   writes_once n (status, e, h) = subst (WritesOnce p make s buffer size refusal) (sym e) (wrote status h)
@@ -89,6 +91,7 @@ module _ (p : Profile) (s : List ℕ) (normal : Change ℕ) (refusal : Change Il
   checked Status.NeedsMore h = absurd h
   checked Status.NoRoom h = absurd h
   checked Status.UnknownProfile h = absurd h
+  checked Status.UnknownCause h = absurd h
 
   pub checks_once : (n : ℕ) → EndsWith n (ChecksIn p s normal refusal) → ChecksOnce p s normal refusal n
   checks_once n (status, e, h) = subst (ChecksOnce p s normal refusal) (sym e) (checked status h)
@@ -130,6 +133,7 @@ module _ (p : Profile) (s t : List ℕ) (same : Change ℕ) (refusal : Change Il
   compared Status.NeedsMore h = absurd h
   compared Status.NoRoom h = absurd h
   compared Status.UnknownProfile h = absurd h
+  compared Status.UnknownCause h = absurd h
 
   pub compares_once : (n : ℕ) → EndsWith n (ComparesIn p s t same refusal) → ComparesOnce p s t same refusal n
   compares_once n (status, e, h) = subst (ComparesOnce p s t same refusal) (sym e) (compared status h)
@@ -167,6 +171,7 @@ module _ (p : Profile) (s : List ℕ) (size : Change ℕ) (refusal : Change Illc
   found Status.SecondRefused h = absurd h
   found Status.NoRoom h = absurd h
   found Status.UnknownProfile h = absurd h
+  found Status.UnknownCause h = absurd h
 
   pub finds_once : (n : ℕ) → EndsWith n (FindsIn p s size refusal) → FindsOnce p s size refusal n
   finds_once n (status, e, h) = subst (FindsOnce p s size refusal) (sym e) (found status h)
@@ -231,6 +236,7 @@ module _ (p : Profile) (s : List ℕ) (read : Change ℕ) (buffer : Change (List
   }
   wrote_front Status.SecondRefused h = absurd h
   wrote_front Status.UnknownProfile h = absurd h
+  wrote_front Status.UnknownCause h = absurd h
 
   pub writes_front_once : (n : ℕ) → EndsWith n (WritesFrontIn p s read buffer size refusal) → WritesFrontOnce p s read buffer size refusal n
   writes_front_once n (status, e, h) = subst (WritesFrontOnce p s read buffer size refusal) (sym e) (wrote_front status h)
@@ -268,6 +274,7 @@ module _ (p : Profile) (s : List ℕ) (buffer : Change (List ℕ)) (size : Chang
   dumped Status.SecondRefused h = absurd h
   dumped Status.NeedsMore h = absurd h
   dumped Status.UnknownProfile h = absurd h
+  dumped Status.UnknownCause h = absurd h
 
   pub dumps_once : (n : ℕ) → EndsWith n (DumpsIn p s buffer size refusal) → DumpsOnce p s buffer size refusal n
   dumps_once n (status, e, h) = subst (DumpsOnce p s buffer size refusal) (sym e) (dumped status h)
@@ -296,6 +303,63 @@ module _ (s : List ℕ) (size : Change ℕ) where
   framed_once Status.NoRoom h = absurd h
   framed_once Status.OutOfMemory h = absurd h
   framed_once Status.UnknownProfile h = absurd h
+  framed_once Status.UnknownCause h = absurd h
 
   pub frames_once : (n : ℕ) → EndsWith n (Frames s size) → FramesOnce s size n
   frames_once n (status, e, h) = subst (FramesOnce s size) (sym e) (framed_once status h)
+
+module _ (number : ℕ) (buffer : Change (List ℕ)) (size : Change ℕ) where
+  cause_named : (status : Status) → NamesCause number buffer size status → NamesCauseOnce number buffer size (status_number status)
+  cause_named Status.Done (d, is, fills) = record {
+    room = λ c e le. (refl, subst (λ o. Fills o buffer size) (one_name d c (is ∙ sym e)) fills);
+    no_room = λ c e lt.
+        let same = ap length (one_name d c (is ∙ sym e)) in absurd (let fits = fills.fits in omega (arith, same, lt, fits));
+    unknown = λ none. absurd (none d is);
+    buffer_stays = λ ne. absurd (ne refl);
+    size_stays = λ e. absurd (omega (arith, e));
+  }
+  cause_named Status.NoRoom (d, is, lacks) = record {
+    room = λ c e le.
+        let same = ap length (one_name d c (is ∙ sym e)) in absurd (let short = lacks.short in omega (arith, same, le, short));
+    no_room = λ c e lt. (refl, subst (λ o. Lacks o buffer size) (one_name d c (is ∙ sym e)) lacks);
+    unknown = λ none. absurd (none d is);
+    buffer_stays = λ ne. lacks.kept;
+    size_stays = λ e. absurd (omega (arith, e));
+  }
+  cause_named Status.UnknownCause (none, stays, size_stays) = record {
+    room = λ c e le. absurd (none c e);
+    no_room = λ c e lt. absurd (none c e);
+    unknown = λ h. refl;
+    buffer_stays = λ ne. stays;
+    size_stays = λ e. size_stays;
+  }
+  cause_named Status.Refused h = absurd h
+  cause_named Status.SecondRefused h = absurd h
+  cause_named Status.NeedsMore h = absurd h
+  cause_named Status.OutOfMemory h = absurd h
+  cause_named Status.UnknownProfile h = absurd h
+
+  pub names_cause_once : (n : ℕ) → EndsWith n (NamesCause number buffer size) → NamesCauseOnce number buffer size n
+  names_cause_once n (status, e, h) = subst (NamesCauseOnce number buffer size) (sym e) (cause_named status h)
+
+module _ (octets : List ℕ) (buffer : Change (List ℕ)) (size : Change ℕ) where
+  put_once : (status : Status) → Puts octets buffer size status → PutsOnce octets buffer size (status_number status)
+  put_once Status.Done fills = record {
+    room = λ le. (refl, fills);
+    no_room = λ lt. absurd (let fits = fills.fits in omega (arith, lt, fits));
+    buffer_stays = λ ne. absurd (ne refl);
+  }
+  put_once Status.NoRoom lacks = record {
+    room = λ le. absurd (let short = lacks.short in omega (arith, le, short));
+    no_room = λ lt. (refl, lacks);
+    buffer_stays = λ ne. lacks.kept;
+  }
+  put_once Status.Refused h = absurd h
+  put_once Status.SecondRefused h = absurd h
+  put_once Status.NeedsMore h = absurd h
+  put_once Status.OutOfMemory h = absurd h
+  put_once Status.UnknownProfile h = absurd h
+  put_once Status.UnknownCause h = absurd h
+
+  pub puts_once : (n : ℕ) → EndsWith n (Puts octets buffer size) → PutsOnce octets buffer size n
+  puts_once n (status, e, h) = subst (PutsOnce octets buffer size) (sym e) (put_once status h)

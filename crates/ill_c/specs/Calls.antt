@@ -1,9 +1,11 @@
 -- What each call does, by the status that it returns: in a profile (`In`), in the profile of a number if it has one (`As`), and in profile 2.
 use Rattle.std.specs.Prelude.{◌≡◌, ◌≢◌, ℕ, ◌≤◌, List, ◌++◌, length, take, Option, Some, None}
+use Rattle.std.specs.Str.{bytes_eq}
 use Rattle.ber_framing.specs.Framed.{IsFrame, IsPart}
 use Rattle.ber_leaf.specs.Profile.{Profile, profile_two}
 use Rattle.sha2.specs.Sha256.{sha256}
 use Rattle.ill_schema.specs.Apdu.{Apdu, SpellsApdu, Accepts, normal_form_in}
+use Rattle.ill_schema.specs.Causes.{cause_name, cause_number}
 use Rattle.ill_schema.specs.Profiles.{profile_of}
 use Rattle.ill_schema.specs.declared.profile.Profile.{Profile as Named}
 use Rattle.ill_schema.specs.declared.refusal.Cause.{Cause}
@@ -12,6 +14,8 @@ use Rattle.ill_refusals.specs.Outcome.{OnlyRefuses}
 use Rattle.ill_read.specs.Answers.{IsPartIn, RefusesWholeIn}
 use Rattle.ill_normal.specs.Compared.{RefusesSideIn}
 use Rattle.ill_normal.specs.declared.compare.Side.{Side}
+use Rattle.ill_json.specs.Json.{json_line_in}
+use Rattle.ill_json.specs.declared.line.LineHead.{LineHead}
 use Rattle.ill_c.specs.declared.refusal.IllcanonRefusal.{IllcanonRefusal}
 use Rattle.ill_c.specs.declared.status.Status.{Status}
 use Rattle.ill_c.specs.Memory.{Change, Stays, Fills, Lacks, Reports, IsFlag}
@@ -25,6 +29,15 @@ digest_in p a = sha256 (normal_form_in p a)
 
 abbrev pub digest : Apdu → List ℕ
 digest a = digest_in profile_two a
+
+-- what the line of JSON of an APDU says beside its value: the octets s spell it, under a number and after as many octets as the offset says
+abbrev pub head_of : ℕ → ℕ → List ℕ → Profile → Apdu → LineHead
+head_of number offset s p a =
+    record { number = number; offset = offset; octets = length s; is_normal = bytes_eq s (normal_form_in p a) }
+
+-- that line, without the name of a file
+abbrev pub json_in : ℕ → ℕ → List ℕ → Profile → Apdu → List ℕ
+json_in number offset s p a = json_line_in p None (head_of number offset s p a) a
 
 -- the octets are refused whatever follows them
 abbrev pub RefusesFront : Profile → List ℕ → Fault → Type 0
@@ -139,3 +152,16 @@ Frames s size Status.Done = IsFrame (take size.after s) × (size.after ≤ lengt
 Frames s size Status.NeedsMore = IsPart s × Stays size
 Frames s size Status.Refused = IsNeverFramed s × Stays size
 Frames s size _ = ⊥
+
+-- the octets were put into the buffer, where it has room for them
+abbrev pub Puts : List ℕ → Change (List ℕ) → Change ℕ → Status → Type 0
+Puts octets buffer size Status.Done = Fills octets buffer size
+Puts octets buffer size Status.NoRoom = Lacks octets buffer size
+Puts octets buffer size _ = ⊥
+
+-- the name of the cause of a number was put into the buffer, or no cause has the number
+abbrev pub NamesCause : ℕ → Change (List ℕ) → Change ℕ → Status → Type 0
+NamesCause number buffer size Status.Done = (cause : Cause) × (cause_number cause ≡ number) × Fills (cause_name cause) buffer size
+NamesCause number buffer size Status.NoRoom = (cause : Cause) × (cause_number cause ≡ number) × Lacks (cause_name cause) buffer size
+NamesCause number buffer size Status.UnknownCause = ((cause : Cause) → cause_number cause ≢ number) × Stays buffer × Stays size
+NamesCause number buffer size _ = ⊥

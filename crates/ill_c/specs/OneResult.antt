@@ -3,6 +3,7 @@ use Rattle.std.specs.Prelude.{◌≡◌, ◌≢◌, ℕ, ◌≤◌, ◌<◌, Lis
 use Rattle.ber_framing.specs.Framed.{IsFrame, IsPart}
 use Rattle.ber_leaf.specs.Profile.{Profile}
 use Rattle.ill_schema.specs.Apdu.{Apdu, SpellsApdu, Accepts, normal_form_in}
+use Rattle.ill_schema.specs.Causes.{cause_name, cause_number}
 use Rattle.ill_schema.specs.declared.refusal.Cause.{Cause}
 use Rattle.ill_refusals.specs.Fault.{Fault}
 use Rattle.ill_refusals.specs.Outcome.{OnlyRefuses}
@@ -75,3 +76,17 @@ pub record FramesOnce (s : List ℕ) (size : Change ℕ) (n : ℕ) : Type 0 wher
   pub part : IsPart s → n ≡ 3
   pub unframed : IsNeverFramed s → n ≡ 1
   pub size_stays : n ≢ 0 → Stays size
+
+-- of the call that writes the name of a cause
+pub record NamesCauseOnce (number : ℕ) (buffer : Change (List ℕ)) (size : Change ℕ) (n : ℕ) : Type 0 where
+  pub room : (c : Cause) → cause_number c ≡ number → length (cause_name c) ≤ length buffer.before → (n ≡ 0) × Fills (cause_name c) buffer size
+  pub no_room : (c : Cause) → cause_number c ≡ number → length buffer.before < length (cause_name c) → (n ≡ 4) × Lacks (cause_name c) buffer size
+  pub unknown : ((c : Cause) → cause_number c ≢ number) → n ≡ 7
+  pub buffer_stays : n ≢ 0 → Stays buffer
+  pub size_stays : n ≡ 7 → Stays size
+
+-- of the call that writes the version: a text that is always the same
+pub record PutsOnce (octets : List ℕ) (buffer : Change (List ℕ)) (size : Change ℕ) (n : ℕ) : Type 0 where
+  pub room : length octets ≤ length buffer.before → (n ≡ 0) × Fills octets buffer size
+  pub no_room : length buffer.before < length octets → (n ≡ 4) × Lacks octets buffer size
+  pub buffer_stays : n ≢ 0 → Stays buffer

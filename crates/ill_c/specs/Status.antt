@@ -11,6 +11,7 @@ status_number Status.NeedsMore = 3
 status_number Status.NoRoom = 4
 status_number Status.OutOfMemory = 5
 status_number Status.UnknownProfile = 6
+status_number Status.UnknownCause = 7
 
 -- the call returned the number of a status of which this holds
 abbrev pub EndsWith : ℕ → (Status → Type 0) → Type 0

@@ -3,16 +3,16 @@ ghost use Rattle.std.specs.Prelude.{ℕ, ◌≤◌, List, length};
 ghost use Rattle.ber_leaf.specs.Profile.{Profile};
 ghost use Rattle.ill_schema.specs.Apdu.{Apdu};
 ghost use Rattle.ill_schema.specs.declared.refusal.Cause.{Cause};
-ghost use Rattle.ill_c.specs.Calls.{WritesIn, ChecksIn, ComparesIn, FindsIn, WritesFrontIn, DumpsIn, Frames};
+ghost use Rattle.ill_c.specs.Calls.{WritesIn, ChecksIn, ComparesIn, FindsIn, WritesFrontIn, DumpsIn, Frames, NamesCause, Puts};
 ghost use Rattle.ill_c.specs.Memory.{Change};
-ghost use Rattle.ill_c.specs.OneResult.{WritesOnce, ChecksOnce, ComparesOnce, FindsOnce, WritesFrontOnce, DumpsOnce, FramesOnce};
+ghost use Rattle.ill_c.specs.OneResult.{WritesOnce, ChecksOnce, ComparesOnce, FindsOnce, WritesFrontOnce, DumpsOnce, FramesOnce, NamesCauseOnce, PutsOnce};
 ghost use Rattle.ill_c.specs.Refusals.{part_text};
 ghost use Rattle.ill_c.specs.Status.{EndsWith};
 
 use crate::refusal::IllcanonRefusal;
 
 /// The contract of each call leaves one result in each profile, unless memory runs out: so a body that returns or writes anything else
-/// doesn't meet it. Of the text of a dump nothing is said.
+/// doesn't meet it. What is written (`make`) is a normal form, a text, a line of JSON or a digest. Of the text of a dump nothing is said.
 pub fn calls_have_one_result()
     ensures writes { (p : Profile) (make : Apdu → List ℕ) (s : List ℕ) (buffer : Change (List ℕ))
         (size : Change ℕ) (refusal : Change IllcanonRefusal) (n : ℕ)
@@ -36,6 +36,10 @@ pub fn calls_have_one_result()
         → EndsWith n (DumpsIn p s buffer size refusal) → DumpsOnce p s buffer size refusal n }
     ensures frames { (s : List ℕ) (size : Change ℕ) (n : ℕ)
         → EndsWith n (Frames s size) → FramesOnce s size n }
+    ensures names_cause { (number : ℕ) (buffer : Change (List ℕ)) (size : Change ℕ) (n : ℕ)
+        → EndsWith n (NamesCause number buffer size) → NamesCauseOnce number buffer size n }
+    ensures puts { (octets : List ℕ) (buffer : Change (List ℕ)) (size : Change ℕ) (n : ℕ)
+        → EndsWith n (Puts octets buffer size) → PutsOnce octets buffer size n }
 {}
 
 /// The name of a part has at most 63 octets, so a zero follows it in the 64 of a refusal.

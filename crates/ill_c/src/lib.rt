@@ -4,9 +4,11 @@
 //! exactly what its contract says: a buffer is written only where the call is done, and nothing after the octets.
 #![tactic(auto)]
 
+mod cause;
 mod dump;
 mod frame;
 mod front;
+mod json;
 mod laws;
 mod next;
 mod octets;
@@ -17,10 +19,13 @@ mod status;
 #[cfg(test)]
 mod tests;
 mod verdict;
+mod version;
 mod whole;
 
+pub use cause::illcanon_cause_name;
 pub use dump::{illcanon_dump, illcanon_dump_as};
 pub use frame::illcanon_frame;
+pub use json::{illcanon_json, illcanon_json_as};
 pub use laws::{calls_have_one_result, parts_are_short};
 pub use next::{
     illcanon_next, illcanon_next_as, illcanon_normalise_next, illcanon_normalise_next_as,
@@ -32,3 +37,4 @@ pub use octets::{
 pub use refusal::IllcanonRefusal;
 pub use status::Status;
 pub use verdict::{illcanon_check, illcanon_check_as, illcanon_same, illcanon_same_as};
+pub use version::illcanon_version;

@@ -1,7 +1,7 @@
 //! Octets that are put into a buffer.
 ghost use Rattle.std.specs.Prelude.{◌≡◌, ◌+◌, ◌≤◌, ◌++◌, length, take, drop};
+ghost use Rattle.ill_c.specs.Calls.{Puts};
 ghost use Rattle.ill_c.specs.Memory.{change};
-ghost use Rattle.ill_c.specs.code.Steps.{Puts};
 
 use crate::status::Status;
 

@@ -19,6 +19,8 @@ pub enum Status {
     OutOfMemory,
     /// The number that was given names no profile.
     UnknownProfile,
+    /// The number that was given names no cause.
+    UnknownCause,
 }
 
 impl Status {
@@ -34,6 +36,7 @@ impl Status {
             Status::NoRoom => 4,
             Status::OutOfMemory => 5,
             Status::UnknownProfile => 6,
+            Status::UnknownCause => 7,
         }
     }
 }

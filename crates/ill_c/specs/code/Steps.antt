@@ -10,14 +10,8 @@ use Rattle.ill_read.specs.declared.normal.NormalForm.{NormalForm}
 use Rattle.ill_read.specs.declared.outline_draft.Outline.{Outline}
 use Rattle.ill_c.specs.declared.refusal.IllcanonRefusal.{IllcanonRefusal}
 use Rattle.ill_c.specs.declared.status.Status.{Status}
-use Rattle.ill_c.specs.Memory.{Change, Stays, Fills, Lacks}
+use Rattle.ill_c.specs.Memory.{Change, Stays}
 use Rattle.ill_c.specs.Refusals.{reported}
-
--- the octets were put into the buffer, where it has room for them
-abbrev pub Puts : List ℕ → Change (List ℕ) → Change ℕ → Status → Type 0
-Puts octets buffer size Status.Done = Fills octets buffer size
-Puts octets buffer size Status.NoRoom = Lacks octets buffer size
-Puts octets buffer size _ = ⊥
 
 -- a failure was reported
 abbrev pub IsReported : Failure → Change IllcanonRefusal → Status → Type 0

@@ -1,8 +1,8 @@
 //! Each call once, on an EXPIRED in indefinite form and on what isn't one.
 use crate::{
-    IllcanonRefusal, Status, illcanon_check, illcanon_digest, illcanon_dump, illcanon_frame,
-    illcanon_next, illcanon_normalise, illcanon_normalise_next, illcanon_same, illcanon_show,
-    parts_are_short,
+    IllcanonRefusal, Status, illcanon_cause_name, illcanon_check, illcanon_digest, illcanon_dump,
+    illcanon_frame, illcanon_json, illcanon_next, illcanon_normalise, illcanon_normalise_next,
+    illcanon_same, illcanon_show, illcanon_version, parts_are_short,
 };
 
 const EXPIRED: &[u8] =
@@ -24,6 +24,11 @@ protocol-version-num = 2
 transaction-id.transaction-group-qualifier = general \"G\"
 transaction-id.transaction-qualifier = general \"Q\"
 service-date-time.date-time-of-this-service.date = 20240229
+";
+
+/// The line of INDEFINITE, by RFC 8259 and the names of the tables.
+const LINE: &[u8] =
+    b"{\"number\":7,\"offset\":90,\"octets\":47,\"apdu\":\"Expired\",\"normal\":false,\"value\":{\"protocol-version-num\":2,\"transaction-id\":{\"transaction-group-qualifier\":{\"general\":\"G\"},\"transaction-qualifier\":{\"general\":\"Q\"}},\"service-date-time\":{\"date-time-of-this-service\":{\"date\":\"20240229\"}}}}
 ";
 
 const ELEMENTS: &[u8] = b"message 7: Expired, 33 octets, normal
@@ -94,6 +99,58 @@ fn octets_are_written(rt: HostRuntime) {
     assert!(rt;
         status == Status::Done.number() && begins(&buffer, size, TEXT),
         "show"
+    );
+}
+
+#[test]
+fn a_line_is_written(rt: HostRuntime) {
+    let alloc = rt.alloc();
+    let (mut buffer, mut size, mut refusal) = ([77; 512], 0, UNSET);
+    let status = illcanon_json(
+        alloc,
+        INDEFINITE,
+        7,
+        90,
+        &mut buffer,
+        &mut size,
+        &mut refusal,
+    );
+    assert!(rt;
+        status == Status::Done.number() && begins(&buffer, size, LINE),
+        "json"
+    );
+    let status = illcanon_json(
+        alloc,
+        INCOMPLETE,
+        7,
+        90,
+        &mut buffer,
+        &mut size,
+        &mut refusal,
+    );
+    assert!(rt;
+        status == Status::Refused.number() && refusal.at == 7 && refusal.cause == 10,
+        "json of what is refused"
+    );
+}
+
+#[test]
+fn words_are_written(rt: HostRuntime) {
+    let (mut buffer, mut size) = ([77; 32], 0);
+    let status = illcanon_cause_name(10, &mut buffer, &mut size);
+    assert!(rt;
+        status == Status::Done.number() && begins(&buffer, size, b"Missing"),
+        "the name of a cause"
+    );
+    let status = illcanon_cause_name(23, &mut buffer, &mut size);
+    assert!(rt;
+        status == Status::UnknownCause.number() && size == 7,
+        "no cause"
+    );
+    let status = illcanon_version(&mut buffer, &mut size);
+    assert!(rt;
+        status == Status::Done.number() && begins(&buffer, size, b"0.2.0"),
+        "version"
     );
 }
 

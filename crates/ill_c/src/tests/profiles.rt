@@ -1,8 +1,8 @@
 //! Each call in the profile of a number once, on an EXPIRED with an extension.
 use crate::{
     IllcanonRefusal, Status, illcanon_check_as, illcanon_digest_as, illcanon_dump_as,
-    illcanon_next_as, illcanon_normalise_as, illcanon_normalise_next_as, illcanon_same_as,
-    illcanon_show_as,
+    illcanon_json_as, illcanon_next_as, illcanon_normalise_as, illcanon_normalise_next_as,
+    illcanon_same_as, illcanon_show_as,
 };
 
 /// Its part critical is written though it is FALSE, in 48 octets.
@@ -25,6 +25,11 @@ service-date-time.date-time-of-this-service.date = 20240229
 expired-extensions[0].identifier = 1
 expired-extensions[0].critical = FALSE
 expired-extensions[0].item = foreign 05:\"\"
+";
+
+/// The line of EXTENDED, by RFC 8259 and the names of the tables.
+const LINE: &[u8] =
+    b"{\"number\":7,\"offset\":90,\"octets\":48,\"apdu\":\"Expired\",\"normal\":false,\"value\":{\"protocol-version-num\":2,\"transaction-id\":{\"transaction-group-qualifier\":{\"general\":\"G\"},\"transaction-qualifier\":{\"general\":\"Q\"}},\"service-date-time\":{\"date-time-of-this-service\":{\"date\":\"20240229\"}},\"expired-extensions\":[{\"identifier\":1,\"critical\":false,\"item\":{\"foreign\":\"0500\"}}]}}
 ";
 
 /// A refusal that no call sets.
@@ -70,6 +75,17 @@ fn octets_are_written(rt: HostRuntime) {
     assert!(rt; is_written(status, &buffer, size, DIGEST), "digest");
     let status = illcanon_show_as(alloc, MODULE, EXTENDED, 7, &mut buffer, &mut size, &mut why);
     assert!(rt; is_written(status, &buffer, size, TEXT), "show");
+    let status = illcanon_json_as(
+        alloc,
+        MODULE,
+        EXTENDED,
+        7,
+        90,
+        &mut buffer,
+        &mut size,
+        &mut why,
+    );
+    assert!(rt; is_written(status, &buffer, size, LINE), "json");
     let (mut large, first) = (
         [77; 2048],
         b"message 7: Expired, 48 octets, not normal, normal form 45 octets\n",

@@ -1,0 +1,123 @@
+//! A message as a line of JSON.
+ghost use Rattle.std.specs.Prelude.{◌≡◌, IfOk, length};
+ghost use Rattle.ber_leaf.specs.Profile.{Profile as Meaning, profile_two};
+ghost use Rattle.ill_schema.specs.Apdu.{Apdu, normal_form_in};
+ghost use Rattle.ill_schema.specs.Profiles.{profile_of};
+ghost use Rattle.ill_read.specs.Outline.{IsOutlineOf};
+ghost use Rattle.ill_c.specs.Calls.{Writes, WritesAs, WritesIn, head_of, json_in};
+ghost use Rattle.ill_c.specs.Memory.{change};
+ghost use Rattle.ill_c.specs.Profiles.{profile_numbered};
+ghost use Rattle.ill_c.specs.Status.{EndsWith};
+
+use crate::profile::profile_numbered;
+use crate::put::put;
+use crate::refusal::{IllcanonRefusal, report};
+use crate::status::Status;
+use crate::whole::{read_whole, read_whole_outline};
+use ill_json::{LineHead, json_line_as};
+use ill_normal::{MessagePlace, NormalForm, Profile};
+use ill_read::Outline;
+use std::alloc::{AllocError, Global};
+
+/// Writes the line of JSON of the message that the octets are, under a number, after as many octets as the offset says.
+#[unsafe(no_mangle)]
+pub extern "C" fn illcanon_json(
+    alloc: Global,
+    octets: &[u8],
+    number: u32,
+    offset: u64,
+    buffer: &mut [u8],
+    size: &mut usize,
+    refusal: &mut IllcanonRefusal,
+) -> u32
+    ensures { EndsWith result (Writes (json_in number offset octets.now profile_two) octets.now
+        (change buffer.old buffer.new) (change size.old size.new)
+        (change refusal.old refusal.new)) }
+{
+    let place = MessagePlace { number, offset };
+    json(alloc, Profile::Two, octets, place, buffer, size, refusal).number()
+}
+
+/// Writes the line of JSON of the message in the profile of a number that the octets are, under another number, after as many octets as
+/// the offset says.
+#[unsafe(no_mangle)]
+pub extern "C" fn illcanon_json_as(
+    alloc: Global,
+    profile: u32,
+    octets: &[u8],
+    number: u32,
+    offset: u64,
+    buffer: &mut [u8],
+    size: &mut usize,
+    refusal: &mut IllcanonRefusal,
+) -> u32
+    ensures { EndsWith result (WritesAs (profile_numbered profile)
+        (json_in number offset octets.now) octets.now (change buffer.old buffer.new)
+        (change size.old size.new) (change refusal.old refusal.new)) }
+{
+    let place = MessagePlace { number, offset };
+    match profile_numbered(profile) {
+        Some(profile) => json(alloc, profile, octets, place, buffer, size, refusal).number(),
+        None => Status::UnknownProfile.number(),
+    }
+}
+
+fn json(
+    alloc: Global,
+    profile: Profile,
+    octets: &[u8],
+    place: MessagePlace,
+    buffer: &mut [u8],
+    size: &mut usize,
+    refusal: &mut IllcanonRefusal,
+) -> Status
+    ensures { WritesIn (profile_of profile)
+        (json_in place.number place.offset octets.now (profile_of profile)) octets.now
+        (change buffer.old buffer.new) (change size.old size.new)
+        (change refusal.old refusal.new) result }
+{
+    let normal = match read_whole(alloc, profile, octets) {
+        Ok(normal) => normal,
+        Err(failure) => return report(failure, refusal),
+    };
+    let outline = match read_whole_outline(alloc, profile, octets) {
+        Ok(outline) => outline,
+        Err(failure) => return report(failure, refusal),
+    };
+    match line(alloc, profile, octets, place, &normal, &outline) {
+        Ok(line) => put(&line, buffer, size),
+        Err(AllocError) => Status::OutOfMemory,
+    }
+}
+
+/// The line of the message in the profile that the octets are, whose normal form and outline these are.
+fn line(
+    alloc: Global,
+    profile: Profile,
+    octets: &[u8],
+    place: MessagePlace,
+    normal: &NormalForm,
+    outline: &Outline,
+) -> Result<Vec<u8>, AllocError>
+    ensures { (a : Apdu) → normal.now.octets.items ≡ normal_form_in (profile_of profile) a
+        → normal.now.input_len ≡ length octets.now → IsOutlineOf outline.now a
+        → IfOk result (λ line. line.items
+        ≡ json_in place.number place.offset octets.now (profile_of profile) a) }
+{
+    let head = head(octets, place, normal);
+    json_line_as(alloc, profile, Vec::new(alloc), None, head, outline)
+}
+
+/// The head of the line: all that it says beside the value.
+fn head(octets: &[u8], place: MessagePlace, normal: &NormalForm) -> LineHead
+    ensures { (p : Meaning) (a : Apdu) → normal.now.octets.items ≡ normal_form_in p a
+        → normal.now.input_len ≡ length octets.now
+        → result ≡ head_of place.number place.offset octets.now p a }
+{
+    LineHead {
+        number: place.number,
+        offset: place.offset,
+        octets: normal.input_len,
+        is_normal: octets == normal.octets.as_slice(),
+    }
+}
