@@ -21,6 +21,7 @@ complete -c illcanon -n '__fish_seen_subcommand_from show check digest canonical
 complete -c illcanon -n '__fish_seen_subcommand_from show check digest canonicalise' -l summary -d 'Report numbers at the end'
 complete -c illcanon -n '__fish_seen_subcommand_from show' -l json -d 'Write a line of JSON for each message'
 complete -c illcanon -n '__fish_seen_subcommand_from check digest canonicalise' -l lines -d 'Each line is a message in hexadecimal'
+complete -c illcanon -n '__fish_seen_subcommand_from show check digest dump' -s H -l with-filename -d 'Name the file in each line'
 complete -c illcanon -n '__fish_seen_subcommand_from show check digest dump canonicalise' -l files-from -r -F -d 'Read names of files, each ended by a NUL'
 complete -c illcanon -n '__fish_seen_subcommand_from canonicalise' -l whole -d 'Replace the output only if every message was good'
 complete -c illcanon -n '__fish_seen_subcommand_from canonicalise' -s o -l output -r -F -d 'Write all normal forms to one file'

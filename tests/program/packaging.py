@@ -66,7 +66,7 @@ def check_man_page(commands):
         name = re.match(r"\.Cm (\w+)", part).group(1)
         found[name] = found.get(name, set()) | {"-" + option for option in re.findall(r"\bFl (-?\w[\w-]*)", part)}
     found.pop("help")
-    long = {name: {option for option in without_help(options) if option != "--output"} for name, options in commands.items() if name}
+    long = {name: {option for option in without_help(options) if option not in ("--output", "--with-filename")} for name, options in commands.items() if name}
     expect(found, long, "man/illcanon.1, synopsis")
     described = text[text.index(".Sh OPTIONS") : text.index(".Sh EXIT STATUS")]
     listed = {"-" + option for line in re.findall(r"^\.It (Fl .*)$", described, re.M) for option in re.findall(r"(?:Fl|,) (-?\w[\w-]*)", line)}

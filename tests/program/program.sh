@@ -222,6 +222,12 @@ row show-as-json 0 '{"number":1,"offset":0,"octets":33,"apdu":"Expired","normal"
 row show-many-as-json 1 '{"file":"FIRST","number":2,"offset":2,"octets":33,"apdu":"Expired","normal":true,'"$value"'{"file":"FIRST","number":3,"offset":35,"octets":47,"apdu":"Expired","normal":false,'"$value" \
     "illcanon: FIRST: refused at 2 in message 1: ${missing}illcanon: 2 files, 3 messages, 1 normal, 1 not normal, 1 refused, 82 octets\n" show --json --keep-going --summary FIRST NOTHING
 
+# -H names the one file, too.
+row name-of-one 1 "FIRST: message 2: ${normal}FIRST: message 3: ${not_normal}" "illcanon: FIRST: refused at 2 in message 1: ${missing}" check -H --keep-going FIRST
+row name-of-one-refused 1 "MIDDLE: message 1: $normal" "illcanon: MIDDLE: refused at 2 in message 2: ${missing}" check --with-filename MIDDLE
+row name-of-one-in-json 0 '{"file":"GOOD","number":1,"offset":0,"octets":33,"apdu":"Expired","normal":true,'"$value" '' show -H --json GOOD
+row name-of-a-digest 0 "$digest  GOOD:1\n" '' digest -H GOOD
+
 # Many files into one. forms NAME COUNT: OUT holds the normal form this many times
 forms() {
     i=0

@@ -20,6 +20,10 @@ file_rule id = record (new_rule id) { value_names = 1; required = true }
 abbrev pub list_rule : Rule
 list_rule = record (new_rule (codes "files-from")) { long = Some (codes "files-from"); value_names = 1 }
 
+-- the flag `-H`, `--with-filename`
+abbrev pub filename_rule : Rule
+filename_rule = record (flag_rule (codes "with-filename")) { short = Some 72 }
+
 -- any number of files
 abbrev pub files_rule : Rule
 files_rule = record (new_rule (codes "file")) { value_names = 1; action = Some Append }
@@ -45,6 +49,10 @@ profile_rule names = record (new_rule (codes "profile")) {
 abbrev pub with_files : App → App
 with_files a = with_rule (with_rule a list_rule) files_rule
 
+-- the same, where lines may name their file
+abbrev pub with_names : App → App
+with_names a = with_rule (with_files a) filename_rule
+
 abbrev pub top : App
 top = let a = new_app (codes "illcanon") in
     record a { top = record a.top { has_version = true; subcommand_required = true; arg_required_else_help = true } }
@@ -61,7 +69,7 @@ module _ (names : ProfileNames) where
   with_hex name = with_rule (with_rule (new_app name) (flag_rule (codes "hex"))) (profile_rule names)
 
   abbrev pub each_file : Text → App
-  each_file name = with_files (with_hex name)
+  each_file name = with_names (with_hex name)
 
   abbrev pub each_counted : Text → App
   each_counted name = with_rule (with_rule (each_file name) (flag_rule (codes "keep-going"))) (flag_rule (codes "summary"))
@@ -76,7 +84,7 @@ module _ (names : ProfileNames) where
   with_lines name = with_rule (with_going name) (flag_rule (codes "lines"))
 
   abbrev pub each_line : Text → App
-  each_line name = with_files (with_lines name)
+  each_line name = with_names (with_lines name)
 
   -- a command on two files
   abbrev pub two_files : Text → App

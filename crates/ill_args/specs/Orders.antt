@@ -79,6 +79,7 @@ pub record IsOrderOf (found : Option (Text × List Row)) (order : Order) : Type 
   pub going : order.keep_going ≡ is_set (codes "keep-going") rows
   pub summary : order.summary ≡ is_set (codes "summary") rows
   pub json : order.json ≡ is_set (codes "json") rows
+  pub filename : order.with_filename ≡ is_set (codes "with-filename") rows
   pub whole : order.whole ≡ is_set (codes "whole") rows
   pub files : HasFiles rows order.task
 

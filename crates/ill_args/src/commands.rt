@@ -2,7 +2,7 @@
 ghost use Rattle.std.specs.Prelude.{◌≡◌, codes, false, IfOk};
 ghost use Rattle.clap.specs.Words.{app_of, rule_of};
 ghost use Rattle.clap.specs.declared.builder.command.Command.TheViews.{out-Command as fields_of};
-ghost use Rattle.ill_args.specs.CommandLine.{each_counted, each_file, each_going, each_line, file_rule, files_rule, flag_rule, into_one, list_rule, output_rule, profile_rule, program_of, topic, two_files, with_files, with_going, with_hex, with_lines, with_output, with_whole};
+ghost use Rattle.ill_args.specs.CommandLine.{each_counted, each_file, each_going, each_line, file_rule, filename_rule, files_rule, flag_rule, into_one, list_rule, output_rule, profile_rule, program_of, topic, two_files, with_files, with_going, with_hex, with_lines, with_names, with_output, with_whole};
 ghost use Rattle.ill_args.specs.code.Commands.{AreAllNames};
 
 use crate::{help, topics};
@@ -18,6 +18,9 @@ const HEX: &str = "The input is hexadecimal text, in either case, with or withou
 
 const KEEP_GOING: &str =
     "Reports a message that is refused, and goes on with the next one, where its end is known";
+
+const WITH_FILENAME: &str =
+    "Names the file in each line, even if there is one file; with --lines it changes nothing";
 
 const SUMMARY: &str =
     "Writes a line to standard error at the end: how many files, messages and octets there were";
@@ -68,6 +71,18 @@ fn list<'a>(alloc: Global) -> Arg<'a>
         .long("files-from")
         .value_name("LIST")
         .help("Reads names of files from LIST, each ended by a NUL; `-` is standard input")
+}
+
+/// The flag `-H`.
+fn filename<'a>(alloc: Global) -> Arg<'a>
+    ensures rule { rule_of result ≡ filename_rule }
+    ensures local { result.global ≡ false }
+{
+    Arg::new(alloc, "with-filename")
+        .short('H')
+        .long("with-filename")
+        .action(ArgAction::SetTrue)
+        .help(WITH_FILENAME)
 }
 
 fn output<'a>(alloc: Global) -> Arg<'a>
@@ -137,6 +152,19 @@ fn with_files<'a>(
     command.arg(list(alloc))?.arg(files(alloc, help))
 }
 
+/// A command, and its files, which its lines may name.
+fn with_names<'a>(
+    alloc: Global,
+    command: Command<'a>,
+    help: &'a str,
+) -> Result<Command<'a>, AllocError>
+    requires { (fields_of command).has_globals ≡ false }
+    ensures { IfOk result (λ c. (app_of c ≡ with_names (app_of command.entry))
+        × ((fields_of c).has_globals ≡ false)) }
+{
+    with_files(alloc, command, help)?.arg(filename(alloc))
+}
+
 fn on_each<'a>(
     alloc: Global,
     profiles: &'a [&'a str],
@@ -147,7 +175,7 @@ fn on_each<'a>(
     ensures { IfOk result (λ c. (app_of c ≡ each_file profiles.entry name.entry.now)
         × ((fields_of c).has_globals ≡ false)) }
 {
-    with_files(
+    with_names(
         alloc,
         by_hex(alloc, profiles, name, about, after)?,
         MESSAGES,
@@ -208,7 +236,7 @@ fn on_each_or_lines<'a>(
     ensures { IfOk result (λ c. (app_of c ≡ each_line profiles.entry name.entry.now)
         × ((fields_of c).has_globals ≡ false)) }
 {
-    with_files(
+    with_names(
         alloc,
         by_lines(alloc, profiles, name, about, after)?,
         MESSAGES,

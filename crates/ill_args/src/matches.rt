@@ -60,6 +60,7 @@ fn order_of<'a>(alloc: Global, matches: &ArgMatches<'a>) -> Result<Order<'a>, Li
         keep_going: is_set(words, "keep-going"),
         summary: is_set(words, "summary"),
         json: is_set(words, "json"),
+        with_filename: is_set(words, "with-filename"),
         whole: is_set(words, "whole"),
         task,
     })

@@ -28,6 +28,8 @@ pub struct Order<'a> {
     pub json: bool,
     /// True if a line at the end says how many files and messages there were.
     pub summary: bool,
+    /// True if each line names its file, even if there is one file.
+    pub with_filename: bool,
     /// True if the output of `canonicalise` is replaced only if every message was good.
     pub whole: bool,
     pub task: Task<'a>,

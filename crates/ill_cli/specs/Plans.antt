@@ -1,5 +1,5 @@
 -- What an order does: which job, by which flags, with which files.
-use Rattle.std.specs.Prelude.{ℕ, Bool, List, if◌then◌else◌, nat_lt}
+use Rattle.std.specs.Prelude.{ℕ, Bool, false, List, ◌||◌, if◌then◌else◌, nat_lt}
 use Rattle.std.specs.Borrow.{Bor}
 use Rattle.ill_commands.specs.declared.job.Job.{Job}
 use Rattle.ill_commands.specs.declared.job.JobOptions.{JobOptions}
@@ -13,9 +13,15 @@ use Rattle.ill_cli.specs.declared.plan.InputAction.{InputAction}
 use Rattle.ill_cli.specs.declared.plan.Plan.{Plan}
 use Rattle.ill_cli.specs.declared.plan.ReadOptions.{ReadOptions}
 
--- `--profile`, `--hex`, `--keep-going` and `--summary` say how messages are read
+-- `--profile`, `--hex`, `--keep-going` and `--summary` say how messages are read, and `-H` that lines name their input
 abbrev pub read_options_of : Order → ReadOptions
-read_options_of order = record { profile = order.profile; hex = order.hex; keep_going = order.keep_going; compares = order.summary }
+read_options_of order = record {
+  profile = order.profile;
+  hex = order.hex;
+  keep_going = order.keep_going;
+  compares = order.summary;
+  names_inputs = order.with_filename;
+}
 
 -- what `show` writes of a message, with `--json` and without
 abbrev pub shown_as : Bool → Job
@@ -45,14 +51,20 @@ plan_of order = elim order.task as (λ _. Plan) [
   | Task.Compare first second ↦ Plan.Compare (read_options_of order) first second
 ]
 
--- the work of a job on the input of this name, which its lines have where it is one of several
+-- lines name their input, even if there is one
+abbrev pub names_inputs : Action → Bool
+names_inputs (Action.Messages job reading) = reading.names_inputs
+names_inputs (Action.Elements reading) = reading.names_inputs
+names_inputs (Action.Lines options) = false
+
+-- the work of a job on the input of this name, which its lines have where it is one of several, or where that is asked for
 abbrev pub options_of : Job → ReadOptions → Bor (List ℕ) → ℕ → JobOptions
 options_of job reading name count = record {
   job = job;
   profile = reading.profile;
   hex = reading.hex;
   name = name;
-  names_input = nat_lt 1 count;
+  names_input = reading.names_inputs || nat_lt 1 count;
   compares = reading.compares;
 }
 
@@ -61,5 +73,5 @@ abbrev pub input_action_of : Action → Bor (List ℕ) → ℕ → InputAction
 input_action_of (Action.Messages job reading) name count =
     if reading.keep_going then InputAction.AcceptedMessages (options_of job reading name count) else InputAction.Messages (options_of job reading name count)
 input_action_of (Action.Elements reading) name count =
-    InputAction.Elements (record { profile = reading.profile; hex = reading.hex; name = name; names_input = nat_lt 1 count })
+    InputAction.Elements (record { profile = reading.profile; hex = reading.hex; name = name; names_input = reading.names_inputs || nat_lt 1 count })
 input_action_of (Action.Lines work) name count = InputAction.Lines work

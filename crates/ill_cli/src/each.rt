@@ -13,7 +13,8 @@ use std::alloc::{AllocError, Global};
 use std::rt::Files;
 use std::str;
 
-/// Prints what is made of each input, and the line of each error, and returns the exit status. Of several files each line names its file.
+/// Prints what is made of each input, and the line of each error, and returns the exit status. Of several files each line names its file,
+/// and of one where that is asked for.
 pub fn print_each<R: Print + Eprint + Input + Files + AllocGlobal + Host>(
     rt: &R,
     action: Action,
@@ -32,7 +33,7 @@ pub fn print_each<R: Print + Eprint + Input + Files + AllocGlobal + Host>(
         return tally.end(rt, &Err(ProgramError::from(LineFault::InputTwice)));
     }
     match names.as_slice() {
-        [name] => {
+        [name] if !action.names_inputs() => {
             let done = one_file(rt, action, name, 1, tally);
             tally.end(rt, &done)
         }

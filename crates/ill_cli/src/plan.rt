@@ -1,6 +1,6 @@
 //! Plans of orders: a job, its options and its files.
 ghost use Rattle.std.specs.Prelude.{◌≡◌};
-ghost use Rattle.ill_cli.specs.Plans.{action_of, by_line, plan_of, input_action_of};
+ghost use Rattle.ill_cli.specs.Plans.{action_of, by_line, names_inputs, plan_of, input_action_of};
 
 use ill_args::{FileJob, Inputs, Order, Task};
 use ill_commands::{Job, JobOptions};
@@ -19,6 +19,8 @@ pub struct ReadOptions {
     pub keep_going: bool,
     /// True if each message is compared with its normal form, so that those in normal form are counted.
     pub compares: bool,
+    /// True if lines name their input, even if there is one input.
+    pub names_inputs: bool,
 }
 
 /// The action of a command on each of its inputs.
@@ -82,6 +84,7 @@ impl<'a> Plan<'a> {
             keep_going,
             json,
             summary,
+            with_filename,
             whole,
             task,
         } = order;
@@ -90,6 +93,7 @@ impl<'a> Plan<'a> {
             hex,
             keep_going,
             compares: summary,
+            names_inputs: with_filename,
         };
         let canonical = by_line(lines, LineJob::Canonicalise, Job::Canonicalise, reading);
         match task {
@@ -131,6 +135,18 @@ fn action_of(job: FileJob, lines: bool, json: bool, reading: ReadOptions) -> Act
     }
 }
 
+impl Action {
+    /// Tells whether lines name their input, even if there is one input.
+    pub fn names_inputs(&self) -> bool
+        ensures { result ≡ names_inputs self.now }
+    {
+        match self {
+            Action::Messages(_, reading) | Action::Elements(reading) => reading.names_inputs,
+            Action::Lines(_) => false,
+        }
+    }
+}
+
 /// A result for each line, or a job with each message.
 fn by_line(lines: bool, line: LineJob, message: Job, reading: ReadOptions) -> Action
     ensures { result ≡ by_line lines line message reading }
@@ -159,7 +175,8 @@ pub enum InputAction<'a> {
 }
 
 impl<'a> InputAction<'a> {
-    /// The action of a command on the input of this name, which is one of `count`. Where there are several, lines name it.
+    /// The action of a command on the input of this name, which is one of `count`. Lines name it where there are several, or where that is
+    /// asked for.
     ///
     /// ```
     /// let task = InputAction::new(action, "messages.ber", 1);
@@ -167,7 +184,6 @@ impl<'a> InputAction<'a> {
     pub fn new(action: Action, name: &'a str, count: usize) -> InputAction<'a>
         ensures { result ≡ input_action_of action name.entry count }
     {
-        let names_input = count > 1;
         match action {
             Action::Messages(job, reading) => {
                 let work = JobOptions {
@@ -175,7 +191,7 @@ impl<'a> InputAction<'a> {
                     profile: reading.profile,
                     hex: reading.hex,
                     name,
-                    names_input,
+                    names_input: reading.names_inputs || count > 1,
                     compares: reading.compares,
                 };
                 if reading.keep_going {
@@ -188,7 +204,7 @@ impl<'a> InputAction<'a> {
                 profile: reading.profile,
                 hex: reading.hex,
                 name,
-                names_input,
+                names_input: reading.names_inputs || count > 1,
             }),
             Action::Lines(work) => InputAction::Lines(work),
         }

@@ -37,6 +37,7 @@ fn canonicalise_makes_normal_forms(order: Order<'_>, input: &str, output: &str) 
         hex: order.hex,
         keep_going: order.keep_going,
         compares: order.summary,
+        names_inputs: order.with_filename,
     };
     let results = LineOptions {
         profile: order.profile,
@@ -64,6 +65,7 @@ fn check_checks(order: Order<'_>, inputs: Inputs<'_>) {
         hex: order.hex,
         keep_going: order.keep_going,
         compares: order.summary,
+        names_inputs: order.with_filename,
     };
     let results = LineOptions {
         profile: order.profile,
@@ -94,7 +96,7 @@ fn same_reads_what_it_is_asked_to(order: Order<'_>, first: &str, second: &str) {
     }
 }
 
-/// The lines of an input name it exactly where it is one of several. It is read as hexadecimal text exactly where that is asked for, and
+/// The lines of an input name it exactly where it is one of several, or where that is asked for. It is read as hexadecimal text exactly where that is asked for, and
 /// the job is the one that is asked for.
 fn inputs_are_named_where_there_are_several(
     job: Job,
@@ -104,7 +106,7 @@ fn inputs_are_named_where_there_are_several(
 ) {
     match InputAction::new(Action::Messages(job, reading), name, count) {
         InputAction::Messages(work) | InputAction::AcceptedMessages(work) => {
-            prove!(work.names_input == (count > 1));
+            prove!(work.names_input == (reading.names_inputs || count > 1));
             prove!(work.name == name);
             prove!(work.hex == reading.hex && work.job == job);
             prove!(work.profile == reading.profile);

@@ -4,7 +4,7 @@ use super::runs::{EXPIRED, QUIET, Row, first_wrong};
 use std::test::Fail;
 
 /// Files with messages that are refused, and others.
-static ROWS: [Row; 16] = [
+static ROWS: [Row; 19] = [
     Row {
         words: "check --keep-going middle",
         status: 1,
@@ -70,6 +70,26 @@ static ROWS: [Row; 16] = [
         words: "check first",
         status: 1,
         errors: "illcanon: refused at 2 in message 1: Missing Expired.protocol-version-num\n",
+        ..QUIET
+    },
+    Row {
+        words: "check -H --keep-going middle",
+        status: 1,
+        output: Text(
+            b"middle: message 1: Expired, 33 octets, normal\nmiddle: message 3: Expired, 33 octets, normal\n",
+        ),
+        errors: "illcanon: middle: refused at 2 in message 2: Missing Expired.protocol-version-num\n",
+        ..QUIET
+    },
+    Row {
+        words: "check -H first",
+        status: 1,
+        errors: "illcanon: first: refused at 2 in message 1: Missing Expired.protocol-version-num\n",
+        ..QUIET
+    },
+    Row {
+        words: "check --with-filename A",
+        output: Text(b"A: message 1: Expired, 33 octets, normal\n"),
         ..QUIET
     },
     Row {

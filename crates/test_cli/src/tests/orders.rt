@@ -7,31 +7,51 @@ use ill_schema::Profile;
 use std::alloc::{AllocError, Global};
 use std::test::Fail;
 
-/// The flags of an order, in the order `--hex`, `--lines`, `--keep-going`, `--json`, `--summary`, `--whole`.
-type Flags = [bool; 6];
+/// The flags of an order, in the order `--hex`, `--lines`, `--keep-going`, `--json`, `--summary`, `--whole`, `-H`.
+type Flags = [bool; 7];
 
 /// Words after the program's name, and the flags that they set.
-static ROWS: [(&str, Flags); 9] = [
-    ("check A", [false, false, false, false, false, false]),
-    ("check --hex A", [true, false, false, false, false, false]),
-    ("check --lines A", [false, true, false, false, false, false]),
+static ROWS: [(&str, Flags); 11] = [
+    ("check A", [false, false, false, false, false, false, false]),
+    (
+        "check --hex A",
+        [true, false, false, false, false, false, false],
+    ),
+    (
+        "check --lines A",
+        [false, true, false, false, false, false, false],
+    ),
     (
         "check --keep-going A",
-        [false, false, true, false, false, false],
+        [false, false, true, false, false, false, false],
     ),
-    ("show --json A", [false, false, false, true, false, false]),
+    (
+        "show --json A",
+        [false, false, false, true, false, false, false],
+    ),
     (
         "check --summary A",
-        [false, false, false, false, true, false],
+        [false, false, false, false, true, false, false],
     ),
-    ("dump --hex A", [true, false, false, false, false, false]),
+    (
+        "dump --hex A",
+        [true, false, false, false, false, false, false],
+    ),
+    (
+        "digest -H A",
+        [false, false, false, false, false, false, true],
+    ),
+    (
+        "show --with-filename A",
+        [false, false, false, false, false, false, true],
+    ),
     (
         "canonicalise --lines A B",
-        [false, true, false, false, false, false],
+        [false, true, false, false, false, false, false],
     ),
     (
         "canonicalise --whole A B",
-        [false, false, false, false, false, true],
+        [false, false, false, false, false, true, false],
     ),
 ];
 
@@ -64,6 +84,7 @@ fn flags_of(order: &Order<'_>) -> Flags {
         order.json,
         order.summary,
         order.whole,
+        order.with_filename,
     ]
 }
 
@@ -179,7 +200,7 @@ fn gives_canonicalise(
 
 #[test]
 fn canonicalise_has_its_flags_and_files(rt: HostRuntime) -> Result<(), Fail> {
-    let hex = [true, false, false, false, false, false];
+    let hex = [true, false, false, false, false, false, false];
     assert!(rt; gives_canonicalise(rt.alloc(), "canonicalise --hex - -", hex, "-", "-")?);
     Ok(())
 }
