@@ -1,33 +1,71 @@
-//! Contracts that leave one result. The calls are made on any arguments, often twice, and what they return is proved of their
-//! contracts alone. So a body that returns anything else doesn't meet its contract.
-ghost use Rattle.std.specs.Prelude.{◌≡◌};
-ghost use Rattle.ill_grammar.specs.Places.{due_of};
+//! Tags that begin at the first places of a message.
 
-use ber_core::Id;
-use ill_grammar::{Found, Place};
+mod contracts;
 
-/// One thing is due at a place with an identifier, or nothing.
-fn one_thing_is_due(at: Place, id: Id) {
-    match (at.find(id), at.find(id)) {
-        (None, None) => {}
-        (Some(one), Some(other)) => one_thing_goes_one_way(one, other),
-        (Some(_), None) => unreachable!(),
-        (None, Some(_)) => unreachable!(),
-    }
+use ber_core::{Class, Id};
+use ill_grammar::{ElementType, EntryRole, Found, Place};
+use ill_schema::{NodeId, PartId};
+use std::test::Fail;
+
+/// The element that is due with a tag.
+fn found(at: Place, class: Class, number: u32) -> Result<Found, Fail> {
+    let id = Id::new(class, true, number).ok_or("an identifier")?;
+    Ok(at.find(id).ok_or("nothing is due")?)
 }
 
-/// An element that is due opens in one way, has one default, and lacks the same before and after.
-fn one_thing_goes_one_way(one: Found, other: Found)
-    requires { due_of one ≡ due_of other }
-{
-    prove!(one.default_value() == other.default_value());
-    prove!(one.first().missing() == other.first().missing());
-    prove!(one.after().missing() == other.after().missing());
-    prove!(one.after().is_missing() == other.after().is_missing());
+/// Tells whether nothing is due with a tag.
+fn is_nothing(at: Place, class: Class, number: u32) -> Result<bool, Fail> {
+    let id = Id::new(class, true, number).ok_or("an identifier")?;
+    Ok(at.find(id).is_none())
 }
 
-/// A place lacks one part or none.
-fn one_part_is_missing(at: Place) {
-    prove!(at.missing() == at.missing());
-    prove!(at.is_missing() == at.missing().is_some());
+#[test]
+fn a_message_begins_with_an_apdu(rt: HostRuntime) -> Result<(), Fail> {
+    let expired = found(Place::top(), Class::Application, 20)?;
+    assert_eq!(rt; expired.element_type(), ElementType::LooseWrapper);
+    assert_eq!(rt; expired.node(), NodeId::Expired);
+    assert_eq!(rt; expired.slot(), EntryRole::Inner);
+    assert_eq!(rt; expired.alternative(), Some(19));
+    assert!(rt; !expired.after().is_missing());
+    assert!(rt; Place::top().is_missing());
+    assert!(rt; is_nothing(Place::top(), Class::Context, 20)?);
+    Ok(())
+}
+
+#[test]
+fn rows_come_in_order(rt: HostRuntime) -> Result<(), Fail> {
+    let expired = found(Place::top(), Class::Application, 20)?;
+    let sequence = found(expired.first(), Class::Universal, 16)?;
+    let first = found(sequence.first(), Class::Context, 0)?;
+    assert_eq!(rt; first.element_type(), ElementType::Integer);
+    assert!(rt; is_nothing(sequence.first(), Class::Context, 1)?);
+    let part = PartId {
+        node: NodeId::Expired,
+        row: 1,
+    };
+    assert_eq!(rt; first.after().missing(), Some(part));
+    let bare = found(expired.first(), Class::Context, 0)?;
+    assert_eq!(rt; bare.after().missing(), Some(part));
+    Ok(())
+}
+
+#[test]
+fn defaults_are_those_of_the_rows(rt: HostRuntime) -> Result<(), Fail> {
+    let request = found(Place::top(), Class::Application, 1)?;
+    let first = found(request.first(), Class::Context, 0)?;
+    let second = found(first.after(), Class::Context, 1)?;
+    let third = found(second.after(), Class::Context, 2)?;
+    let kind = found(third.after(), Class::Context, 5)?;
+    assert_eq!(rt; kind.element_type(), ElementType::Enumerated);
+    assert_eq!(rt; kind.default_value(), Some(1));
+    assert_eq!(rt; third.default_value(), None);
+    let delivery = found(kind.after(), Class::Context, 7)?;
+    assert_eq!(rt; delivery.alternative(), Some(0));
+    assert_eq!(rt; delivery.element_type(), ElementType::Wrapper);
+    let text = found(delivery.first(), Class::Universal, 26)?;
+    assert_eq!(rt; text.element_type(), ElementType::Visible);
+    assert_eq!(rt; text.alternative(), None);
+    let segment = found(text.first(), Class::Universal, 4)?;
+    assert_eq!(rt; segment.element_type(), ElementType::Segment);
+    Ok(())
 }
