@@ -18,7 +18,7 @@ from pathlib import Path
 sys.path.insert(0, str(Path(__file__).resolve().parents[1]))
 
 from model.encoder import Speller, Writer, is_default
-from model.judge import LIMIT, Judge, Refused, bits_of, content_value, due, missing
+from model.judge import DEPTH, LIMIT, Judge, Refused, bits_of, content_value, due, missing
 from refusals import Misspeller, changed
 from shown import identifier_text, octets_text
 from model.tables import ALL_ROWS, NAMES, PROGRAM, ROOTS, profile_and_words, random_value, seed_and_count
@@ -58,6 +58,11 @@ TEXTS = {
     "BadOid": "the identifier has no octet, one more than it needs, or no end",
     "BadBits": "the first octet is not the number of unused bits",
 }
+# as many octets a header has at most
+MOST_HEADER = 132
+OUR_LIMIT = "    a limit of illcanon, not of ISO 10161-1\n"
+# the causes that are limits
+LIMITS = {"IntegerTooLong", "TooLong", "TooDeep"}
 LEVELS_TEXT = "a value of an open type would have more than 20 levels"
 # the causes that only the module profile has
 MODULE = {"BadNull", "BadOid", "BadBits"}
@@ -109,6 +114,8 @@ class Dumper(Judge):
     def __init__(self, octets, profile):
         super().__init__(octets, profile)
         self.lines, self.labels, self.counts = [], [], []
+        # the type of a string whose octets are refused
+        self.text_node = None
 
     def round(self):
         return self.path[-1] if self.path else None
@@ -154,6 +161,8 @@ class Dumper(Judge):
         try:
             after = super().element(place)
         except Refused as fault:
+            if fault.cause == "BadText" and not constructed:
+                self.text_node = element.node
             if fault.cause == "Truncated" and body is not None and element and body <= len(self.octets):
                 notes = self.length_notes(begun, body, size) + ["cut short"]
                 self.lines.append([place, depth, self.octets[place:body], known[0], "", notes, None])
@@ -207,6 +216,7 @@ class Dumper(Judge):
 
     def close(self, place):
         ends = self.path[-1].end
+        self.text_node = self.path[-1].node
         super().close(place)
         self.labels.pop()
         self.counts.pop()
@@ -269,34 +279,119 @@ class Dumper(Judge):
         text = LEVELS_TEXT if fault.cause == "TooDeep" and in_tree else TEXTS[fault.cause]
         yield f"refused at {fault.at}: {fault.cause}{part}\n    {text}\n"
         if fault.cause == "NormalTooLong":
+            yield OUR_LIMIT
             return
         yield f"    path {'.'.join(label for label in self.labels if label) or 'none'}\n"
         yield f"    found {self.found(fault)}\n"
         if fault.cause in ("UnexpectedTag", "Missing"):
             yield from self.due_lines(in_tree)
+        if fault.cause == "WrongForm":
+            tag, constructed, begun = self.identifier(fault.at)
+            other = [self.octets[fault.at] ^ 0x20, *self.octets[fault.at + 1 : begun]]
+            yield f"    due {tag_text(tag)} {'primitive' if constructed else 'constructed'}: {hexed(other)}\n"
         yield from self.hint(fault)
+        yield from self.unjudged(fault)
 
     def due_lines(self, in_tree):
         """What was due."""
         if in_tree:
             yield "    due one element of any tag\n"
             return
+        left_out = False
         for tag in TRIED:
             element = self.due(tag)
             if element:
-                left_out = " (not read)" if element.kind == "left out" else ""
-                yield f"    due {tag_text(tag)} {self.label(element, tag)[0]}{left_out}\n"
+                left_out |= element.kind == "left out"
+                yield f"    due {tag_text(tag)} {self.label(element, tag)[0]}{' (not read)' if element.kind == 'left out' else ''}\n"
         if self.path and not missing(self.path[-1]):
             yield "    due the end of the element\n"
+        if left_out:
+            yield "    --profile module reads what is marked as not read\n"
 
     def hint(self, fault):
-        """What the module profile has there."""
-        if self.profile == "module":
+        """That what is refused is not wrong by the module of ISO 10161-1, or may not be."""
+        start = self.octets[fault.at : fault.at + 5]
+        has_long_number = len(start) == 5 and start[0] & 31 == 31 and start[1] != 0x80 and min(start[1:]) >= 0x80
+        if fault.cause in LIMITS or fault.cause == "BadTag" and has_long_number:
+            yield OUR_LIMIT
+        elif self.profile == "module":
             return
         if fault.cause == "LeftOut":
             yield "    --profile module reads this part\n"
         elif fault.cause in ("WrongForm", "UnexpectedTag") and self.path and self.round().node in RETAGGED:
             yield "    --profile module has other tags here\n"
+        elif fault.cause == "BadText" and self.text_node == "General":
+            yield "    --profile module reads escape sequences\n"
+
+    def unjudged(self, fault):
+        """The elements from a fault on, by identifiers and lengths alone, up to the end of the outermost one."""
+        octets = self.octets[: min(framed(self.octets), LIMIT)]
+        ends = [element.end for element in self.path if element.start < fault.at]
+        place = fault.at
+        while place < len(octets):
+            while ends and ends[-1] is not None and ends[-1] <= place:
+                ends.pop()
+            bound = min([len(octets), *(end for end in ends if end is not None)])
+            start = octets[place : min(bound, place + MOST_HEADER)]
+            if ends and ends[-1] is None and start[:2] == b"\0\0":
+                ends.pop()
+                yield f"{place:>7}  {'  ' * len(ends)}00 00  end mark  (not judged)\n"
+                place += 2
+                continue
+            line = f"{place:>7}  {'  ' * len(ends)}"
+            try:
+                tag, constructed, begun = Judge(start).identifier(0)
+                size, body = Judge(start).length(begun, constructed, 0)
+            except Refused:
+                yield f"{line}{hexed(octets[place:bound])}  octets  (not judged)\n"
+                place = bound
+                continue
+            place += body
+            end = bound if size is None else min(bound, place + size)
+            note = "not judged" if size is None or place + size == end else "cut short, not judged"
+            line = f"{line}{hexed(start[:body])}  {tag_text(tag)}"
+            if constructed and len(ends) < DEPTH:
+                ends.append(None if size is None else end)
+                yield f"{line}  ({note})\n"
+            else:
+                yield f"{line} = {octets_text(octets[place:end])}  ({note})\n"
+                place = end
+
+
+def framed(octets):
+    """How many octets are taken of an element: up to its end by identifiers and lengths alone, or to where that can't be known."""
+    place, marks, count = 0, 0, len(octets)
+    while place < count:
+        first = octets[place]
+        place += 1
+        if first == 0:
+            if not marks or place == count or octets[place]:
+                return min(count, place + (marks > 0))
+            place, marks = place + 1, marks - 1
+        else:
+            if first & 31 == 31:
+                while place < count and octets[place] & 0x80:
+                    place += 1
+                place += 1
+            if place >= count:
+                return count
+            length = octets[place]
+            place += 1
+            if length == 0x80 and first & 0x20:
+                marks += 1
+                continue
+            if length in (0x80, 0xFF):
+                return place
+            if length > 0x80:
+                size = length & 0x7F
+                length = int.from_bytes(octets[place : place + size], "big")
+                place += size
+                if place > count or length > 4_294_967_294:
+                    return min(place, count)
+            place += length
+        if not marks:
+            return min(place, count)
+    return count
 
 
 def dump(octets, profile, name=None):
@@ -316,6 +411,17 @@ def dump(octets, profile, name=None):
         text += f"{label}message {number}: {NAMES[ROOTS[profile]][1][apdu[0]]}, {size} octets, {end}\n" + "".join(dumper.text(size))
         octets = octets[size:]
     return text, errors
+
+
+def first_cause(octets, profile):
+    """The cause of the first message of a file that is refused."""
+    while octets:
+        try:
+            _, size = Judge(octets, profile).message()
+        except Refused as fault:
+            return fault.cause
+        octets = octets[size:]
+    return None
 
 
 def inputs(chance, count, root):
@@ -394,7 +500,7 @@ def compare_examples(folder, profile):
         if cause not in MODULE or profile == "module":
             names.append(f"example-{cause}-{causes[cause]}")
             (folder / names[-1]).write_bytes(octets)
-        if f": {cause}" not in dump(octets, "module" if cause in MODULE else "2")[1]:
+        if cause != first_cause(octets, "module" if cause in MODULE else "2"):
             sys.exit(f"dump.py: the example of {cause} gives another cause")
     for cause in TEXTS:
         if not causes[cause]:

@@ -96,7 +96,22 @@ refused at 7: UnexpectedTag
     path Expired
     found [2] constructed: a2
     due [1] transaction-id
+      7      a2  octets  (not judged)
 ' 'illcanon: refused at 7 in message 1: UnexpectedTag\n' dump F
+{ printf '\005\001A' && cat F; } >G
+row dump-of-one-message 1 'message 2: refused
+      0  74 1f  Expired
+      2    30 1d  SEQUENCE
+      4      80 01  protocol-version-num = 2
+refused at 7: UnexpectedTag
+    the tag is not due there
+    path Expired
+    found [2] constructed: a2
+    due [1] transaction-id
+      7      a2  octets  (not judged)
+' 'illcanon: refused at 0 in message 1: UnexpectedTag\nillcanon: refused at 7 in message 2: UnexpectedTag; its end is unknown\n' dump --keep-going --message 2 G
+row dump-of-one-message-after-a-refused-one 1 '' 'illcanon: refused at 0 in message 1: UnexpectedTag\n' dump --message 2 G
+row dump-of-no-such-message 1 '' 'illcanon: refused at 0 in message 1: UnexpectedTag\nillcanon: refused at 7 in message 2: UnexpectedTag; its end is unknown\nillcanon: no message 3: the input has 2 messages\n' dump --keep-going --message 3 G
 row dump-of-no-file 3 '' 'illcanon: cannot open NAME\n' dump NAME
 octets F $INDEFINITE
 row check-of-indefinite 1 'message 1: Expired, 47 octets, not normal, normal form 33 octets\n' '' check F
@@ -142,8 +157,12 @@ row a-third-word 2 '' "error: unexpected argument 'H' found$two_forms" canonical
 row lines-and-keep-going 2 '' 'illcanon: --lines excludes --keep-going\n' check --lines --keep-going F
 row same-keeps-not-going 2 '' any same --keep-going F F
 row lines-and-summary 2 '' 'illcanon: --lines excludes --summary\n' check --lines --summary F
-row check-has-no-json 2 '' any check --json F
+row check-as-json 1 '{"number":1,"offset":0,"octets":47,"apdu":"Expired","normal":false}\n' '' check --json F
+row same-has-no-json 2 '' any same --json F F
 row no-such-flag 2 '' any check --hexx F
+row dump-of-message-0 2 '' "error: invalid value '0' for '--message <N>': 0 is not in 1..=1000000$help" dump --message 0 F
+row dump-of-message-x 2 '' "error: invalid value 'x' for '--message <N>': invalid digit found in string$help" dump --message x F
+row check-has-no-message 2 '' any check --message 1 F
 values="\n  [possible values: 2, module]$help"
 for command in show check digest dump 'same F' 'canonicalise F'; do
     row "no-such-profile: $command" 2 '' "error: invalid value '3' for '--profile <NAME>'$values" $command --profile 3 F
@@ -196,7 +215,7 @@ row going-over-no-message 0 '' '' check --keep-going NOTHING
 row going-over-a-good-one 0 "message 1: $normal" '' check --keep-going GOOD
 row going-over-files 1 "FIRST: message 2: ${normal}FIRST: message 3: ${not_normal}ENDLESS: message 1: ${normal}GOOD: message 1: $normal" \
     "illcanon: FIRST: refused at 2 in message 1: ${missing}illcanon: ENDLESS: $unknown" check --keep-going FIRST NOTHING ENDLESS GOOD
-row going-over-an-absent-file 3 "GOOD: message 1: $normal" 'illcanon: cannot open ABSENT\n' check --keep-going ABSENT GOOD
+row going-over-an-absent-file 3 "GOOD: message 1: $normal" 'illcanon: cannot open ABSENT: no such file\n' check --keep-going ABSENT GOOD
 row going-digest 1 "$digest  MIDDLE:1\n$digest  MIDDLE:3\n" "illcanon: refused at 2 in message 2: $missing" digest --keep-going MIDDLE
 printf '%s\n%s %s\n' $EXPIRED $EMPTY $EXPIRED >in
 row going-in-hexadecimal 1 "$EXPIRED\n$EXPIRED\n" "illcanon: refused at 2 in message 2: $missing" canonicalise --keep-going --hex - -
@@ -210,9 +229,9 @@ numbers='1 file, 3 messages, 1 normal, 1 not normal, 1 refused, 82 octets\n'
 row summary-of-check 1 "message 2: ${normal}message 3: $not_normal" "illcanon: refused at 2 in message 1: ${missing}illcanon: $numbers" check --keep-going --summary FIRST
 row summary-of-digest 1 "$digest  FIRST:2\n$digest  FIRST:3\n" "illcanon: refused at 2 in message 1: ${missing}illcanon: $numbers" digest --keep-going --summary FIRST
 row summary-of-canonicalise 1 '' "illcanon: refused at 2 in message 1: ${missing}illcanon: $numbers" canonicalise --keep-going --summary FIRST OUT
-row summary-up-to-a-refusal 1 "message 1: $normal" "illcanon: refused at 2 in message 2: ${missing}illcanon: 1 file, 2 messages, 1 normal, 0 not normal, 1 refused, 33 octets\n" check --summary MIDDLE
+row summary-up-to-a-refusal 1 "message 1: $normal" "illcanon: refused at 2 in message 2: ${missing}illcanon: left at message 2, which begins at octet 33\nillcanon: 1 file, 2 messages, 1 normal, 0 not normal, 1 refused, 33 octets, 1 left before the end\n" check --summary MIDDLE
 row summary-of-files 3 "GOOD: message 1: ${normal}ENDLESS: message 1: $normal" \
-    "illcanon: cannot open ABSENT\nillcanon: ENDLESS: ${unknown}illcanon: 2 files, 3 messages, 2 normal, 0 not normal, 1 refused, 66 octets\n" check --keep-going --summary GOOD ABSENT ENDLESS
+    "illcanon: cannot open ABSENT: no such file\nillcanon: ENDLESS: ${unknown}illcanon: ENDLESS: left at message 2, which begins at octet 33\nillcanon: 2 files, 3 messages, 2 normal, 0 not normal, 1 refused, 66 octets, 1 not opened, 1 left before the end\n" check --keep-going --summary GOOD ABSENT ENDLESS
 row summary-of-many-into-one 0 '' 'illcanon: 2 files, 2 messages, 2 normal, 0 not normal, 0 refused, 66 octets\n' canonicalise --summary -o OUT GOOD GOOD
 row summary-of-nothing 0 '' 'illcanon: 1 file, 0 messages, 0 normal, 0 not normal, 0 refused, 0 octets\n' show --summary NOTHING
 
@@ -248,9 +267,9 @@ printf 'GOOD\0MIDDLE' >LIST
 row many-of-a-list 1 '' "illcanon: LAST: refused at 2 in message 3: ${missing}illcanon: MIDDLE: refused at 2 in message 2: $missing" \
     canonicalise -o OUT --files-from LIST LAST --keep-going
 forms many-of-a-list 5
-row many-with-an-absent-one 3 '' 'illcanon: cannot open ABSENT\n' canonicalise --output OUT ABSENT GOOD
+row many-with-an-absent-one 3 '' 'illcanon: cannot open ABSENT: no such file\n' canonicalise --output OUT ABSENT GOOD
 forms many-with-an-absent-one 1
-row absent-ones-leave-out-as-it-was 3 '' 'illcanon: cannot open ABSENT\nillcanon: cannot open absent/too\n' canonicalise -o OUT ABSENT absent/too
+row absent-ones-leave-out-as-it-was 3 '' 'illcanon: cannot open ABSENT: no such file\nillcanon: cannot open absent/too: no such file\n' canonicalise -o OUT ABSENT absent/too
 forms absent-ones-leave-out-as-it-was 1
 row out-is-one-of-many 2 '' 'illcanon: IN and OUT are the same file\n' canonicalise -o OUT GOOD ./OUT
 row out-is-the-list 2 '' 'illcanon: IN and OUT are the same file\n' canonicalise -o ./OUT GOOD --files-from OUT

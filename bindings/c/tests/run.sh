@@ -55,25 +55,7 @@ printf 741f301d800102a10aa1031b0147a2031b0151a20ca00a80083230323430323239 | xxd 
 awk -F'|' 'NF == 4' "$top/crates/test_messages/src/read/module_rows.rt" >rows
 awk -F'|' '$2 == "module" && sub("^normal ", "", $4) { print $3 }' rows | xxd -r -p >module.ber
 awk -F'|' '$2 == "module" && sub("^normal ", "", $4) { print $4 }' rows | xxd -r -p >module.der
-xxd -r -p >externals.der <<END
-6a6f306d800102a10aa1031b0147a2031b0151a20ca00a80083230323430323239b143281a06072a8648ce13050a02010507044d41524381065831323334352812a010
-300e0201051b03612262a002050031002811060b69ffffffffffffffffff7f820203f89f25083230323430323239
-END
-cat >externals.text <<'END'
-message 1 Returned
-protocol-version-num = 2
-transaction-id.transaction-group-qualifier = general "G"
-transaction-id.transaction-qualifier = general "Q"
-service-date-time.date-time-of-this-service.date = 20240229
-supplemental-item-description[0].direct-reference = 1.2.840.10003.5.10
-supplemental-item-description[0].indirect-reference = 5
-supplemental-item-description[0].data-value-descriptor = descriptor "MARC"
-supplemental-item-description[0].encoding.octet-aligned = octets "X12345"
-supplemental-item-description[1].encoding.single-asn1-type = foreign 30{02:05 1b:"a\"b" a0{05:""} 31{}}
-supplemental-item-description[2].direct-reference = oid 69ffffffffffffffffff7f
-supplemental-item-description[2].encoding.arbitrary = bits 5 f8
-date-returned = 20240229
-END
+xxd -r -p "$top/bindings/tests/externals.hex" >externals.der
 try build-calls build calls -fsanitize=address,undefined -fno-sanitize-recover=all
 set -- "$examples/every-part.ber" "$examples/expired-long-form.ber"
 for profile in - 2; do
@@ -108,7 +90,7 @@ try "dump module examples" cmp dumped wanted
 try "calls module expired" ./calls module "$examples/expired-long-form.ber" expired.der
 try "rows module" ./calls module rows rows
 ./calls module show externals.der >shown
-try "show module" cmp shown externals.text
+try "show module" cmp shown "$top/bindings/tests/externals.txt"
 for profile in - 2 module; do
     ./calls $profile digest "$examples/expired-long-form.ber" >digest
     sha256sum <expired.der | sed 's/ .*//' >wanted

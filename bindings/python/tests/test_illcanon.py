@@ -35,6 +35,11 @@ EXPIRED = bytes.fromhex("741f301d800102a10aa1031b0147a2031b0151a20ca00a800832303
 REQUEST = bytes.fromhex("61343032800102a10aa1031b0147a2031b0151a20ca00a80083230323430323239a9030a0101ab0c800100810100820101830101b000")
 
 
+def text_of(name):
+    with open(os.path.join(TOP, "bindings", "tests", name), encoding="ascii") as file:
+        return file.read()
+
+
 def octets_of(name):
     with open(os.path.join(TOP, "examples", name), "rb") as file:
         return file.read()
@@ -217,24 +222,8 @@ class Refusals(unittest.TestCase):
 
 
 # Three EXTERNAL values of a RETURNED: with an OBJECT IDENTIFIER and octets, with a foreign tree, and with bits.
-EXTERNALS = bytes.fromhex(
-    "6a6f306d800102a10aa1031b0147a2031b0151a20ca00a80083230323430323239b143281a06072a8648ce13050a02010507044d415243810658313233343528"
-    "12a010300e0201051b03612262a002050031002811060b69ffffffffffffffffff7f820203f89f25083230323430323239"
-)
-EXTERNALS_TEXT = """message 1 Returned
-protocol-version-num = 2
-transaction-id.transaction-group-qualifier = general "G"
-transaction-id.transaction-qualifier = general "Q"
-service-date-time.date-time-of-this-service.date = 20240229
-supplemental-item-description[0].direct-reference = 1.2.840.10003.5.10
-supplemental-item-description[0].indirect-reference = 5
-supplemental-item-description[0].data-value-descriptor = descriptor "MARC"
-supplemental-item-description[0].encoding.octet-aligned = octets "X12345"
-supplemental-item-description[1].encoding.single-asn1-type = foreign 30{02:05 1b:"a\\"b" a0{05:""} 31{}}
-supplemental-item-description[2].direct-reference = oid 69ffffffffffffffffff7f
-supplemental-item-description[2].encoding.arbitrary = bits 5 f8
-date-returned = 20240229
-"""
+EXTERNALS = bytes.fromhex(text_of("externals.hex"))
+EXTERNALS_TEXT = text_of("externals.txt")
 SINGLE = (illcanon.normalise, illcanon.check, illcanon.show, illcanon.parse, illcanon.digest)
 
 

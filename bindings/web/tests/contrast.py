@@ -14,8 +14,10 @@ PAIRS += [("bad", "paper"), ("bad", "select"), ("paper", "bad"), ("accent-ink", 
 PAIRS += [("ink", ground) for ground in ("mark", "mark-id", "mark-length")]
 
 
-def colours(text):
-    return dict(re.findall(r"--([\w-]+): (#[0-9a-f]{6})", text))
+def themes(text):
+    """The colours in light and in dark, by name."""
+    pairs = re.findall(r"--([\w-]+): light-dark\((#[0-9a-f]{6}), (#[0-9a-f]{6})\)", text)
+    return [("light", {name: light for name, light, _ in pairs}), ("dark", {name: dark for name, _, dark in pairs})]
 
 
 def luminance(colour):
@@ -30,10 +32,8 @@ def contrast(one, other):
 
 
 def main():
-    system, chosen = CSS.index("@media (prefers-color-scheme: dark)"), CSS.index(':root[data-theme="dark"]')
-    light, dark = colours(CSS[:system]), colours(CSS[chosen:])
-    faults = [] if dark == colours(CSS[system:chosen]) else ["the two lists of dark colours differ"]
-    for name, theme in ("light", light), ("dark", dark):
+    faults = []
+    for name, theme in themes(CSS):
         for ink, ground in PAIRS:
             found = contrast(theme[ink], theme[ground])
             if found < LEAST:

@@ -39,7 +39,7 @@ impl Node for IllAnswer {
 
     ghost entries = { ill_answer_rows };
 
-    const NODE: NodeId = NodeId::ILL_ANSWER;
+    const NODE: NodeId = NodeId::IllAnswer;
 }
 
 #[tactic(auto, unfolding(crate::specs::Views::ill_answer))]

@@ -26,7 +26,7 @@ impl Node for Cancel {
 
     ghost entries = { cancel_rows };
 
-    const NODE: NodeId = NodeId::CANCEL;
+    const NODE: NodeId = NodeId::Cancel;
 }
 
 #[tactic(auto, unfolding(crate::specs::Views::cancel))]
@@ -84,7 +84,7 @@ impl Node for CancelReply {
 
     ghost entries = { cancel_reply_rows };
 
-    const NODE: NodeId = NodeId::CANCEL_REPLY;
+    const NODE: NodeId = NodeId::CancelReply;
 }
 
 #[tactic(auto, unfolding(crate::specs::Views::cancel_reply))]

@@ -28,7 +28,7 @@ impl Node for ConditionalReply {
 
     ghost entries = { conditional_reply_rows };
 
-    const NODE: NodeId = NodeId::CONDITIONAL_REPLY;
+    const NODE: NodeId = NodeId::ConditionalReply;
 }
 
 #[tactic(auto, unfolding(crate::specs::Views::conditional_reply))]

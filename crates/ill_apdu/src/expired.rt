@@ -20,7 +20,7 @@ impl Node for Expired {
 
     ghost entries = { expired_rows };
 
-    const NODE: NodeId = NodeId::EXPIRED;
+    const NODE: NodeId = NodeId::Expired;
 }
 
 #[tactic(auto, unfolding(crate::specs::Views::expired))]

@@ -26,7 +26,7 @@ impl Node for LocationInfo {
 
     ghost entries = { location_info_rows };
 
-    const NODE: NodeId = NodeId::LOCATION_INFO;
+    const NODE: NodeId = NodeId::LocationInfo;
 }
 
 #[tactic(auto, unfolding(crate::specs::Views::location_info))]
@@ -86,7 +86,7 @@ impl Node for Locations {
 
     ghost entries = { locations_rows };
 
-    const NODE: NodeId = NodeId::LOCATIONS;
+    const NODE: NodeId = NodeId::Locations;
 }
 
 #[tactic(auto, unfolding(crate::specs::Views::locations))]

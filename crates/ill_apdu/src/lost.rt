@@ -25,7 +25,7 @@ impl Node for Lost {
 
     ghost entries = { lost_rows };
 
-    const NODE: NodeId = NodeId::LOST;
+    const NODE: NodeId = NodeId::Lost;
 }
 
 #[tactic(auto, unfolding(crate::specs::Views::lost))]
@@ -78,7 +78,7 @@ impl Node for Damaged {
 
     ghost entries = { damaged_rows };
 
-    const NODE: NodeId = NodeId::DAMAGED;
+    const NODE: NodeId = NodeId::Damaged;
 }
 
 #[tactic(auto, unfolding(crate::specs::Views::damaged))]

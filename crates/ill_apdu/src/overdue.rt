@@ -28,7 +28,7 @@ impl Node for Overdue {
 
     ghost entries = { overdue_rows };
 
-    const NODE: NodeId = NodeId::OVERDUE;
+    const NODE: NodeId = NodeId::Overdue;
 }
 
 #[tactic(auto, unfolding(crate::specs::Views::overdue))]

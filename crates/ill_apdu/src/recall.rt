@@ -25,7 +25,7 @@ impl Node for Recall {
 
     ghost entries = { recall_rows };
 
-    const NODE: NodeId = NodeId::RECALL;
+    const NODE: NodeId = NodeId::Recall;
 }
 
 #[tactic(auto, unfolding(crate::specs::Views::recall))]

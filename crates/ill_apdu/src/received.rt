@@ -32,7 +32,7 @@ impl Node for Received {
 
     ghost entries = { received_rows };
 
-    const NODE: NodeId = NodeId::RECEIVED;
+    const NODE: NodeId = NodeId::Received;
 }
 
 #[tactic(auto, unfolding(crate::specs::Views::received))]

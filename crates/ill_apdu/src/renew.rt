@@ -28,7 +28,7 @@ impl Node for Renew {
 
     ghost entries = { renew_rows };
 
-    const NODE: NodeId = NodeId::RENEW;
+    const NODE: NodeId = NodeId::Renew;
 }
 
 #[tactic(auto, unfolding(crate::specs::Views::renew))]
@@ -94,7 +94,7 @@ impl Node for RenewAnswer {
 
     ghost entries = { renew_answer_rows };
 
-    const NODE: NodeId = NodeId::RENEW_ANSWER;
+    const NODE: NodeId = NodeId::RenewAnswer;
 }
 
 #[tactic(auto, unfolding(crate::specs::Views::renew_answer))]

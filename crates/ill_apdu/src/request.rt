@@ -69,7 +69,7 @@ impl Node for IllRequest {
 
     ghost entries = { ill_request_rows };
 
-    const NODE: NodeId = NodeId::ILL_REQUEST;
+    const NODE: NodeId = NodeId::IllRequest;
 }
 
 #[tactic(auto, unfolding(crate::specs::Views::ill_request))]

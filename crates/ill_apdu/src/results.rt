@@ -27,7 +27,7 @@ impl Node for Conditional {
 
     ghost entries = { conditional_rows };
 
-    const NODE: NodeId = NodeId::CONDITIONAL;
+    const NODE: NodeId = NodeId::Conditional;
 }
 
 #[tactic(auto, unfolding(crate::specs::Views::conditional))]
@@ -92,7 +92,7 @@ impl Node for Retry {
 
     ghost entries = { retry_rows };
 
-    const NODE: NodeId = NodeId::RETRY;
+    const NODE: NodeId = NodeId::Retry;
 }
 
 #[tactic(auto, unfolding(crate::specs::Views::retry))]
@@ -155,7 +155,7 @@ impl Node for Unfilled {
 
     ghost entries = { unfilled_rows };
 
-    const NODE: NodeId = NodeId::UNFILLED;
+    const NODE: NodeId = NodeId::Unfilled;
 }
 
 #[tactic(auto, unfolding(crate::specs::Views::unfilled))]
@@ -217,7 +217,7 @@ impl Node for WillSupply {
 
     ghost entries = { will_supply_rows };
 
-    const NODE: NodeId = NodeId::WILL_SUPPLY;
+    const NODE: NodeId = NodeId::WillSupply;
 }
 
 #[tactic(auto, unfolding(crate::specs::Views::will_supply))]
@@ -284,7 +284,7 @@ impl Node for HoldPlaced {
 
     ghost entries = { hold_placed_rows };
 
-    const NODE: NodeId = NodeId::HOLD_PLACED;
+    const NODE: NodeId = NodeId::HoldPlaced;
 }
 
 #[tactic(auto, unfolding(crate::specs::Views::hold_placed))]
@@ -347,7 +347,7 @@ impl Node for Estimate {
 
     ghost entries = { estimate_rows };
 
-    const NODE: NodeId = NodeId::ESTIMATE;
+    const NODE: NodeId = NodeId::Estimate;
 }
 
 #[tactic(auto, unfolding(crate::specs::Views::estimate))]
@@ -414,7 +414,7 @@ impl Node for Results {
 
     ghost NODE = { TheNode };
 
-    const NODE: NodeId = NodeId::RESULTS;
+    const NODE: NodeId = NodeId::Results;
 }
 
 #[tactic(auto, unfolding(crate::specs::Views::results))]

@@ -32,7 +32,7 @@ impl Node for Returned {
 
     ghost entries = { returned_rows };
 
-    const NODE: NodeId = NodeId::RETURNED;
+    const NODE: NodeId = NodeId::Returned;
 }
 
 #[tactic(auto, unfolding(crate::specs::Views::returned))]
@@ -105,7 +105,7 @@ impl Node for CheckedIn {
 
     ghost entries = { checked_in_rows };
 
-    const NODE: NodeId = NodeId::CHECKED_IN;
+    const NODE: NodeId = NodeId::CheckedIn;
 }
 
 #[tactic(auto, unfolding(crate::specs::Views::checked_in))]

@@ -45,7 +45,7 @@ impl Node for Shipped {
 
     ghost entries = { shipped_rows };
 
-    const NODE: NodeId = NodeId::SHIPPED;
+    const NODE: NodeId = NodeId::Shipped;
 }
 
 #[tactic(auto, unfolding(crate::specs::Views::shipped))]

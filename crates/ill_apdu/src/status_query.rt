@@ -25,7 +25,7 @@ impl Node for StatusQuery {
 
     ghost entries = { status_query_rows };
 
-    const NODE: NodeId = NodeId::STATUS_QUERY;
+    const NODE: NodeId = NodeId::StatusQuery;
 }
 
 #[tactic(auto, unfolding(crate::specs::Views::status_query))]

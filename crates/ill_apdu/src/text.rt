@@ -25,7 +25,7 @@ impl Node for MessageApdu {
 
     ghost entries = { message_apdu_rows };
 
-    const NODE: NodeId = NodeId::MESSAGE_APDU;
+    const NODE: NodeId = NodeId::MessageApdu;
 }
 
 #[tactic(auto, unfolding(crate::specs::Views::message_apdu))]

@@ -1,14 +1,15 @@
 -- A command that was found, from its name and its rows.
-use Rattle.std.proofs.Common.{◌≡◌, ◌∙◌, Bool, cond, codes, true, false, refl, sym, ap, List, [], ◌∷◌, Option, Some, None, option_map, unwrap_or, IfSome}
+use Rattle.std.proofs.Common.{◌≡◌, ◌∙◌, Bool, cond, codes, true, false, refl, sym, ap, List, [], ◌∷◌, ℕ, Option, Some, None, option_map, unwrap_or, IfSome}
 use Rattle.std.specs.Prelude.{find}
 use Rattle.std.specs.List.{list_all}
 use Rattle.std.specs.Option.{option_map_or}
 use Rattle.std.specs.Str.{bytes_eq}
-use Rattle.std.specs.Str.Parse.{ParsesBool}
+use Rattle.std.specs.Str.Parse.{ExplainsUnsignedError, HasUnsignedDigitsIfOk, ParsesBool, ParsesUnsigned}
 use Rattle.std.proofs.lemmas.Bool.{and_parts}
 use Rattle.std.proofs.lemmas.Slice.Eq.{bytes_eq-Decides}
 use Rattle.clap.specs.Words.{ReadsOne}
 use Rattle.clap.specs.Walk.{Row, Text}
+use Rattle.ill_args.specs.Orders.{IsNumber}
 
 abbrev pair : {X : Type 0} → (X → Text) → (X → List Row) → X → Text × List Row
 pair f g b = (f b, g b)
@@ -38,3 +39,10 @@ flag_is E None flag none value = ap (λ o. unwrap_or o false) (none refl)
 flag_is E (Some t) (Some true) none value = sym ((bytes_eq-Decides t (codes "true")).1 (value t refl))
 flag_is E (Some t) (Some false) none value = ap (λ text. bytes_eq text (codes "true")) (sym (value t refl))
 flag_is E (Some t) None none value = sym (is_false _ (λ e. (value t refl).1.0 ((bytes_eq-Decides t (codes "true")).0 e)))
+
+-- a value that clap reads as a `u32`
+pub number_is : (found : Option Text) (number : Option ℕ) → (found ≡ None → number ≡ None)
+    → ((t : Text) → found ≡ Some t → ReadsOne (λ t r. ParsesUnsigned 32 10 t r × ExplainsUnsignedError 10 t r × HasUnsignedDigitsIfOk t r) t number) → IsNumber found number
+number_is None number none value = none refl
+number_is (Some t) (Some n) none value = (value t refl).0
+number_is (Some t) None none value = (value t refl).1.0

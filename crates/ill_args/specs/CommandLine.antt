@@ -4,7 +4,7 @@ use Rattle.std.specs.Borrow.{Bor}
 use Rattle.clap.specs.Walk.{Rule, Text}
 use Rattle.clap.specs.Simple.{App, new_app, new_rule, with_rule, with_subcommand}
 use Rattle.clap.specs.declared.builder.action.ArgAction.TheVariants.{Append, SetTrue}
-use Rattle.clap.specs.declared.builder.value_parser.ValueParser.TheVariants.{Names}
+use Rattle.clap.specs.declared.builder.value_parser.ValueParser.TheVariants.{Names, Unsigned}
 use Rattle.ill_schema.specs.declared.profile.Profile.{Profile}
 use Rattle.ill_args.specs.Orders.{profile_name}
 
@@ -32,6 +32,14 @@ files_rule = record (new_rule (codes "file")) { value_names = 1; action = Some A
 abbrev pub output_rule : Rule
 output_rule = record (new_rule (codes "output")) { long = Some (codes "output"); short = Some 111; value_names = 1 }
 
+-- the option `--refused FILE`
+abbrev pub refused_rule : Rule
+refused_rule = record (new_rule (codes "refused")) { long = Some (codes "refused"); value_names = 1 }
+
+-- the option `--message N`, where N is a number from 1 to 1,000,000
+abbrev pub message_rule : Rule
+message_rule = record (new_rule (codes "message")) { long = Some (codes "message"); value_names = 1; parser = Some (Unsigned 1 1_000_000) }
+
 -- names of profiles, with the places where they are in memory
 abbrev pub ProfileNames : Type 0
 ProfileNames = Bor (List (Bor Text))
@@ -53,6 +61,10 @@ with_files a = with_rule (with_rule a list_rule) files_rule
 abbrev pub with_names : App → App
 with_names a = with_rule (with_files a) filename_rule
 
+-- a command that goes on after a message that is refused, whose octets may go to a file
+abbrev pub with_skipping : App → App
+with_skipping a = with_rule (with_rule a (flag_rule (codes "keep-going"))) refused_rule
+
 abbrev pub top : App
 top = let a = new_app (codes "illcanon") in
     record a { top = record a.top { has_version = true; subcommand_required = true; arg_required_else_help = true } }
@@ -63,7 +75,7 @@ topic name = let a = new_app name in
     record a { top = record a.top { subcommand_required = true; arg_required_else_help = true } }
 
 module _ (names : ProfileNames) where
-  -- a command on any number of files, one that goes on after a message that is refused, counts messages and writes JSON, and one that has lines, too
+  -- a command on any number of files; one that goes on after a message that is refused, counts messages and writes JSON; and one that has lines, too
 
   abbrev pub with_hex : Text → App
   with_hex name = with_rule (with_rule (new_app name) (flag_rule (codes "hex"))) (profile_rule names)
@@ -71,20 +83,26 @@ module _ (names : ProfileNames) where
   abbrev pub each_file : Text → App
   each_file name = with_names (with_hex name)
 
+  abbrev pub each_numbered : Text → App
+  each_numbered name = with_rule (with_rule (each_file name) (flag_rule (codes "keep-going"))) message_rule
+
+  abbrev pub each_dumped : Text → App
+  each_dumped name = with_rule (each_numbered name) (flag_rule (codes "html"))
+
   abbrev pub each_counted : Text → App
-  each_counted name = with_rule (with_rule (each_file name) (flag_rule (codes "keep-going"))) (flag_rule (codes "summary"))
+  each_counted name = with_rule (with_skipping (each_file name)) (flag_rule (codes "summary"))
 
   abbrev pub each_going : Text → App
   each_going name = with_rule (each_counted name) (flag_rule (codes "json"))
 
   abbrev pub with_going : Text → App
-  with_going name = with_rule (with_rule (with_hex name) (flag_rule (codes "keep-going"))) (flag_rule (codes "summary"))
+  with_going name = with_rule (with_skipping (with_hex name)) (flag_rule (codes "summary"))
 
   abbrev pub with_lines : Text → App
   with_lines name = with_rule (with_going name) (flag_rule (codes "lines"))
 
   abbrev pub each_line : Text → App
-  each_line name = with_names (with_lines name)
+  each_line name = with_rule (with_names (with_lines name)) (flag_rule (codes "json"))
 
   -- a command on two files
   abbrev pub two_files : Text → App
@@ -103,7 +121,7 @@ module _ (names : ProfileNames) where
   -- the program with its six commands, and two topics
   abbrev pub program_of : App
   program_of = with_subcommand (with_subcommand (with_subcommand (with_subcommand (with_subcommand (with_subcommand (with_subcommand (with_subcommand top
-      (each_going (codes "show")).top) (each_line (codes "check")).top) (each_line (codes "digest")).top) (each_file (codes "dump")).top)
+      (each_going (codes "show")).top) (each_line (codes "check")).top) (each_line (codes "digest")).top) (each_dumped (codes "dump")).top)
       (two_files (codes "same")).top) (into_one (codes "canonicalise")).top) (topic (codes "causes")).top) (topic (codes "profile")).top
 
 -- a reference, where the place in memory makes no difference

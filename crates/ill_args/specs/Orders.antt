@@ -1,7 +1,8 @@
 -- Which words give an order.
-use Rattle.std.specs.Prelude.{◌≡◌, ◌≢◌, ◌<◌, ◌+◌, ℕ, Bool, true, false, List, [], ◌∷◌, length, map, codes, count_by, Option, Some, None, option_map, unwrap_or}
+use Rattle.std.specs.Prelude.{◌≡◌, ◌≢◌, ◌⊎◌, ◌<◌, ◌+◌, ◌^◌, ℕ, Bool, true, false, List, [], ◌∷◌, length, map, codes, count_by, Option, Some, None, is_some, option_map, unwrap_or, IsTrue}
 use Rattle.std.specs.Option.{option_map_or}
 use Rattle.std.specs.Str.{bytes_eq}
+use Rattle.std.specs.Str.Parse.{IsNumeral, digits_value, without_leading_plus}
 use Rattle.clap.specs.Walk.{Row, Text, all_of, first_of, one_of}
 use Rattle.ill_schema.specs.declared.profile.Profile.{Profile}
 use Rattle.ill_args.specs.declared.orders.FileJob.{FileJob}
@@ -65,6 +66,12 @@ HasFiles rows (Task.Compare first second) = HasPair rows first.now second.now
 abbrev pub is_set : Text → List Row → Bool
 is_set name rows = option_map_or (λ text. bytes_eq text (codes "true")) (one_of name rows) false
 
+-- the value of an option is the word for this number, in decimal digits; there is none where it has no value, or one that is no such word
+abbrev pub IsNumber : Option Text → Option ℕ → Type 0
+IsNumber None number = number ≡ None
+IsNumber (Some word) (Some n) = (IsNumeral 10 (without_leading_plus word) × (digits_value 10 (without_leading_plus word) < 2 ^ 32)) × (n ≡ digits_value 10 (without_leading_plus word))
+IsNumber (Some word) None = IsNumeral 10 (without_leading_plus word) × (digits_value 10 (without_leading_plus word) < 2 ^ 32) → ⊥
+
 -- the value of `--profile` is the word for this profile
 abbrev pub NamesProfile : List Row → Profile → Type 0
 NamesProfile rows profile = first_of (codes "profile") rows ≡ Some (profile_name profile)
@@ -77,10 +84,13 @@ pub record IsOrderOf (found : Option (Text × List Row)) (order : Order) : Type 
   pub hex : order.hex ≡ is_set (codes "hex") rows
   pub lines : order.lines ≡ is_set (codes "lines") rows
   pub going : order.keep_going ≡ is_set (codes "keep-going") rows
+  pub refused : first_of (codes "refused") rows ≡ option_map (λ word. word.now) order.refused
   pub summary : order.summary ≡ is_set (codes "summary") rows
   pub json : order.json ≡ is_set (codes "json") rows
   pub filename : order.with_filename ≡ is_set (codes "with-filename") rows
   pub whole : order.whole ≡ is_set (codes "whole") rows
+  pub message : IsNumber (one_of (codes "message") rows) order.message
+  pub html : order.html ≡ is_set (codes "html") rows
   pub files : HasFiles rows order.task
 
 -- how many of the words are this name
@@ -149,6 +159,30 @@ LinesGoOn order = (order.keep_going ≡ true) × (order.lines ≡ true)
 -- each line has its result, and messages are not counted
 abbrev pub LinesAreCounted : Order → Type 0
 LinesAreCounted order = (order.summary ≡ true) × (order.lines ≡ true)
+
+-- each line has its result in words
+abbrev pub LinesAreJson : Order → Type 0
+LinesAreJson order = (order.json ≡ true) × (order.lines ≡ true)
+
+-- refused messages are to go to a file, and the first one ends the work
+abbrev pub RefusedEndsWork : Order → Type 0
+RefusedEndsWork order = IsTrue (is_some order.refused) × (order.keep_going ≡ false)
+
+-- a task reads or writes the file of this word
+abbrev pub NamesFile : Task → Text → Type 0
+NamesFile task word = elim task as (λ _. Type 0) [
+  | Task.Each job inputs ↦ 0 < reads inputs word
+  | Task.Canonicalise input output ↦ (input.now ≡ word) ⊎ (output.now ≡ word)
+  | Task.Collect inputs output ↦ (0 < reads inputs word) ⊎ (output.now ≡ word)
+  | Task.Compare first second ↦ ⊥
+]
+
+-- refused messages are to go to standard output, or to another file of the command
+abbrev pub SharesRefused : Order → Type 0
+SharesRefused order = elim order.refused as (λ _. Type 0) [
+  | None ↦ ⊥
+  | Some word ↦ (word.now ≡ codes "-") ⊎ NamesFile order.task word.now
+]
 
 -- OUT is to be replaced as a whole, but is standard output
 abbrev pub WholeIsPrinted : Order → Type 0

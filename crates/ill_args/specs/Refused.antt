@@ -5,8 +5,8 @@ use Rattle.clap.specs.Words.{HasKind, Kinds, kind_of}
 use Rattle.clap.specs.declared.error.kind.ErrorKind.{ErrorKind}
 use Rattle.ill_args.specs.declared.orders.Order.{Order}
 use Rattle.ill_args.specs.declared.fault.LineFault.{LineFault}
-use Rattle.ill_args.specs.declared.fault.LineFault.TheVariants.{Line, SameWord, InputTwice, OutputIsRead, Missing, Unexpected, LinesAndHex, LinesAndKeepGoing, LinesAndSummary, NotOneFile, WholeNeedsFile}
-use Rattle.ill_args.specs.Orders.{files_in, IsBoth, IsOrderOf, HasSameWord, LinesAreCounted, LinesGoOn, NamesNotOne, NamesNothing, ReadsInputTwice, ReadsOutput, WholeIsPrinted}
+use Rattle.ill_args.specs.declared.fault.LineFault.TheVariants.{Line, SameWord, InputTwice, OutputIsRead, Missing, Unexpected, LinesAndHex, LinesAndKeepGoing, LinesAndSummary, LinesAndJson, NotOneFile, RefusedNeedsKeepGoing, RefusedIsShared, WholeNeedsFile}
+use Rattle.ill_args.specs.Orders.{files_in, IsBoth, IsOrderOf, HasSameWord, LinesAreCounted, LinesAreJson, LinesGoOn, NamesNotOne, NamesNothing, ReadsInputTwice, ReadsOutput, RefusedEndsWork, SharesRefused, WholeIsPrinted}
 
 -- words of `canonicalise` that are fewer than IN and OUT, or come with a list of files, and have no `-o`
 abbrev pub LacksTwo : List Row → Type 0
@@ -31,7 +31,10 @@ IsFaultOf found (Unexpected error) = (kind_of error ≡ ErrorKind.UnknownArgumen
 IsFaultOf found LinesAndHex = (order : Order) × IsOrderOf found order × IsBoth order
 IsFaultOf found LinesAndKeepGoing = (order : Order) × IsOrderOf found order × LinesGoOn order
 IsFaultOf found LinesAndSummary = (order : Order) × IsOrderOf found order × LinesAreCounted order
+IsFaultOf found LinesAndJson = (order : Order) × IsOrderOf found order × LinesAreJson order
 IsFaultOf found NotOneFile = (order : Order) × IsOrderOf found order × NamesNotOne order
+IsFaultOf found RefusedNeedsKeepGoing = (order : Order) × IsOrderOf found order × RefusedEndsWork order
+IsFaultOf found RefusedIsShared = (order : Order) × IsOrderOf found order × SharesRefused order
 IsFaultOf found WholeNeedsFile = (order : Order) × IsOrderOf found order × WholeIsPrinted order
 
 -- memory ran out

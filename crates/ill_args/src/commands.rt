@@ -2,10 +2,11 @@
 ghost use Rattle.std.specs.Prelude.{◌≡◌, codes, false, IfOk};
 ghost use Rattle.clap.specs.Words.{app_of, rule_of};
 ghost use Rattle.clap.specs.declared.builder.command.Command.TheViews.{out-Command as fields_of};
-ghost use Rattle.ill_args.specs.CommandLine.{each_counted, each_file, each_going, each_line, file_rule, filename_rule, files_rule, flag_rule, into_one, list_rule, output_rule, profile_rule, program_of, topic, two_files, with_files, with_going, with_hex, with_lines, with_names, with_output, with_whole};
+ghost use Rattle.ill_args.specs.CommandLine.{each_counted, each_dumped, each_file, each_going, each_line, each_numbered, file_rule, filename_rule, files_rule, flag_rule, into_one, list_rule, message_rule, output_rule, profile_rule, program_of, refused_rule, topic, two_files, with_files, with_going, with_hex, with_lines, with_names, with_output, with_skipping, with_whole};
 ghost use Rattle.ill_args.specs.code.Commands.{AreAllNames};
 
 use crate::{help, topics};
+use clap::builder::ValueParser;
 use clap::{Arg, ArgAction, Command};
 use std::alloc::{AllocError, Global};
 
@@ -19,13 +20,23 @@ const HEX: &str = "The input is hexadecimal text, in either case, with or withou
 const KEEP_GOING: &str =
     "Reports a message that is refused, and goes on with the next one, where its end is known";
 
+const REFUSED: &str =
+    "Writes the octets of refused messages to FILE, where their ends are known; needs --keep-going";
+
 const WITH_FILENAME: &str =
     "Names the file in each line, even if there is one file; with --lines it changes nothing";
 
 const SUMMARY: &str =
     "Writes a line to standard error at the end: how many files, messages and octets there were";
 
+const MESSAGE: &str = "Writes message N alone; refused ones count, too, with --keep-going";
+
+const HTML: &str = "Writes one HTML document for all files, as a report; it needs no other file";
+
 const JSON: &str = "Writes a line of JSON for each message";
+
+const RESULTS_AS_JSON: &str =
+    "Writes a line of JSON for each message, refused ones too, and with --summary one of the numbers";
 
 const MESSAGES: &str = "The messages; `-` is standard input";
 
@@ -85,6 +96,17 @@ fn filename<'a>(alloc: Global) -> Arg<'a>
         .help(WITH_FILENAME)
 }
 
+/// The option `--refused FILE`.
+fn refused<'a>(alloc: Global) -> Arg<'a>
+    ensures rule { rule_of result ≡ refused_rule }
+    ensures local { result.global ≡ false }
+{
+    Arg::new(alloc, "refused")
+        .long("refused")
+        .value_name("FILE")
+        .help(REFUSED)
+}
+
 fn output<'a>(alloc: Global) -> Arg<'a>
     ensures rule { rule_of result ≡ output_rule }
     ensures local { result.global ≡ false }
@@ -94,6 +116,18 @@ fn output<'a>(alloc: Global) -> Arg<'a>
         .long("output")
         .value_name("OUT")
         .help("Writes the normal forms of the messages of each FILE to OUT; `-` is standard output")
+}
+
+/// The option `--message N`.
+fn message<'a>(alloc: Global) -> Arg<'a>
+    ensures rule { rule_of result ≡ message_rule }
+    ensures local { result.global ≡ false }
+{
+    Arg::new(alloc, "message")
+        .long("message")
+        .value_name("N")
+        .value_parser(ValueParser::unsigned(1, 1_000_000))
+        .help(MESSAGE)
 }
 
 /// The option `--profile NAME`, which has one of these names.
@@ -182,6 +216,17 @@ fn on_each<'a>(
     )
 }
 
+/// A command that goes on after a message that is refused, whose octets may go to a file.
+fn with_skipping<'a>(alloc: Global, command: Command<'a>) -> Result<Command<'a>, AllocError>
+    requires { (fields_of command).has_globals ≡ false }
+    ensures { IfOk result (λ c. (app_of c ≡ with_skipping (app_of command.entry))
+        × ((fields_of c).has_globals ≡ false)) }
+{
+    command
+        .arg(flag(alloc, "keep-going", KEEP_GOING))?
+        .arg(refused(alloc))
+}
+
 /// A command that goes on after a message that is refused, and counts messages.
 fn by_messages<'a>(
     alloc: Global,
@@ -193,9 +238,9 @@ fn by_messages<'a>(
     ensures { IfOk result (λ c. (app_of c ≡ with_going profiles.entry name.entry.now)
         × ((fields_of c).has_globals ≡ false)) }
 {
-    by_hex(alloc, profiles, name, about, after)?
-        .arg(flag(alloc, "keep-going", KEEP_GOING))?
-        .arg(flag(alloc, "summary", SUMMARY))
+    with_skipping(alloc, by_hex(alloc, profiles, name, about, after)?)?.arg(flag(
+        alloc, "summary", SUMMARY,
+    ))
 }
 
 /// A command that goes on after a message that is refused, counts messages, and reads lines, too.
@@ -240,7 +285,8 @@ fn on_each_or_lines<'a>(
         alloc,
         by_lines(alloc, profiles, name, about, after)?,
         MESSAGES,
-    )
+    )?
+    .arg(flag(alloc, "json", RESULTS_AS_JSON))
 }
 
 /// A command on files that goes on after a message that is refused, and counts messages.
@@ -254,9 +300,39 @@ fn on_each_counted<'a>(
     ensures { IfOk result (λ c. (app_of c ≡ each_counted profiles.entry name.entry.now)
         × ((fields_of c).has_globals ≡ false)) }
 {
+    with_skipping(alloc, on_each(alloc, profiles, name, about, after)?)?.arg(flag(
+        alloc, "summary", SUMMARY,
+    ))
+}
+
+/// A command on files that goes on after a message that is refused, and can be asked for one message.
+fn on_each_numbered<'a>(
+    alloc: Global,
+    profiles: &'a [&'a str],
+    name: &'a str,
+    about: &'a str,
+    after: &'a str,
+) -> Result<Command<'a>, AllocError>
+    ensures { IfOk result (λ c. (app_of c ≡ each_numbered profiles.entry name.entry.now)
+        × ((fields_of c).has_globals ≡ false)) }
+{
     on_each(alloc, profiles, name, about, after)?
         .arg(flag(alloc, "keep-going", KEEP_GOING))?
-        .arg(flag(alloc, "summary", SUMMARY))
+        .arg(message(alloc))
+}
+
+/// A command on files that can be asked for one message, and writes HTML on demand.
+fn on_each_dumped<'a>(
+    alloc: Global,
+    profiles: &'a [&'a str],
+    name: &'a str,
+    about: &'a str,
+    after: &'a str,
+) -> Result<Command<'a>, AllocError>
+    ensures { IfOk result (λ c. (app_of c ≡ each_dumped profiles.entry name.entry.now)
+        × ((fields_of c).has_globals ≡ false)) }
+{
+    on_each_numbered(alloc, profiles, name, about, after)?.arg(flag(alloc, "html", HTML))
 }
 
 /// A command on files that counts messages, and writes lines of JSON on demand.
@@ -299,11 +375,11 @@ pub fn digest<'a>(alloc: Global, profiles: &'a [&'a str]) -> Result<Command<'a>,
 }
 
 pub fn dump<'a>(alloc: Global, profiles: &'a [&'a str]) -> Result<Command<'a>, AllocError>
-    ensures { IfOk result (λ c. (app_of c ≡ each_file profiles.entry (codes "dump"))
+    ensures { IfOk result (λ c. (app_of c ≡ each_dumped profiles.entry (codes "dump"))
         × ((fields_of c).has_globals ≡ false)) }
 {
     let about = "Writes each element of the messages as it is spelled, and why one is refused";
-    on_each(alloc, profiles, "dump", about, help::DUMP)
+    on_each_dumped(alloc, profiles, "dump", about, help::DUMP)
 }
 
 fn same<'a>(alloc: Global, profiles: &'a [&'a str]) -> Result<Command<'a>, AllocError>

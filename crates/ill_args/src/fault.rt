@@ -33,9 +33,18 @@ pub enum LineFault {
     /// Each line has its result, and is not counted.
     #[error("--lines excludes --summary")]
     LinesAndSummary,
+    /// Each line has its result in words.
+    #[error("--lines excludes --json")]
+    LinesAndJson,
     /// The lines of none or of several files.
     #[error("--lines reads one FILE")]
     NotOneFile,
+    /// The first refused message ends the work.
+    #[error("--refused needs --keep-going")]
+    RefusedNeedsKeepGoing,
+    /// The file of refused messages is standard output, or another file of the command.
+    #[error("--refused needs a file of its own")]
+    RefusedIsShared,
     /// Standard output can't be replaced.
     #[error("--whole needs a file for OUT")]
     WholeNeedsFile,

@@ -23,8 +23,12 @@ Of several files, the line has the name of its file as `file`.
 With --keep-going each message that is refused has its line on standard error, and the
 next one is read, where the end of the refused one is known.
 
+With --refused FILE the octets of each message that is refused, and whose end is known,
+go to FILE, one message after the other. FILE is replaced as OUT of `canonicalise` is.
+
 With --summary a line on standard error at the end says how many files, messages and
-octets were read, and how many messages are in normal form, are not, and are refused.
+octets were read, how many messages are in normal form, are not, and are refused, and
+how many files could not be opened, or were left before their end. Lines say where.
 On a terminal, a line says how far the work is, where it takes more than two seconds.
 
 Example: illcanon show messages.ber
@@ -40,18 +44,30 @@ Each message has a line, as `message 1: Expired, 33 octets, normal` or
 `message 2: Expired, 47 octets, not normal, normal form 33 octets`. Of several files,
 each line begins with the name of its file and `: `.
 
+With --json each message is one line of JSON: its number, its offset and size in octets,
+its APDU, and whether it is in normal form. A refused message has its line there, too,
+and none on standard error: the cause, its offset in the message, and whether the message
+is invalid or only `not read`: --profile module reads on there, or a limit is passed.
+
 With --keep-going each message that is refused has its line on standard error, and the
 next one is read, where the end of the refused one is known.
 
+With --refused FILE the octets of each message that is refused, and whose end is known,
+go to FILE, one message after the other. FILE is replaced as OUT of `canonicalise` is.
+
 With --summary a line on standard error at the end says how many files, messages and
-octets were read, and how many messages are in normal form, are not, and are refused.
+octets were read, how many messages are in normal form, are not, and are refused, and
+how many files could not be opened, or were left before their end. Lines say where.
 On a terminal, a line says how far the work is, where it takes more than two seconds.
+
+With --json it is a line of JSON, the last one of the output.
 
 Example: illcanon check messages.ber | grep 'not normal'
          illcanon check --keep-going archive/*.ber > lines.txt 2> refused.txt
          find archive -name '*.ber' -print0 | illcanon check --files-from -
          illcanon check --lines messages.txt | grep -n refused
          illcanon check --keep-going --summary archive/*.ber > lines.txt
+         illcanon check --json --keep-going *.ber | jq -r '.refused.cause // empty'
 
 Status: 0 all are normal; 1 one is not normal or is refused, or the hexadecimal text
 is invalid; 2 usage; 3 memory, files or pipes. Of several files: 3 if one gave 3,
@@ -62,12 +78,20 @@ Each message has a line: its digest, which is SHA-256 of its normal form, in hex
 digits, two blanks, the name of the file, `:` and the number of the message. Messages
 that say the same have the same digest, however they are spelled.
 
+With --json each message has the line of `check --json`, and its digest as `digest`.
+
 With --keep-going each message that is refused has its line on standard error, and the
 next one is read, where the end of the refused one is known.
 
+With --refused FILE the octets of each message that is refused, and whose end is known,
+go to FILE, one message after the other. FILE is replaced as OUT of `canonicalise` is.
+
 With --summary a line on standard error at the end says how many files, messages and
-octets were read, and how many messages are in normal form, are not, and are refused.
+octets were read, how many messages are in normal form, are not, and are refused, and
+how many files could not be opened, or were left before their end. Lines say where.
 On a terminal, a line says how far the work is, where it takes more than two seconds.
+
+With --json it is a line of JSON, the last one of the output.
 
 Example: illcanon digest *.ber | sort | uniq -w 64 -D    # copies
          illcanon digest --keep-going archive/*.ber > digests.txt 2> refused.txt
@@ -84,15 +108,30 @@ tables, and the value of a leaf; and in brackets what is not normal in its spell
 `TRUE as 01` or `without inner SEQUENCE`. Where a message is refused, the elements
 before the place have their lines, and then comes the refusal: the cause in words, the
 names of the elements around the place, what was found there, and which tags were due.
+A part that ISO's module has and the profile doesn't is not wrong, and a line says so.
+The elements from the place on are listed as their identifiers and lengths give them,
+each as `(not judged)`.
+
+With --keep-going each message that is refused also has its line on standard error, and
+the next one is read, where the end of the refused one is known.
+
+With --message N only message N of each FILE is written, and nothing after it is read.
+An earlier one that is refused ends the work on FILE, unless --keep-going is given.
+
+With --html the lines are parts of one HTML document for all files, each element with
+the octets of its content beside it. It loads nothing, and has no script.
 
 Example: illcanon dump messages.ber
+         illcanon dump --keep-going --message 331 messages.ber
+         illcanon dump --html --keep-going messages.ber > messages.html
          echo 740430020500 | illcanon dump --hex -
 
 `illcanon help causes` explains each cause, and `illcanon help profile` says what is
 read of a message in each profile.
 
-Status: 0 done; 1 a message is refused, or the hexadecimal text is invalid; 2 usage;
-3 memory, files or pipes. Of several files: 3 if one gave 3, else 1 if one gave 1.";
+Status: 0 done; 1 a message is refused, there is no message N, or the hexadecimal text
+is invalid; 2 usage; 3 memory, files or pipes. Of several files: 3 if one gave 3,
+else 1 if one gave 1.";
 
 pub const SAME: &str = "\
 Writes `same` or `different`. Each file holds one message; at most one file is `-`.
@@ -130,8 +169,12 @@ is as it was if none can be opened. It must not be one of the files.
 With --keep-going each message that is refused has its line on standard error, and the
 next one is read, where the end of the refused one is known.
 
+With --refused FILE the octets of each message that is refused, and whose end is known,
+go to FILE, one message after the other. FILE is replaced as OUT of `canonicalise` is.
+
 With --summary a line on standard error at the end says how many files, messages and
-octets were read, and how many messages are in normal form, are not, and are refused.
+octets were read, how many messages are in normal form, are not, and are refused, and
+how many files could not be opened, or were left before their end. Lines say where.
 On a terminal, a line says how far the work is, where it takes more than two seconds.
 
 With --lines each line of OUT is the normal form of the message in this line of IN, or

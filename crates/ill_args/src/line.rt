@@ -4,7 +4,7 @@ ghost use Rattle.std.specs.String.{string_bytes};
 ghost use Rattle.clap.specs.Words.{fault_of, kind_of, subcommand_of};
 ghost use Rattle.clap.specs.declared.error.kind.ErrorKind.{ErrorKind};
 ghost use Rattle.ill_args.specs.CommandLine.{program};
-ghost use Rattle.ill_args.specs.Orders.{reads, HasSameWord, IsBoth, IsOrderOf, IsRead, LinesAreCounted, LinesGoOn, NamesNotOne, NamesNothing, ReadsInputTwice, ReadsOutput, WholeIsPrinted};
+ghost use Rattle.ill_args.specs.Orders.{reads, HasSameWord, IsBoth, IsOrderOf, IsRead, LinesAreCounted, LinesAreJson, LinesGoOn, NamesFile, NamesNotOne, NamesNothing, ReadsInputTwice, ReadsOutput, RefusedEndsWork, SharesRefused, WholeIsPrinted};
 ghost use Rattle.ill_args.specs.Refused.{IsFaultOf, IsRefusedBy};
 
 use crate::commands::{canonicalise, check, digest, dump, profiles, show};
@@ -23,10 +23,12 @@ use std::alloc::{AllocError, Global};
 /// The report of `clap` on words that are no command line, or that ask for help. Or a file is missing, or `canonicalise` has a word more
 /// than IN and OUT. Or `same` has `-` twice, or `canonicalise` one word other than `-` for IN and OUT. Or another command has `-` twice
 /// among its files and their list, or `-o` has one of these words. Or `--lines` has no file, several, or a list, or is given with `--hex`,
-/// `--keep-going` or `--summary`. Or `--whole` is given with standard output for OUT.
+/// `--keep-going`, `--summary` or `--json`. Or `--whole` is given with standard output for OUT. Or `--refused` is given without
+/// `--keep-going`, or with `-` or another of the command's files.
 pub fn order<'a>(alloc: Global, words: &'a [String]) -> Result<Order<'a>, LineFault>
     // The words have the order's command, profile, flags and files; standard input is not read twice, no file is written that is read by the
-    // same word, and there are files. Lines are those of one file, are no hexadecimal text, have no messages to pass over, and are not counted.
+    // same word, and there are files. Lines are those of one file, are no hexadecimal text, have no messages to pass over, are not counted,
+    // and have words. The file of refused messages is no other.
     ensures order { IfOk result
         (IsOrderOf (subcommand_of program (map string_bytes words.entry.now))) }
     ensures not_same { IfOk result (λ order. HasSameWord order → ⊥) }
@@ -36,8 +38,11 @@ pub fn order<'a>(alloc: Global, words: &'a [String]) -> Result<Order<'a>, LineFa
     ensures not_both { IfOk result (λ order. IsBoth order → ⊥) }
     ensures not_on { IfOk result (λ order. LinesGoOn order → ⊥) }
     ensures not_counted { IfOk result (λ order. LinesAreCounted order → ⊥) }
+    ensures in_words { IfOk result (λ order. LinesAreJson order → ⊥) }
     ensures one { IfOk result (λ order. NamesNotOne order → ⊥) }
     ensures replaced { IfOk result (λ order. WholeIsPrinted order → ⊥) }
+    ensures goes_on { IfOk result (λ order. RefusedEndsWork order → ⊥) }
+    ensures own { IfOk result (λ order. SharesRefused order → ⊥) }
     ensures fault { IfErr result
         (IsFaultOf (subcommand_of program (map string_bytes words.entry.now))) }
     // What clap finds wrong is refused, and nothing else, unless memory runs out.
@@ -68,11 +73,20 @@ pub fn order<'a>(alloc: Global, words: &'a [String]) -> Result<Order<'a>, LineFa
     if order.lines && order.summary {
         return Err(LineFault::LinesAndSummary);
     }
+    if order.lines && order.json {
+        return Err(LineFault::LinesAndJson);
+    }
     if names_not_one(&order) {
         return Err(LineFault::NotOneFile);
     }
     if whole_is_printed(&order) {
         return Err(LineFault::WholeNeedsFile);
+    }
+    if order.refused.is_some() && !order.keep_going {
+        return Err(LineFault::RefusedNeedsKeepGoing);
+    }
+    if shares_refused(&order) {
+        return Err(LineFault::RefusedIsShared);
     }
     Ok(order)
 }
@@ -168,6 +182,28 @@ fn whole_is_printed(order: &Order<'_>) -> bool
     match &order.task {
         Task::Canonicalise { output, .. } | Task::Collect { output, .. } => *output == "-",
         Task::Each { .. } | Task::Compare { .. } => false,
+    }
+}
+
+/// Tells whether the file of refused messages is standard output or another file of the command.
+fn shares_refused(order: &Order<'_>) -> bool
+    ensures { IsTrue result ↔ SharesRefused order.now }
+{
+    match order.refused {
+        Some(word) => word == "-" || names_file(&order.task, word),
+        None => false,
+    }
+}
+
+/// Tells whether a task reads or writes the file of this word.
+fn names_file(task: &Task<'_>, word: &str) -> bool
+    ensures { IsTrue result ↔ NamesFile task.now word.now }
+{
+    match task {
+        Task::Each { inputs, .. } => reads(inputs, word) > 0,
+        Task::Collect { inputs, output } => reads(inputs, word) > 0 || *output == word,
+        Task::Canonicalise { input, output } => *input == word || *output == word,
+        Task::Compare { .. } => false,
     }
 }
 

@@ -1,5 +1,5 @@
 //! Orders made of the matches that clap finds in the words.
-ghost use Rattle.std.specs.Prelude.{◌≡◌, [], map, codes, is_some, true, Some, IfOk, IfErr};
+ghost use Rattle.std.specs.Prelude.{◌≡◌, [], map, codes, is_some, option_map, true, Some, IfOk, IfErr};
 ghost use Rattle.std.specs.String.{string_bytes};
 ghost use Rattle.clap.specs.Words.{FailsBy, fault_of, first_of, found_of, kind_of, rows_of, subcommand_of, subcommand_rows_of};
 ghost use Rattle.clap.specs.declared.error.kind.ErrorKind.{ErrorKind};
@@ -7,7 +7,8 @@ ghost use Rattle.ill_args.specs.CommandLine.{program};
 ghost use Rattle.ill_args.specs.declared.orders.Inputs.{Inputs};
 ghost use Rattle.ill_args.specs.declared.orders.Task.{Task};
 ghost use Rattle.ill_args.specs.declared.orders.Verb.{Verb};
-ghost use Rattle.ill_args.specs.Orders.{files_in, is_set, verb as verb_of_task, verb_name, HasFiles, HasInputs, IsOrderOf, NamesProfile};
+ghost use Rattle.clap.specs.Walk.{one_of};
+ghost use Rattle.ill_args.specs.Orders.{files_in, is_set, verb as verb_of_task, verb_name, HasFiles, HasInputs, IsNumber, IsOrderOf, NamesProfile};
 ghost use Rattle.ill_args.specs.Refused.{IsFaultOf, IsOutOfMemory, IsRefusal, IsRefusedBy};
 ghost use Rattle.ill_args.specs.code.Commands.{HasBoth, HasProfile, IsCommand, IsInAndOut, IsNotInAndOut, IsVerb};
 
@@ -58,10 +59,13 @@ fn order_of<'a>(alloc: Global, matches: &ArgMatches<'a>) -> Result<Order<'a>, Li
         hex: is_set(words, "hex"),
         lines: is_set(words, "lines"),
         keep_going: is_set(words, "keep-going"),
+        refused: refused(words),
         summary: is_set(words, "summary"),
         json: is_set(words, "json"),
         with_filename: is_set(words, "with-filename"),
         whole: is_set(words, "whole"),
+        message: number_of(words, "message"),
+        html: is_set(words, "html"),
         task,
     })
 }
@@ -78,11 +82,26 @@ fn profile_of(words: &ArgMatches<'_>) -> Profile
     }
 }
 
+/// The file of refused messages, if one is named.
+fn refused<'a>(words: &ArgMatches<'a>) -> Option<&'a str>
+    ensures { first_of (codes "refused") (rows_of (found_of words.now))
+        ≡ option_map (λ word. word.now) result }
+{
+    words.get_str("refused")
+}
+
 /// Tells whether a flag is set.
 fn is_set(words: &ArgMatches<'_>, name: &str) -> bool
     ensures { result ≡ is_set name.now (rows_of (found_of words.now)) }
 {
     words.get_one(name).unwrap_or(false)
+}
+
+/// The number that is the value of an option; None where it isn't given.
+fn number_of(words: &ArgMatches<'_>, name: &str) -> Option<u32>
+    ensures { IsNumber (one_of name.now (rows_of (found_of words.now))) result }
+{
+    words.get_one(name)
 }
 
 /// The command of this name.

@@ -24,7 +24,9 @@ pub struct Order<'a> {
     pub lines: bool,
     /// True if a message that is refused is reported, and the next one read.
     pub keep_going: bool,
-    /// True if `show` writes a line of JSON for each message.
+    /// The file that gets the octets of refused messages.
+    pub refused: Option<&'a str>,
+    /// True if a line of JSON is written for each message.
     pub json: bool,
     /// True if a line at the end says how many files and messages there were.
     pub summary: bool,
@@ -32,6 +34,10 @@ pub struct Order<'a> {
     pub with_filename: bool,
     /// True if the output of `canonicalise` is replaced only if every message was good.
     pub whole: bool,
+    /// The number of the one message that `dump` writes; None where it writes each.
+    pub message: Option<u32>,
+    /// True if `dump` writes an HTML document.
+    pub html: bool,
     pub task: Task<'a>,
 }
 

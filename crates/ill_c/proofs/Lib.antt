@@ -1,5 +1,4 @@
 pub mod CTexts
-pub mod CauseNames
 pub mod Framings
 pub mod Fronts
 pub mod Made

@@ -14,7 +14,7 @@ use Rattle.ill_c.specs.Memory.{Change, Fills, Lacks, Reports, IsFlag}
 use Rattle.ill_c.specs.OneResult.{WritesOnce, ChecksOnce, ComparesOnce, FindsOnce, WritesFrontOnce, DumpsOnce, FramesOnce, NamesCauseOnce, PutsOnce}
 use Rattle.ill_c.specs.Refusals.{reported}
 use Rattle.ill_c.specs.Status.{EndsWith, status_number}
-use Rattle.ill_c.proofs.CauseNames.{one_name}
+use Rattle.ill_schema.proofs.CauseNumbers.{one_name}
 use Rattle.ill_c.proofs.Framings.{frame_at_front, part_has_no_front}
 
 -- a call whose octets are refused in one way reports that refusal

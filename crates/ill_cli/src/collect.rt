@@ -2,6 +2,7 @@
 use crate::each::{combined_status, list_of, names_of, names_standard_input_twice, text_of};
 use crate::input::{put_all, write_input};
 use crate::plan::{Action, InputAction};
+use crate::refused::{OtherFiles, close_refused, is_one_of, open_refused};
 use crate::tally::Tally;
 use ill_args::{Inputs, LineFault};
 use ill_commands::Verdict;
@@ -10,7 +11,6 @@ use ill_files::{
     keeps_output, open_input, open_output, printed, status_of,
 };
 use std::rt::Files;
-use std::str;
 
 /// Writes what is made of each file to one output, prints the line of each error, and returns the exit status. The output is opened after
 /// the first of the files, and only if it is not one of the files. It stays as it was if [`keeps_output`] says so of one of the files.
@@ -20,6 +20,7 @@ pub fn collect<R: Print + Eprint + Input + Files + AllocGlobal + Host>(
     inputs: &Inputs<'_>,
     output: &str,
     whole: bool,
+    refused: Option<&str>,
     tally: &mut Tally<'_>,
 ) -> u8 {
     let alloc = rt.alloc();
@@ -37,25 +38,27 @@ pub fn collect<R: Print + Eprint + Input + Files + AllocGlobal + Host>(
     if written.is_some() && (read == written || is_one_of(rt, &names, written)) {
         return tally.end(rt, &Err(ProgramError::SameFile));
     }
-    match names.as_slice() {
+    let others = OtherFiles {
+        inputs: &names,
+        list: read,
+        output,
+    };
+    let refused_output = Output::new();
+    let file = match open_refused(rt, refused, others, &refused_output) {
+        Ok(file) => file,
+        Err(error) => return tally.end(rt, &Err(error)),
+    };
+    let kept = file.is_some().then_some(&refused_output);
+    tally.progress.expect(rt, &names);
+    let status = match names.as_slice() {
         [name] => {
-            let done = canonicalise_one(rt, action, name, output, whole, tally);
+            let done = canonicalise_one(rt, action, name, output, whole, kept, tally);
+            tally.add_end(rt, name, &done);
             tally.end(rt, &done)
         }
-        names => canonicalise_all(rt, action, names, output, whole, tally),
-    }
-}
-
-/// Tells whether one of the files is this one.
-fn is_one_of<R: Files>(rt: &R, names: &[&[u8]], file: Option<FileId>) -> bool {
-    for name in names {
-        if let Ok(name) = str::from_utf8(name) {
-            if FileId::of_input(rt, name) == file {
-                return true;
-            }
-        }
-    }
-    false
+        names => canonicalise_all(rt, action, names, output, whole, kept, tally),
+    };
+    close_refused(rt, file, &refused_output, tally, status)
 }
 
 /// Writes what is made of the one file that is named.
@@ -65,11 +68,12 @@ fn canonicalise_one<R: Print + Eprint + Input + Files + AllocGlobal + Host>(
     name: &[u8],
     output: &str,
     whole: bool,
+    kept: Option<&OutputOf<'_, R>>,
     tally: &mut Tally<'_>,
 ) -> Result<Verdict, ProgramError> {
     let name = text_of(rt.alloc(), name)?;
     let task = InputAction::new(action, name, 1);
-    write_input(rt, task, name, output, whole, tally)
+    write_input(rt, task, name, output, whole, kept, tally)
 }
 
 /// Writes what is made of several files.
@@ -79,6 +83,7 @@ fn canonicalise_all<R: Print + Eprint + Input + Files + AllocGlobal + Host>(
     names: &[&[u8]],
     name_of_output: &str,
     whole: bool,
+    kept: Option<&OutputOf<'_, R>>,
     tally: &mut Tally<'_>,
 ) -> u8 {
     let output = Output::new();
@@ -96,9 +101,11 @@ fn canonicalise_all<R: Print + Eprint + Input + Files + AllocGlobal + Host>(
             name_of_output,
             whole,
             &mut destination,
+            kept,
             tally,
         ) {
             Ok(done) => {
+                tally.add_end(rt, name, &done);
                 tally.print_of(rt, name, &done);
                 status = combined_status(status, status_of(&done));
                 keep = keep | keeps_output(whole, &done);
@@ -130,6 +137,7 @@ fn append_file<'r, R: Print + Eprint + Input + Files + AllocGlobal + Host>(
     name_of_output: &str,
     whole: bool,
     destination: &mut Option<OutputDestination>,
+    kept: Option<&OutputOf<'_, R>>,
     tally: &mut Tally<'_>,
 ) -> Result<Result<Verdict, ProgramError>, ProgramError> {
     let alloc = rt.alloc();
@@ -146,7 +154,7 @@ fn append_file<'r, R: Print + Eprint + Input + Files + AllocGlobal + Host>(
     };
     open_once(rt, output, name_of_output, whole, destination)?;
     let task = InputAction::new(action, &name, count);
-    let done = put_all(rt, task, &mut source, output, tally);
+    let done = put_all(rt, task, &mut source, output, kept, tally);
     if is_output_lost(&done) {
         return done.map(Ok);
     }

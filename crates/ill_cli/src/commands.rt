@@ -4,10 +4,12 @@ use crate::compare::compare;
 use crate::each::print_each;
 use crate::input::write_input;
 use crate::plan::{InputAction, Plan};
+use crate::refused::{OtherFiles, close_refused, open_refused};
+use crate::summary::JsonSummary;
 use crate::tally::{Tally, end};
 use crate::words::{printable_error, words_of};
 use ill_args::{Order, order};
-use ill_files::{Host, ProgramError, ProgressLine, print_error, status_of};
+use ill_files::{Host, Output, ProgramError, ProgressLine, print_error, status_of};
 use std::rt::{Env, Files};
 
 /// Does what the process's words say, prints the line of each error, and returns the exit status: 0, 1, 2 or 3, as [`status_of`] says.
@@ -46,15 +48,29 @@ pub fn run_order<R: Print + Eprint + Input + Files + AllocGlobal + Host>(
     } else {
         ProgressLine::none()
     };
-    let mut tally = Tally::new(&progress);
-    let status = run_plan(rt, Plan::new(order), &mut tally);
-    if is_counted {
-        progress.clear(rt);
-        let summary = tally.summary;
-        // A line that can't be written changes nothing of the work.
-        let _ = eprintln!(rt; "illcanon: {summary}");
+    let mut tally = Tally::new(is_counted, &progress);
+    let plan = Plan::new(order);
+    let is_json = plan.has_json_results();
+    let status = run_plan(rt, plan, &mut tally);
+    if !is_counted {
+        return status;
     }
+    progress.clear(rt);
+    let summary = tally.summary;
+    if is_json {
+        return print_json(rt, JsonSummary(summary), status);
+    }
+    // A line that can't be written changes nothing of the work.
+    let _ = eprintln!(rt; "illcanon: {summary}");
     status
+}
+
+/// Prints the numbers as a line of the output, and returns the exit status of the work, or that of the line where it can't be written.
+fn print_json<R: Print + Eprint>(rt: &R, summary: JsonSummary, status: u8) -> u8 {
+    match println!(rt; "{summary}") {
+        Ok(()) => status,
+        Err(error) => end(rt, &Err(ProgramError::of_output(&error))),
+    }
 }
 
 /// Does what a plan says, prints the line of each error, and returns the exit status.
@@ -64,27 +80,65 @@ fn run_plan<R: Print + Eprint + Input + Files + AllocGlobal + Host>(
     tally: &mut Tally<'_>,
 ) -> u8 {
     match plan {
-        Plan::Print { action, inputs } => print_each(rt, action, &inputs, tally),
+        Plan::Print {
+            action,
+            inputs,
+            refused,
+        } => print_each(rt, action, &inputs, refused, tally),
         Plan::Write {
             action,
             input,
             output,
             whole,
-        } => {
-            let task = InputAction::new(action, input, 1);
-            let done = write_input(rt, task, input, output, whole, tally);
-            tally.end(rt, &done)
-        }
+            refused,
+        } => write_one(
+            rt,
+            InputAction::new(action, input, 1),
+            input,
+            output,
+            whole,
+            refused,
+            tally,
+        ),
         Plan::Collect {
             action,
             inputs,
             output,
             whole,
-        } => collect(rt, action, &inputs, output, whole, tally),
+            refused,
+        } => collect(rt, action, &inputs, output, whole, refused, tally),
         Plan::Compare {
             reading,
             first,
             second,
         } => end(rt, &compare(rt, reading, first, second)),
     }
+}
+
+/// Writes what is made of one input to a file, prints the line of the error, and returns the exit status.
+fn write_one<R: Print + Eprint + Input + Files + AllocGlobal + Host>(
+    rt: &R,
+    task: InputAction<'_>,
+    input: &str,
+    output: &str,
+    whole: bool,
+    refused: Option<&str>,
+    tally: &mut Tally<'_>,
+) -> u8 {
+    let kept = Output::new();
+    let others = OtherFiles {
+        inputs: &[input.as_bytes()],
+        list: None,
+        output,
+    };
+    let file = match open_refused(rt, refused, others, &kept) {
+        Ok(file) => file,
+        Err(error) => return tally.end(rt, &Err(error)),
+    };
+    let to = file.is_some().then_some(&kept);
+    tally.progress.expect(rt, others.inputs);
+    let done = write_input(rt, task, input, output, whole, to, tally);
+    tally.add_end(rt, input.as_bytes(), &done);
+    let status = tally.end(rt, &done);
+    close_refused(rt, file, &kept, tally, status)
 }

@@ -5,25 +5,31 @@ ghost use Rattle.ill_files.specs.Status.{IsStatusOfEach, worst};
 
 use crate::input::print_input;
 use crate::plan::{Action, InputAction};
+use crate::refused::{OtherFiles, close_refused, open_refused};
 use crate::tally::Tally;
 use ill_args::{Inputs, LineFault};
-use ill_commands::{Job, Verdict};
-use ill_files::{FileId, Host, Name, ProgramError, is_output_lost, printed, read_whole, status_of};
+use ill_commands::Verdict;
+use ill_dump::{HTML_BEGIN, HTML_END};
+use ill_files::{
+    FileId, Host, Name, OpenObstacle, Output, OutputOf, ProgramError, is_output_lost, printed,
+    read_whole, status_of,
+};
 use std::alloc::{AllocError, Global};
 use std::rt::Files;
 use std::str;
 
 /// Prints what is made of each input, and the line of each error, and returns the exit status. Of several files each line names its file,
-/// and of one where that is asked for.
+/// and of one where that is asked for. The octets of refused messages go to the file of the name `refused`, if it is given.
 pub fn print_each<R: Print + Eprint + Input + Files + AllocGlobal + Host>(
     rt: &R,
     action: Action,
     inputs: &Inputs<'_>,
+    refused: Option<&str>,
     tally: &mut Tally<'_>,
 ) -> u8 {
     let alloc = rt.alloc();
-    let list = match list_of(rt, inputs.list) {
-        Ok((list, _)) => list,
+    let (list, read) = match list_of(rt, inputs.list) {
+        Ok(found) => found,
         Err(error) => return tally.end(rt, &Err(error)),
     };
     let Ok(names) = names_of(alloc, &inputs.files, &list) else {
@@ -32,12 +38,46 @@ pub fn print_each<R: Print + Eprint + Input + Files + AllocGlobal + Host>(
     if names_standard_input_twice(&names, inputs.list) {
         return tally.end(rt, &Err(ProgramError::from(LineFault::InputTwice)));
     }
-    match names.as_slice() {
+    let output = Output::new();
+    let others = OtherFiles {
+        inputs: &names,
+        list: read,
+        output: "-",
+    };
+    let file = match open_refused(rt, refused, others, &output) {
+        Ok(file) => file,
+        Err(error) => return tally.end(rt, &Err(error)),
+    };
+    let kept = file.is_some().then_some(&output);
+    tally.progress.expect(rt, &names);
+    let status = match names.as_slice() {
         [name] if !action.names_inputs() => {
-            let done = one_file(rt, action, name, 1, tally);
+            let done = one_file(rt, action, name, 1, kept, tally);
             tally.end(rt, &done)
         }
-        names => each_file(rt, action, names, tally),
+        names if action.is_document() => document(rt, action, names, kept, tally),
+        names => each_file(rt, action, names, kept, tally),
+    };
+    close_refused(rt, file, &output, tally, status)
+}
+
+/// Prints what is made of each file as one HTML document, and the line of each error, and returns the exit status.
+fn document<R: Print + Eprint + Input + Files + AllocGlobal + Host>(
+    rt: &R,
+    action: Action,
+    names: &[&[u8]],
+    kept: Option<&OutputOf<'_, R>>,
+    tally: &mut Tally<'_>,
+) -> u8 {
+    if let Err(error) = print!(rt; "{HTML_BEGIN}") {
+        return tally.end(rt, &Err(ProgramError::of_output(&error)));
+    }
+    let status = each_file(rt, action, names, kept, tally);
+    match print!(rt; "{HTML_END}") {
+        Ok(()) => status,
+        // Where the output was lost before, this was said.
+        Err(_) if status == 3 => status,
+        Err(error) => tally.end(rt, &Err(ProgramError::of_output(&error))),
     }
 }
 
@@ -110,13 +150,14 @@ fn each_file<R: Print + Eprint + Input + Files + AllocGlobal + Host>(
     rt: &R,
     action: Action,
     names: &[&[u8]],
+    kept: Option<&OutputOf<'_, R>>,
     tally: &mut Tally<'_>,
 ) -> u8
     ensures { IsStatusOfEach (length names.now) result }
 {
     let mut status = 0;
     for name in names {
-        let done = one_file(rt, action, name, names.len(), tally);
+        let done = one_file(rt, action, name, names.len(), kept, tally);
         tally.print_of(rt, name, &done);
         status = combined_status(status, status_of(&done));
         if is_output_lost(&done) {
@@ -139,22 +180,43 @@ pub fn combined_status(before: u8, next: u8) -> u8
     }
 }
 
-/// Prints what is made of the file of this name, one of `count`.
+/// Prints what is made of the file of this name, one of `count`, and counts it.
 fn one_file<R: Print + Eprint + Input + Files + AllocGlobal + Host>(
     rt: &R,
     action: Action,
     name: &[u8],
     count: usize,
+    kept: Option<&OutputOf<'_, R>>,
+    tally: &mut Tally<'_>,
+) -> Result<Verdict, ProgramError> {
+    let done = print_file(rt, action, name, count, kept, tally);
+    tally.add_end(rt, name, &done);
+    done
+}
+
+/// Prints what is made of the file of this name, one of `count`.
+fn print_file<R: Print + Eprint + Input + Files + AllocGlobal + Host>(
+    rt: &R,
+    action: Action,
+    name: &[u8],
+    count: usize,
+    kept: Option<&OutputOf<'_, R>>,
     tally: &mut Tally<'_>,
 ) -> Result<Verdict, ProgramError> {
     let alloc = rt.alloc();
     let file = text_of(alloc, name)?;
     // JSON has a form of its own for each character.
-    if let Action::Messages(Job::Json, _) = action {
-        return print_input(rt, InputAction::new(action, file, count), file, tally);
+    if action.is_json() {
+        return print_input(rt, InputAction::new(action, file, count), file, kept, tally);
     }
     let name = printed(alloc, file).map_err(|_| ProgramError::out_of_memory())?;
-    print_input(rt, InputAction::new(action, &name, count), file, tally)
+    print_input(
+        rt,
+        InputAction::new(action, &name, count),
+        file,
+        kept,
+        tally,
+    )
 }
 
 /// The name of a file as text. Other octets name no file that can be opened.
@@ -162,7 +224,7 @@ pub fn text_of(alloc: Global, name: &[u8]) -> Result<&str, ProgramError> {
     match str::from_utf8(name) {
         Ok(text) => Ok(text),
         Err(_) => match name.to_vec(alloc) {
-            Ok(octets) => Err(ProgramError::CannotOpen(Name(octets))),
+            Ok(octets) => Err(ProgramError::CannotOpen(Name(octets), OpenObstacle::NotText)),
             Err(AllocError) => Err(ProgramError::out_of_memory()),
         },
     }

@@ -1,7 +1,10 @@
 //! The lines of messages that are refused, where the work goes on after them.
+use crate::refused::KeepRefused;
+use crate::summary::LeftAt;
 use ill_commands::{RefusalReport, ReportRefusals, RunFault};
 use ill_files::{NameOf, ProgressLine, RunLine};
 use std::fmt;
+use std::io::Write;
 
 /// A message that is refused, as one line.
 #[derive(Clone, Copy, Debug, PartialEq, Eq)]
@@ -13,11 +16,12 @@ impl fmt::Display for ReportLine {
             RefusalReport {
                 message,
                 refusal,
-                ends,
+                octets,
+                ..
             },
         ) = *self;
         let line = RunLine(RunFault::Refused { message, refusal });
-        if ends {
+        if octets.is_some() {
             write!(f, "{line}")
         } else {
             write!(f, "{line}; its end is unknown")
@@ -27,20 +31,26 @@ impl fmt::Display for ReportLine {
 
 /// Prints the line of each message that is refused, with the name of its file where there are several.
 #[derive(Drop)]
-pub struct PrintReports<'a, R> {
+pub(crate) struct PrintReports<'a, R, S: Write + Drop, F: Write + Drop> {
     pub rt: &'a R,
     pub name: Option<&'a str>,
     /// True if the name is the file's own, and not yet as names are printed.
     pub is_raw: bool,
     pub progress: &'a ProgressLine,
+    /// Gets the octets of the messages.
+    pub kept: KeepRefused<'a, S, F>,
+    /// The place of the last message, if its end is unknown.
+    pub endless: Option<LeftAt>,
 }
 
-impl<R: Eprint> ReportRefusals for PrintReports<'_, R> {
+impl<R: Eprint, S: Write + Drop, F: Write + Drop> ReportRefusals for PrintReports<'_, R, S, F> {
     ghost use Rattle.std.specs.Prelude.{None};
 
     ghost reported = { λ _. None };
 
-    fn report(&mut self, report: RefusalReport) {
+    fn report(&mut self, report: RefusalReport, octets: &[u8]) {
+        self.kept.keep(report, octets);
+        self.endless = LeftAt::of_endless(report);
         let line = ReportLine(report);
         self.progress.clear(self.rt);
         // A line that can't be written changes nothing of the work.

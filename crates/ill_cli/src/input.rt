@@ -1,26 +1,30 @@
 //! Output of one input.
-ghost use Rattle.std.specs.Prelude.{◌≡◌, Bool, None, IfOk};
+ghost use Rattle.std.specs.Prelude.{◌≡◌, ◌==◌, ℕ, Bool, None, IfOk};
 ghost use Rattle.ill_normal.specs.Calls.{putting, taking};
 ghost use Rattle.ill_normal.specs.Skipping.{reporting};
 ghost use Rattle.ill_normal.specs.declared.skipping.SkippingCounts.{SkippingCounts};
 ghost use Rattle.ill_commands.specs.declared.job.Counts.{Counts};
 ghost use Rattle.ill_commands.specs.Skipping.{verdict_of_counts, RunsSkipping};
-ghost use Rattle.ill_commands.specs.Output.{verdict_if};
+ghost use Rattle.ill_normal.specs.Inputs.{verdict_if};
 ghost use Rattle.ill_commands.specs.Runs.{RunDone};
+ghost use Rattle.ill_normal.specs.declared.verdict.Verdict.{Verdict};
 ghost use Rattle.ill_dump.specs.Dumped.{DumpDone};
+ghost use Rattle.ill_dump.specs.Going.{DumpOnDone};
+ghost use Rattle.ill_dump.specs.declared.going.DumpCounts.{DumpCounts};
 ghost use Rattle.ill_lines.specs.Lines.{LinesDone};
 
 use crate::going::PrintReports;
 use crate::plan::InputAction;
+use crate::refused::KeepRefused;
+use crate::results::{has_json_result, put_first_results, put_results};
+use crate::summary::LeftAt;
 use crate::tally::Tally;
 use ber_core::{Buffered, BufferedSource, Sink, ToWrite};
-use ill_commands::{
-    Job, JobOptions, RunFault, Verdict, run_counting, run_skipping_peeking, verdict_of,
-};
-use ill_dump::{DumpOptions, run_dump};
+use ill_commands::{JobOptions, RunFault, Verdict, run_counting, run_skipping_peeking, verdict_of};
+use ill_dump::{DumpOptions, run_dump, run_dump_skipping};
 use ill_files::{
-    FileId, Host, Output, OutputOf, ProgramError, Shared, ToOutput, close_output, keeps_output,
-    open_and_identify, open_output, open_standard_output,
+    FileId, Host, MissingMessage, Output, OutputOf, ProgramError, Shared, ToOutput, close_output,
+    keeps_output, open_and_identify, open_output, open_standard_output,
 };
 use ill_lines::{LineOptions, LinesFault, run_lines_as};
 use std::alloc::Global;
@@ -32,10 +36,11 @@ pub(crate) fn print_input<R: Print + Eprint + Input + Files + AllocGlobal + Host
     rt: &R,
     task: InputAction<'_>,
     input: &str,
+    kept: Option<&OutputOf<'_, R>>,
     tally: &mut Tally<'_>,
 ) -> Result<Verdict, ProgramError> {
     let output = Output::new();
-    let done = put_input(rt, task, input, &output, tally);
+    let done = put_input(rt, task, input, &output, kept, tally);
     output.finish(done)
 }
 
@@ -46,6 +51,7 @@ fn put_input<'r, R: Print + Eprint + Input + Files + AllocGlobal + Host>(
     task: InputAction<'_>,
     input: &str,
     output: &OutputOf<'r, R>,
+    kept: Option<&OutputOf<'_, R>>,
     tally: &mut Tally<'_>,
 ) -> Result<Verdict, ProgramError> {
     let (mut source, read) = open_and_identify(rt, input, output, tally.progress)?;
@@ -56,7 +62,7 @@ fn put_input<'r, R: Print + Eprint + Input + Files + AllocGlobal + Host>(
         return Err(ProgramError::SameFile);
     }
     open_standard_output(rt, output)?;
-    put_all(rt, task, &mut source, output, tally)
+    put_all(rt, task, &mut source, output, kept, tally)
 }
 
 /// Writes what is made of the input of this name to an output. This is opened only once the input is, and only if it isn't the same file. It is
@@ -67,6 +73,7 @@ pub(crate) fn write_input<R: Print + Eprint + Input + Files + AllocGlobal + Host
     input: &str,
     name: &str,
     whole: bool,
+    kept: Option<&OutputOf<'_, R>>,
     tally: &mut Tally<'_>,
 ) -> Result<Verdict, ProgramError> {
     let written = FileId::of_output(rt, name);
@@ -76,34 +83,55 @@ pub(crate) fn write_input<R: Print + Eprint + Input + Files + AllocGlobal + Host
         return Err(ProgramError::SameFile);
     }
     let destination = open_output(rt, &output, name, whole)?;
-    let done = put_all(rt, task, &mut source, &output, tally);
+    let done = put_all(rt, task, &mut source, &output, kept, tally);
     let keep = keeps_output(whole, &done);
     close_output(rt, &output, destination, name, keep, done)
 }
 
-/// Writes what is made of an input, and counts its messages.
-pub(crate) fn put_all<'o, R, I: Read, J: Read, S: Write + Drop, F: Write + Drop>(
+/// Writes what is made of an input, and counts its messages. The octets of those that are refused go to `kept`, if there is such an output.
+pub(crate) fn put_all<'o, R, I: Read, J: Read, S: Write + Drop, F: Write + Drop, P, Q>(
     rt: &R,
     task: InputAction<'_>,
     source: &mut Shared<'o, I, J, S, F>,
     output: &'o Output<S, F>,
+    kept: Option<&Output<P, Q>>,
     tally: &mut Tally<'_>,
 ) -> Result<Verdict, ProgramError>
 where
     R: Eprint + AllocGlobal,
+    P: Write + Drop,
+    Q: Write + Drop,
 {
     tally.add_file();
+    let kept = KeepRefused::to(kept);
     let mut sink = ToWrite::new(ToOutput {
         output,
         // The results of lines are there before more input is waited for.
         is_direct: matches!(task, InputAction::Lines(_)),
     });
     match task {
+        InputAction::Messages(work) if has_json_result(work.job) => {
+            let refused = ToWrite::new(ToOutput {
+                output,
+                is_direct: false,
+            });
+            put_first_results(rt.alloc(), work, source, &mut sink, refused, kept, tally)
+        }
         InputAction::Messages(work) => put_messages(rt.alloc(), work, source, &mut sink, tally),
+        InputAction::AcceptedMessages(work) if has_json_result(work.job) => {
+            let refused = ToWrite::new(ToOutput {
+                output,
+                is_direct: false,
+            });
+            put_results(rt.alloc(), work, source, &mut sink, refused, kept, tally)
+        }
         InputAction::AcceptedMessages(work) => put_accepted_messages(
-            rt, work, source, &mut sink, tally,
+            rt, work, source, &mut sink, kept, tally,
         ),
         InputAction::Elements(dump) => put_elements(rt.alloc(), dump, source, &mut sink),
+        InputAction::AllElements(dump) => put_all_elements(
+            rt, dump, source, &mut sink, kept, tally,
+        ),
         InputAction::Lines(work) => put_lines(rt.alloc(), work, source, &mut sink),
     }
 }
@@ -126,19 +154,35 @@ fn put_messages<S: BufferedSource, W: Sink>(
         Ok(verdict) => Ok(verdict),
         Err(error) => {
             tally.summary.add_fault(error);
+            tally.left_at = left_at(error, ran.counts.messages, ran.counts.octets);
             Err(ProgramError::from(error))
         }
     }
 }
 
+/// The place after messages of these numbers, if the fault is one of the input or of memory.
+pub(crate) fn left_at(fault: RunFault, messages: u32, octets: u64) -> Option<LeftAt> {
+    match fault {
+        RunFault::WriteFault(_) => None,
+        _ => Some(LeftAt {
+            message: messages.saturating_add(1),
+            offset: octets,
+        }),
+    }
+}
+
 /// Does a job with each message that isn't refused, and prints a line for each of the others.
-fn put_accepted_messages<R: Eprint + AllocGlobal, S: BufferedSource, W: Sink>(
+fn put_accepted_messages<R: Eprint + AllocGlobal, S: BufferedSource, W: Sink, P, Q>(
     rt: &R,
     work: JobOptions<'_>,
     source: &mut S,
     sink: &mut W,
+    kept: KeepRefused<'_, P, Q>,
     tally: &mut Tally<'_>,
 ) -> Result<Verdict, ProgramError>
+where
+    P: Write + Drop,
+    Q: Write + Drop,
     ensures { IfOk result (λ verdict. (gone : SkippingCounts)
         × (verdict ≡ verdict_of_counts work.entry.job gone)
         × RunsSkipping work.entry.hex work.entry
@@ -149,34 +193,96 @@ fn put_accepted_messages<R: Eprint + AllocGlobal, S: BufferedSource, W: Sink>(
     let mut reports = PrintReports {
         rt,
         name: work.names_input.then_some(work.name),
-        is_raw: matches!(work.job, Job::Json),
+        is_raw: work.job.is_json(),
         progress: tally.progress,
+        kept,
+        endless: None,
     };
-    match run_skipping_peeking::<S, Buffered, W, _>(rt.alloc(), work, source, sink, &mut reports) {
+    let ran = run_skipping_peeking::<S, Buffered, W, _>(
+        rt.alloc(),
+        work,
+        source,
+        sink,
+        &mut reports,
+    );
+    reports.kept.add_to(tally);
+    tally.left_at = reports.endless;
+    match ran {
         Ok(gone) => {
             tally.summary.add_skipping(gone);
             Ok(verdict_of(work.job, gone))
         }
         Err(halt) => {
             tally.summary.add_skipping(halt.before);
+            tally.left_at = left_at(halt.fault, halt.before.messages, halt.before.octets);
             Err(ProgramError::from(halt.fault))
         }
     }
 }
 
-/// Writes the elements of one message after another.
+/// Writes the elements of one message after another, up to one that is refused.
 fn put_elements<S: BufferedSource, W: Sink>(
     alloc: Global,
     dump: DumpOptions<'_>,
     source: &mut S,
     sink: &mut W,
 ) -> Result<Verdict, ProgramError>
-    ensures { IfOk result (λ _. DumpDone dump.entry.hex dump.entry
-        (S.left source.old) (S.left source.new) (W.contents sink.old) (W.contents sink.new)) }
+    ensures { IfOk result (λ verdict. (count : ℕ) × (verdict ≡ Verdict.Good)
+        × DumpDone dump.entry.hex dump.entry
+        (S.left source.old) (S.left source.new) (W.contents sink.old) (W.contents sink.new) count) }
 {
     match run_dump::<S, Buffered, W>(alloc, dump, source, sink) {
-        Ok(()) => Ok(Verdict::Good),
+        Ok(count) => match lacking(dump, count) {
+            Some(error) => Err(error),
+            None => Ok(Verdict::Good),
+        },
         Err(error) => Err(ProgramError::from(error)),
+    }
+}
+
+/// Writes the elements of each message, and prints a line for each that is refused.
+fn put_all_elements<R: Eprint + AllocGlobal, S: BufferedSource, W: Sink, P, Q>(
+    rt: &R,
+    dump: DumpOptions<'_>,
+    source: &mut S,
+    sink: &mut W,
+    kept: KeepRefused<'_, P, Q>,
+    tally: &Tally<'_>,
+) -> Result<Verdict, ProgramError>
+where
+    P: Write + Drop,
+    Q: Write + Drop,
+    ensures { IfOk result (λ verdict. (counts : DumpCounts)
+        × (verdict ≡ verdict_if (counts.refused == 0))
+        × DumpOnDone dump.entry.hex dump.entry
+        (S.left source.old) (S.left source.new) (W.contents sink.old) (W.contents sink.new)
+        (reporting None None) counts) }
+{
+    let mut reports = PrintReports {
+        rt,
+        name: dump.names_input.then_some(dump.name),
+        is_raw: false,
+        progress: tally.progress,
+        kept,
+        endless: None,
+    };
+    match run_dump_skipping::<S, Buffered, W, _>(rt.alloc(), dump, source, sink, &mut reports) {
+        Ok(counts) => match lacking(dump, counts.messages) {
+            Some(error) => Err(error),
+            None if counts.refused == 0 => Ok(Verdict::Good),
+            None => Ok(Verdict::NotGood),
+        },
+        Err(error) => Err(ProgramError::from(error)),
+    }
+}
+
+/// That the message which is asked for isn't among those of an input.
+fn lacking(dump: DumpOptions<'_>, count: u32) -> Option<ProgramError> {
+    match dump.only {
+        Some(number) if count < number => {
+            Some(ProgramError::NoMessage(MissingMessage { number, count }))
+        }
+        _ => None,
     }
 }
 

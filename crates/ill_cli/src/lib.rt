@@ -16,11 +16,14 @@ mod each;
 mod going;
 mod input;
 mod plan;
+mod refused;
+mod results;
 mod summary;
 mod tally;
+mod until_stopped;
 mod words;
 
 pub use commands::{run_order, run_program};
 pub use going::ReportLine;
 pub use plan::{Action, InputAction, Plan, ReadOptions};
-pub use summary::Summary;
+pub use summary::{JsonSummary, LeftAt, Summary};

@@ -1,10 +1,10 @@
 //! Plans of orders: a job, its options and its files.
 ghost use Rattle.std.specs.Prelude.{◌≡◌};
-ghost use Rattle.ill_cli.specs.Plans.{action_of, by_line, names_inputs, plan_of, input_action_of};
+ghost use Rattle.ill_cli.specs.Plans.{action_of, by_line, format_if, has_json_results, input_action_of, is_document, names_inputs, plan_of};
 
 use ill_args::{FileJob, Inputs, Order, Task};
 use ill_commands::{Job, JobOptions};
-use ill_dump::DumpOptions;
+use ill_dump::{DumpFormat, DumpOptions};
 use ill_lines::{LineJob, LineOptions};
 use ill_schema::Profile;
 
@@ -23,13 +23,22 @@ pub struct ReadOptions {
     pub names_inputs: bool,
 }
 
+/// The options of writing the elements of messages.
+#[derive(Clone, Copy, Debug, PartialEq, Eq)]
+pub struct ElementOptions {
+    /// The number of the one message that is written, from 1; None where each is.
+    pub only: Option<u32>,
+    /// True if they are written as an HTML document.
+    pub html: bool,
+}
+
 /// The action of a command on each of its inputs.
 #[derive(Clone, Copy, Debug, PartialEq, Eq)]
 pub enum Action {
     /// A job with one message after another.
     Messages(Job, ReadOptions),
     /// The elements of one message after another, as they are spelled.
-    Elements(ReadOptions),
+    Elements(ReadOptions, ElementOptions),
     /// A result for each line.
     Lines(LineOptions),
 }
@@ -41,6 +50,8 @@ pub enum Plan<'a> {
     Print {
         action: Action,
         inputs: Inputs<'a>,
+        /// The file that gets the octets of refused messages.
+        refused: Option<&'a str>,
     },
     /// Writes the output for one input to a file.
     Write {
@@ -49,6 +60,8 @@ pub enum Plan<'a> {
         output: &'a str,
         /// True if the output is replaced only if every message was good.
         whole: bool,
+        /// The file that gets the octets of refused messages.
+        refused: Option<&'a str>,
     },
     /// Writes the output for each input, in turn, to one file.
     Collect {
@@ -57,6 +70,8 @@ pub enum Plan<'a> {
         output: &'a str,
         /// True if the output is replaced only if every message of every input was good.
         whole: bool,
+        /// The file that gets the octets of refused messages.
+        refused: Option<&'a str>,
     },
     /// Prints whether two inputs hold the same message.
     Compare {
@@ -82,10 +97,13 @@ impl<'a> Plan<'a> {
             hex,
             lines,
             keep_going,
+            refused,
             json,
             summary,
             with_filename,
             whole,
+            message,
+            html,
             task,
         } = order;
         let reading = ReadOptions {
@@ -95,23 +113,30 @@ impl<'a> Plan<'a> {
             compares: summary,
             names_inputs: with_filename,
         };
+        let elements = ElementOptions {
+            only: message,
+            html,
+        };
         let canonical = by_line(lines, LineJob::Canonicalise, Job::Canonicalise, reading);
         match task {
             Task::Each { job, inputs } => Plan::Print {
-                action: action_of(job, lines, json, reading),
+                action: action_of(job, lines, json, elements, reading),
                 inputs,
+                refused,
             },
             Task::Canonicalise { input, output } => Plan::Write {
                 action: canonical,
                 input,
                 output,
                 whole,
+                refused,
             },
             Task::Collect { inputs, output } => Plan::Collect {
                 action: canonical,
                 inputs,
                 output,
                 whole,
+                refused,
             },
             Task::Compare { first, second } => Plan::Compare {
                 reading,
@@ -123,26 +148,68 @@ impl<'a> Plan<'a> {
 }
 
 /// The action of a command on each of its inputs.
-fn action_of(job: FileJob, lines: bool, json: bool, reading: ReadOptions) -> Action
-    ensures { result ≡ action_of job lines json reading }
+fn action_of(
+    job: FileJob,
+    lines: bool,
+    json: bool,
+    elements: ElementOptions,
+    reading: ReadOptions,
+) -> Action
+    ensures { result ≡ action_of job lines json elements reading }
 {
     match job {
         FileJob::Show if json => Action::Messages(Job::Json, reading),
         FileJob::Show => Action::Messages(Job::Show, reading),
+        FileJob::Check if json => by_line(lines, LineJob::Check, Job::CheckJson, reading),
         FileJob::Check => by_line(lines, LineJob::Check, Job::Check, reading),
+        FileJob::Digest if json => by_line(lines, LineJob::Digest, Job::DigestJson, reading),
         FileJob::Digest => by_line(lines, LineJob::Digest, Job::Digest, reading),
-        FileJob::Dump => Action::Elements(reading),
+        FileJob::Dump => Action::Elements(reading, elements),
+    }
+}
+
+impl Plan<'_> {
+    /// Tells whether results are lines of JSON, and so the numbers at the end.
+    pub fn has_json_results(&self) -> bool
+        ensures { result ≡ has_json_results self.now }
+    {
+        match self {
+            Plan::Print {
+                action: Action::Messages(job, _),
+                ..
+            } => matches!(*job, Job::CheckJson | Job::DigestJson),
+            _ => false,
+        }
     }
 }
 
 impl Action {
+    /// Tells whether lines are JSON.
+    pub fn is_json(&self) -> bool {
+        match self {
+            Action::Messages(job, _) => job.is_json(),
+            Action::Elements(..) | Action::Lines(_) => false,
+        }
+    }
+
     /// Tells whether lines name their input, even if there is one input.
     pub fn names_inputs(&self) -> bool
         ensures { result ≡ names_inputs self.now }
     {
         match self {
-            Action::Messages(_, reading) | Action::Elements(reading) => reading.names_inputs,
+            Action::Messages(_, reading) => reading.names_inputs,
+            Action::Elements(reading, elements) => reading.names_inputs || elements.html,
             Action::Lines(_) => false,
+        }
+    }
+
+    /// Tells whether what is written of all inputs is one HTML document.
+    pub fn is_document(&self) -> bool
+        ensures { result ≡ is_document self.now }
+    {
+        match self {
+            Action::Elements(_, elements) => elements.html,
+            Action::Messages(..) | Action::Lines(_) => false,
         }
     }
 }
@@ -161,6 +228,17 @@ fn by_line(lines: bool, line: LineJob, message: Job, reading: ReadOptions) -> Ac
     }
 }
 
+/// The format of an HTML document, or of text.
+fn format_if(html: bool) -> DumpFormat
+    ensures { result ≡ format_if html }
+{
+    if html {
+        DumpFormat::Html
+    } else {
+        DumpFormat::Text
+    }
+}
+
 /// The action on one input.
 #[derive(Clone, Copy, Debug)]
 pub enum InputAction<'a> {
@@ -168,8 +246,10 @@ pub enum InputAction<'a> {
     Messages(JobOptions<'a>),
     /// A job with each message that isn't refused. A line is printed for each of the others.
     AcceptedMessages(JobOptions<'a>),
-    /// The elements of one message after another.
+    /// The elements of one message after another, up to one that is refused.
     Elements(DumpOptions<'a>),
+    /// The elements of each message. A line is printed for each that is refused.
+    AllElements(DumpOptions<'a>),
     /// A result for each line.
     Lines(LineOptions),
 }
@@ -200,12 +280,21 @@ impl<'a> InputAction<'a> {
                     InputAction::Messages(work)
                 }
             }
-            Action::Elements(reading) => InputAction::Elements(DumpOptions {
-                profile: reading.profile,
-                hex: reading.hex,
-                name,
-                names_input: reading.names_inputs || count > 1,
-            }),
+            Action::Elements(reading, elements) => {
+                let dump = DumpOptions {
+                    profile: reading.profile,
+                    hex: reading.hex,
+                    name,
+                    names_input: reading.names_inputs || elements.html || count > 1,
+                    only: elements.only,
+                    format: format_if(elements.html),
+                };
+                if reading.keep_going {
+                    InputAction::AllElements(dump)
+                } else {
+                    InputAction::Elements(dump)
+                }
+            }
             Action::Lines(work) => InputAction::Lines(work),
         }
     }

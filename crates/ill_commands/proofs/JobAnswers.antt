@@ -16,11 +16,12 @@ use Rattle.ill_normal.proofs.WrittenMessages.{spelled_front}
 use Rattle.ill_normal.proofs.NormalStreams.{apdus_of, as_many, stream_of}
 use Rattle.ill_normal.specs.Calls.{taking, putting}
 use Rattle.ill_commands.specs.declared.job.Counts.{Counts}
-use Rattle.ill_commands.specs.declared.job.Verdict.{Verdict}
+use Rattle.ill_normal.specs.declared.verdict.Verdict.{Verdict}
 use Rattle.ill_commands.specs.declared.job.JobOptions.{JobOptions}
-use Rattle.ill_commands.specs.declared.fault.RunFault.{RunFault}
+use Rattle.ill_normal.specs.declared.run_fault.RunFault.{RunFault}
 use Rattle.ill_commands.specs.Output.{verdict_of}
-use Rattle.ill_commands.specs.Runs.{Writes, Stops, StopsAfter, Done, IsFault, AnswersVerdict, IsRefused, AnswersRefused, AnswersFault}
+use Rattle.ill_normal.specs.Inputs.{IsFault}
+use Rattle.ill_commands.specs.Runs.{Writes, Stops, StopsAfter, Done, AnswersVerdict, IsRefused, AnswersRefused, AnswersFault}
 
 pub same_spelling : (m n : Spelling) → m.apdu ≡ n.apdu → m.octets ≡ n.octets → m ≡ n
 same_spelling m n e f = ap (λ (a : Apdu). let x : Spelling = record { apdu = a; octets = m.octets } in x) e ∙ ap (λ (o : List ℕ). let x : Spelling = record { apdu = n.apdu; octets = o } in x) f

@@ -16,7 +16,8 @@ use Rattle.ill_normal.specs.declared.messages.StreamErrorKind.{StreamErrorKind}
 use Rattle.ill_normal.proofs.WrittenMessages.{output_push}
 use Rattle.ill_commands.specs.declared.job.JobOptions.{JobOptions}
 use Rattle.ill_commands.specs.declared.job.Job.{Job}
-use Rattle.ill_commands.specs.Output.{message_output, output, counts_as_good, counts_of, is_counted_good, verdict_if, verdict_of}
+use Rattle.ill_normal.specs.Inputs.{verdict_if}
+use Rattle.ill_commands.specs.Output.{message_output, output, counts_as_good, counts_of, is_counted_good, verdict_of}
 use Rattle.ill_commands.specs.Runs.{Writes, BrokeAt, Stops, StopsAfter, Done}
 use Rattle.ill_commands.specs.code.Endings.{counts_with, fault_after, run_fault, verdict_by}
 
@@ -35,6 +36,8 @@ module _ (work : JobOptions) where
   -- the job asks for what was counted, or for nothing
   is_verdict : (job : Job) (compares : Bool) (ms : List Spelling) → verdict_by job (list_all (counts_as_good q job compares) ms) ≡ verdict_of q job ms
   is_verdict Job.Check compares ms = refl
+  is_verdict Job.CheckJson compares ms = refl
+  is_verdict Job.DigestJson compares ms = sym (ap verdict_if (all_true ms))
   is_verdict Job.Show compares ms = sym (ap verdict_if (all_true ms))
   is_verdict Job.Json compares ms = sym (ap verdict_if (all_true ms))
   is_verdict Job.Digest compares ms = sym (ap verdict_if (all_true ms))

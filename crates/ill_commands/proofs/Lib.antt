@@ -1,9 +1,6 @@
-pub mod NormalTest
 pub mod MadePieces
+pub mod RefusalKinds
 pub mod JobEndings
 pub mod JobAnswers
 pub mod TextAnswers
 pub mod PairAnswers
-pub mod TakenOctets
-pub mod PlainTexts
-pub mod DigitErrors

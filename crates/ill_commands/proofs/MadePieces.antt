@@ -1,5 +1,5 @@
 -- What is made of a message is what the job writes of it.
-use Rattle.std.proofs.Common.{◌≡◌, ℕ, Bool, true, false, List, ◌++◌, codes, length, Vec, Global, refl, sym, ap, ap₂, subst, ◌∙◌}
+use Rattle.std.proofs.Common.{◌≡◌, ℕ, Bool, true, false, List, ◌++◌, codes, length, Option, Some, None, Vec, Global, refl, sym, ap, ap₂, subst, ◌∙◌}
 use Rattle.std.specs.Str.{bytes_eq}
 use Rattle.hex.specs.Hex.{encode_lower}
 use Rattle.sha2.specs.Sha256.{sha256}
@@ -22,10 +22,12 @@ use Rattle.ill_normal.specs.declared.messages.MessagePlace.{MessagePlace}
 use Rattle.ill_normal.specs.declared.messages.RenderedMessage.{RenderedMessage}
 use Rattle.ill_commands.specs.declared.piece.CheckedOutline.{CheckedOutline}
 use Rattle.ill_commands.specs.code.Finding.{IsFound}
-use Rattle.ill_commands.specs.Output.{file_of, head_of, label_of, line_of_check, line_of_digest}
+use Rattle.ill_normal.specs.Inputs.{label_of}
+use Rattle.ill_normal.specs.Messages.{spelling}
+use Rattle.ill_commands.specs.Output.{file_of, head_of, line_of_check, line_of_digest, line_of_result, result_line}
 use Rattle.ill_commands.specs.code.Writing.{IsMade, IsMadeForm, IsWritten}
 use Rattle.ill_commands.specs.declared.written.JobOutput.{JobOutput}
-use Rattle.ill_commands.proofs.NormalTest.{tests_equality}
+use Rattle.ill_normal.proofs.NormalTest.{tests_equality}
 
 module _ (work : JobOptions) (p : MessagePlace) where
   abbrev q : Profile
@@ -69,6 +71,36 @@ module _ (work : JobOptions) (p : MessagePlace) where
           good = same;
           size = h.3;
         }
+
+    -- the line of JSON of a message that was checked
+    result_same : (x : Checked) (b : List ℕ) (digest : Option (List ℕ)) → (h : DescribesIn q x b)
+        → line_of_result q work.names_input work.name.now p x.apdu x.octets x.is_normal digest ≡ result_line q work.names_input work.name.now p (spelling h.0 b) digest
+    result_same x b digest h =
+        let name = work.name.now in
+        let named = work.names_input in
+        ap (λ n. line_of_result q named name p n x.octets x.is_normal digest) h.2 ∙ ap (λ n. line_of_result q named name p h.0.number n x.is_normal digest) h.3
+        ∙ ap (λ (t : Bool). line_of_result q named name p h.0.number (length b) t digest) (tests_equality x.is_normal b (normal_form_in q h.0) h.5)
+
+    pub makes_check_json : (x : Checked) → text.items ≡ line_of_result q work.names_input work.name.now p x.apdu x.octets x.is_normal None → (b : List ℕ)
+        → DescribesIn q x b → IsMade Job.CheckJson work p (record { text = JobOutput.Octets text; is_good = x.is_normal; octets = x.octets }) b
+    makes_check_json x e b h = record {
+      apdu = h.0;
+      spells = h.1;
+      text = e ∙ result_same x b None h;
+      good = tests_equality x.is_normal b (normal_form_in q h.0) h.5;
+      size = h.3;
+    }
+
+    pub makes_digest_json : (x : Checked) (normal : List ℕ) → text.items ≡ line_of_result q work.names_input work.name.now p x.apdu x.octets x.is_normal (Some (sha256 normal)) → (b : List ℕ)
+        → DescribesIn q x b → IsFormIn q normal b → IsMade Job.DigestJson work p (record { text = JobOutput.Octets text; is_good = x.is_normal; octets = x.octets }) b
+    makes_digest_json x normal e b h form = record {
+      apdu = h.0;
+      spells = h.1;
+      text = e ∙ ap (λ l. line_of_result q work.names_input work.name.now p x.apdu x.octets x.is_normal (Some (sha256 l))) (form h.0 h.1)
+          ∙ result_same x b (Some (sha256 (normal_form_in q h.0))) h;
+      good = tests_equality x.is_normal b (normal_form_in q h.0) h.5;
+      size = h.3;
+    }
 
   pub makes_shown : (found : CheckedOutline) (text : JobOutput)
       → ((a : Apdu) (octets : List ℕ) → SpellsApdu q a octets → IsOutlineOf found.outline a → IsWritten text (label_of work.names_input work.name.now ++ shown_text_in q p.number a))

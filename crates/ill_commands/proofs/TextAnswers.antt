@@ -1,48 +1,21 @@
 -- Which result a text or plain octets have.
-use Rattle.std.proofs.Common.{◌≡◌, ℕ, ◌+◌, ◌<◌, Bool, true, false, List, [], ◌++◌, length, Option, Some, None, Result, Ok, Err, IfSome, refl, sym, ap, subst, ◌∙◌, inl, inr, arith, append-nil, length-append}
-use Rattle.std.specs.Prelude.{IfOk, IfErr, if◌then◌else◌}
-use Rattle.std.specs.Io.KnownBytes.{IsAtEnd}
-use Rattle.std.proofs.lemmas.Bool.{cases_lt, lt-ltb}
-use Rattle.hex.specs.Hex.{decode_of}
+use Rattle.std.proofs.Common.{◌≡◌, ℕ, ◌+◌, Bool, true, false, List, [], length, Option, Some, None, Result, Ok, Err, IfSome, refl, sym, subst, ◌∙◌, inl, inr}
+use Rattle.std.specs.Prelude.{IfOk, IfErr}
 use Rattle.ber_leaf.specs.Profile.{Profile}
 use Rattle.ill_schema.specs.Profiles.{profile_of}
 use Rattle.ill_refusals.specs.Fault.{Fault}
-use Rattle.ill_normal.proofs.InputAnswers.{front}
 use Rattle.ill_normal.specs.Calls.{taking, putting}
 use Rattle.ill_commands.specs.declared.job.Counts.{Counts}
 use Rattle.ill_commands.specs.declared.job.Job.{Job}
-use Rattle.ill_commands.specs.declared.job.Verdict.{Verdict}
+use Rattle.ill_normal.specs.declared.verdict.Verdict.{Verdict}
 use Rattle.ill_commands.specs.declared.job.JobOptions.{JobOptions}
-use Rattle.ill_commands.specs.declared.fault.RunFault.{RunFault}
-use Rattle.ill_commands.specs.Hexadecimal.{hex_octets, with_fault, without_blanks, TakesText}
+use Rattle.ill_normal.specs.declared.run_fault.RunFault.{RunFault}
+use Rattle.ill_normal.specs.Hexadecimal.{hex_octets}
 use Rattle.ill_normal.specs.Messages.{AreSpelledIn}
-use Rattle.ill_commands.specs.Runs.{Done, StopsAfter, TextOf, NoHex, FailsText, IsUnread, IsFault, IsRefused, DoesMessages, RefusesFirst, RefusesMore, RefusesText}
+use Rattle.ill_normal.specs.Inputs.{TextOf, NoHex, FailsText, IsUnread}
+use Rattle.ill_commands.specs.Runs.{Done, StopsAfter, IsRefused, DoesMessages, RefusesFirst, RefusesMore, RefusesText}
+use Rattle.ill_normal.proofs.HexAnswers.{is_fault, not_both, same_err, same_octets, same_ok}
 use Rattle.ill_commands.proofs.JobAnswers.{does, refuses, refuses_more}
-
-too_long : (text : List ℕ) → 4_194_304 < length text → hex_octets text ≡ Err RunFault.HexTooLong
-too_long text h = ap (λ (b : Bool). if b then Err RunFault.HexTooLong else with_fault (decode_of (without_blanks text))) (lt-ltb 4_194_304 (length text) h)
-
--- the text that was taken stands for what the whole does
-pub same_octets : (s : List ℕ) (left' : Option (List ℕ)) (text : List ℕ) → TakesText (Some s) left' text → hex_octets s ≡ hex_octets text
-same_octets s left' text h = elim (cases_lt 4_194_304 (length text)) [
-  | inl lt ↦
-      let t = front s left' text h.0 in
-      let more : 4_194_304 < length s = omega (arith, lt, ap length t.1, length-append text t.0) in
-      too_long s more ∙ sym (too_long text lt)
-  | inr le ↦
-      let t = front s left' text h.0 in
-      let none : t.0 ≡ [] = subst IsAtEnd t.2 (h.2 le) in
-      ap hex_octets (t.1 ∙ ap (λ l. text ++ l) none ∙ append-nil text)
-]
-
-pub same_ok : (r : Result (List ℕ) RunFault) (a b : List ℕ) → r ≡ Ok a → r ≡ Ok b → a ≡ b
-same_ok r a b e f = cc
-
-pub same_err : (r : Result (List ℕ) RunFault) (e f : RunFault) → r ≡ Err e → r ≡ Err f → e ≡ f
-same_err r e f h k = cc
-
-pub not_both : (r : Result (List ℕ) RunFault) (a : List ℕ) (e : RunFault) → r ≡ Ok a → r ≡ Err e → ⊥
-not_both r a e h k = cc
 
 module _ (work : JobOptions) (held held' : Option (List ℕ)) (x y : Bool) (answer : Result Verdict RunFault) (counts : Counts) where
   abbrev q : Profile
@@ -95,17 +68,6 @@ module _ (work : JobOptions) (held held' : Option (List ℕ)) (x y : Bool) (answ
     pub text_stands : (left left' : Option (List ℕ)) → TextOf left left' octets → IfSome left (λ s. RefusesText true s answer)
     text_stands None left' t = tt
     text_stands (Some s) left' t = λ fault e. absurd (not_both (hex_octets s) octets fault (stands s left' t) e)
-
-pub is_fault : (n : ℕ) (left left' : Option (List ℕ)) (x : Bool) (e : RunFault) → IsUnread n left left' x e → IsFault e
-is_fault n left left' x RunFault.OutOfMemory h = tt
-is_fault n left left' x RunFault.ReadFault h = tt
-is_fault n left left' x (RunFault.Refused message refusal) h = absurd h
-is_fault n left left' x (RunFault.RefusedSide side refusal) h = absurd h
-is_fault n left left' x RunFault.OddHex h = absurd h
-is_fault n left left' x (RunFault.BadHex i) h = absurd h
-is_fault n left left' x RunFault.HexTooLong h = absurd h
-is_fault n left left' x RunFault.TooManyMessages h = absurd h
-is_fault n left left' x (RunFault.WriteFault i) h = absurd h
 
 refused_or : (n : ℕ) (left left' : Option (List ℕ)) (x : Bool) (e : RunFault) (i : ℕ) (f : Fault) → IsUnread n left left' x e → IsRefused e i f
 refused_or n left left' x RunFault.OutOfMemory i f h = tt

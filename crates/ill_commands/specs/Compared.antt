@@ -7,10 +7,11 @@ use Rattle.ill_refusals.specs.Fault.{Fault, fault_of}
 use Rattle.ill_normal.specs.Calls.{Taking, Putting}
 use Rattle.ill_normal.specs.Compared.{RefusesSideIn}
 use Rattle.ill_normal.specs.declared.compare.Side.{Side}
-use Rattle.ill_commands.specs.declared.job.Verdict.{Verdict}
-use Rattle.ill_commands.specs.declared.fault.RunFault.{RunFault}
-use Rattle.ill_commands.specs.Hexadecimal.{hex_octets}
-use Rattle.ill_commands.specs.Runs.{TextOf, FailsText, IsUnread, IsFault, AnswersFault}
+use Rattle.ill_normal.specs.declared.verdict.Verdict.{Verdict}
+use Rattle.ill_normal.specs.declared.run_fault.RunFault.{RunFault}
+use Rattle.ill_normal.specs.Hexadecimal.{hex_octets}
+use Rattle.ill_normal.specs.Inputs.{TextOf, FailsText, IsUnread, IsFault}
+use Rattle.ill_commands.specs.Runs.{AnswersFault}
 
 abbrev pub verdict_line : Verdict → List ℕ
 verdict_line Verdict.Good = codes "same\n"

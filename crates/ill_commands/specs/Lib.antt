@@ -1,6 +1,5 @@
 pub mod Output
-pub mod ReadErrors
-pub mod Hexadecimal
+pub mod Refusals
 pub mod Runs
 pub mod Compared
 pub mod code

@@ -1,26 +1,23 @@
 -- What a job writes.
-use Rattle.std.specs.Prelude.{ℕ, Bool, true, false, List, [], ◌++◌, length, codes, decimal, Option, Some, None}
+use Rattle.std.specs.Prelude.{ℕ, Bool, true, false, List, ◌++◌, length, codes, decimal, Option, Some, None}
 use Rattle.std.specs.List.{list_all}
-use Rattle.std.specs.Str.{bytes_eq}
 use Rattle.hex.specs.Hex.{encode_lower}
 use Rattle.sha2.specs.Sha256.{sha256}
 use Rattle.ber_leaf.specs.Profile.{Profile}
 use Rattle.ill_schema.specs.Apdu.{normal_form_in}
-use Rattle.ill_schema.specs.Names.{apdu_name_in}
+use Rattle.ill_schema.specs.Names.{apdu_name_in, name_or_none}
 use Rattle.ill_schema.specs.Profiles.{profile_of}
-use Rattle.ill_text.specs.Shown.{name_or_none, shown_text_in}
+use Rattle.ill_text.specs.Shown.{shown_text_in}
 use Rattle.ill_json.specs.Json.{json_line_in}
+use Rattle.ill_json.specs.Results.{result_line_of}
 use Rattle.ill_json.specs.declared.line.LineHead.{LineHead}
-use Rattle.ill_normal.specs.Messages.{Spelling, first, output_from, good_of}
+use Rattle.ill_normal.specs.Messages.{Spelling, first, good_of, is_normal, output_from}
+use Rattle.ill_normal.specs.Inputs.{label_of, verdict_if}
 use Rattle.ill_normal.specs.declared.messages.MessagePlace.{MessagePlace}
 use Rattle.ill_commands.specs.declared.job.Counts.{Counts}
 use Rattle.ill_commands.specs.declared.job.Job.{Job}
-use Rattle.ill_commands.specs.declared.job.Verdict.{Verdict}
+use Rattle.ill_normal.specs.declared.verdict.Verdict.{Verdict}
 use Rattle.ill_commands.specs.declared.job.JobOptions.{JobOptions}
-
--- the octets are the normal form in the profile
-abbrev pub is_normal : Profile → Spelling → Bool
-is_normal q m = bytes_eq m.octets (normal_form_in q m.apdu)
 
 abbrev pub check_end : Bool → ℕ → List ℕ
 check_end true size = codes "normal\n"
@@ -43,11 +40,6 @@ line_of_digest digest name i = encode_lower digest ++ codes "  " ++ name ++ code
 abbrev pub digest_line : Profile → List ℕ → ℕ → Spelling → List ℕ
 digest_line q name i m = line_of_digest (sha256 (normal_form_in q m.apdu)) name i
 
--- what the lines of an input begin with: its name, or nothing
-abbrev pub label_of : Bool → List ℕ → List ℕ
-label_of true name = name ++ codes ": "
-label_of false name = []
-
 -- the file that a line of JSON names, or none
 abbrev pub file_of : Bool → List ℕ → Option (List ℕ)
 file_of true name = Some name
@@ -57,11 +49,21 @@ file_of false name = None
 abbrev pub head_of : MessagePlace → ℕ → Bool → LineHead
 head_of p octets normal = record { number = p.number; offset = p.offset; octets = octets; is_normal = normal }
 
+-- the line of JSON of a message without its value: the number of its APDU, how many octets it had, whether they are its normal form, and a digest
+-- or none
+abbrev pub line_of_result : Profile → Bool → List ℕ → MessagePlace → ℕ → ℕ → Bool → Option (List ℕ) → List ℕ
+line_of_result q named name p number octets normal digest = result_line_of (file_of named name) (head_of p octets normal) (name_or_none (apdu_name_in q number)) digest
+
+abbrev pub result_line : Profile → Bool → List ℕ → MessagePlace → Spelling → Option (List ℕ) → List ℕ
+result_line q named name p m digest = line_of_result q named name p m.apdu.number (length m.octets) (is_normal q m) digest
+
 -- what is written of the message of the profile at this position of the input of this name, which is named or not
 abbrev pub message_text : Profile → Job → Bool → List ℕ → Bool → MessagePlace → Spelling → List ℕ
 message_text q Job.Show hex name named p m = label_of named name ++ shown_text_in q p.number m.apdu
 message_text q Job.Json hex name named p m = json_line_in q (file_of named name) (head_of p (length m.octets) (is_normal q m)) m.apdu
 message_text q Job.Check hex name named p m = check_line q (label_of named name) p.number m
+message_text q Job.CheckJson hex name named p m = result_line q named name p m None
+message_text q Job.DigestJson hex name named p m = result_line q named name p m (Some (sha256 (normal_form_in q m.apdu)))
 message_text q Job.Digest hex name named p m = digest_line q name p.number m
 message_text q Job.Canonicalise false name named p m = normal_form_in q m.apdu
 message_text q Job.Canonicalise true name named p m = encode_lower (normal_form_in q m.apdu) ++ codes "\n"
@@ -77,9 +79,22 @@ message_output work = text_by work.job work
 abbrev pub output : JobOptions → List Spelling → List ℕ
 output work ms = output_from (message_output work) first ms
 
--- what `check` is asked for, and no other job
+-- whether a job asks for messages in normal form, and whether its lines are JSON
+abbrev pub is_check : Job → Bool
+is_check Job.Check = true
+is_check Job.CheckJson = true
+is_check _ = false
+
+abbrev pub is_json : Job → Bool
+is_json Job.Json = true
+is_json Job.CheckJson = true
+is_json Job.DigestJson = true
+is_json _ = false
+
+-- what a check is asked for, and no other job
 abbrev pub is_good : Profile → Job → Spelling → Bool
 is_good q Job.Check m = is_normal q m
+is_good q Job.CheckJson m = is_normal q m
 is_good q _ m = true
 
 -- what counts as good: what is in normal form, where messages are compared, else every message
@@ -90,6 +105,8 @@ good_if q false m = true
 abbrev pub counts_as_good : Profile → Job → Bool → Spelling → Bool
 counts_as_good q Job.Check compares m = is_normal q m
 counts_as_good q Job.Json compares m = is_normal q m
+counts_as_good q Job.CheckJson compares m = is_normal q m
+counts_as_good q Job.DigestJson compares m = is_normal q m
 counts_as_good q _ compares m = good_if q compares m
 
 -- what counts as good to a job, where this is the work
@@ -102,10 +119,6 @@ is_counted_good work = good_by work.job work
 -- the numbers of messages that have these octets
 abbrev pub counts_of : JobOptions → List ℕ → List Spelling → Counts
 counts_of work octets ms = record { messages = length ms; good = good_of (is_counted_good work) ms; octets = length octets }
-
-abbrev pub verdict_if : Bool → Verdict
-verdict_if true = Verdict.Good
-verdict_if false = Verdict.NotGood
 
 abbrev pub verdict_of : Profile → Job → List Spelling → Verdict
 verdict_of q job ms = verdict_if (list_all (is_good q job) ms)

@@ -12,14 +12,14 @@ use Rattle.ill_refusals.specs.Outcome.{OnlyRefuses}
 use Rattle.ill_normal.specs.Calls.{Taking, taking, Putting, putting}
 use Rattle.ill_commands.specs.declared.job.Counts.{Counts}
 use Rattle.ill_commands.specs.declared.job.Job.{Job}
-use Rattle.ill_commands.specs.declared.job.Verdict.{Verdict}
+use Rattle.ill_normal.specs.declared.verdict.Verdict.{Verdict}
 use Rattle.ill_commands.specs.declared.job.JobOptions.{JobOptions}
-use Rattle.ill_commands.specs.declared.fault.RunFault.{RunFault}
+use Rattle.ill_normal.specs.declared.run_fault.RunFault.{RunFault}
 use Rattle.ill_normal.specs.Messages.{Spelling, AreSpelledIn, TakesNoFurtherIn}
 use Rattle.ill_normal.specs.Messages as messages
+use Rattle.ill_normal.specs.Inputs.{FailsText, IsFault, TextOf}
 use Rattle.ill_commands.specs.Output.{counts_of, message_output, output, verdict_of}
-use Rattle.ill_commands.specs.Hexadecimal.{hex_octets, TakesText}
-use Rattle.ill_commands.specs.ReadErrors.{TakesAtMost}
+use Rattle.ill_normal.specs.Hexadecimal.{hex_octets}
 
 -- the octets that were taken are these messages, and their output was written
 abbrev pub Writes : JobOptions → Option (List ℕ) → Option (List ℕ) → Option (List ℕ) → Option (List ℕ) → List Spelling → Type 0
@@ -73,28 +73,6 @@ pub record Done (work : JobOptions) (left left' held held' : Option (List ℕ)) 
   pub few : length messages ≤ 1_000_000
   pub is_verdict : verdict ≡ verdict_of (profile_of work.profile) work.job messages
 
--- a text was taken that stands for these octets
-pub record TextOf (left left' : Option (List ℕ)) (octets : List ℕ) : Type 0 where
-  pub text : List ℕ
-  pub taken : TakesText left left' text
-  pub stands : hex_octets text ≡ Ok octets
-
--- a text was taken that stands for no octets, for this reason
-pub record NoHex (left left' : Option (List ℕ)) (fault : RunFault) : Type 0 where
-  pub text : List ℕ
-  pub taken : TakesText left left' text
-  pub stands : hex_octets text ≡ Err fault
-
--- memory or the source failed before any message was read; of the source at most n octets were taken by then
-abbrev pub IsUnread : ℕ → Option (List ℕ) → Option (List ℕ) → Bool → RunFault → Type 0
-IsUnread n left left' source_broken RunFault.OutOfMemory = TakesAtMost n left left'
-IsUnread n left left' source_broken RunFault.ReadFault = IsTrue source_broken × TakesAtMost n left left'
-IsUnread n left left' source_broken _ = ⊥
-
--- a text stands for no octets, or was not read; whatever the failure, at most 4,194,305 octets were taken
-abbrev pub FailsText : Option (List ℕ) → Option (List ℕ) → Bool → RunFault → Type 0
-FailsText left left' source_broken fault = NoHex left left' fault ⊎ IsUnread 4_194_305 left left' source_broken fault
-
 -- the same of an input that is read as octets, or as hexadecimal text
 abbrev pub RunDone : Bool → JobOptions → Option (List ℕ) → Option (List ℕ) → Option (List ℕ) → Option (List ℕ) → Counts → Verdict → Type 0
 RunDone false work left left' held held' counts verdict = Done work left left' held held' counts verdict
@@ -131,13 +109,6 @@ pub record JobFails (q : Named) (job : Job) (hex : Bool) (source : Taking) (sink
   pub fails : RunFails hex work source sink counts fault
 
 -- ---- which result an input has
-
--- memory, the source or the sink failed
-abbrev pub IsFault : RunFault → Type 0
-IsFault RunFault.OutOfMemory = Unit {0}
-IsFault RunFault.ReadFault = Unit {0}
-IsFault (RunFault.WriteFault n) = Unit {0}
-IsFault _ = ⊥
 
 abbrev pub AnswersVerdict : Result Verdict RunFault → Verdict → Type 0
 AnswersVerdict (Ok v) w = v ≡ w

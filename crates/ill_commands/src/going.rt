@@ -1,29 +1,20 @@
 //! Jobs that go on after a message that is refused.
-ghost use Rattle.std.specs.Prelude.{◌≡◌, ◌+◌, ◌≤◌, IfOk, IfErr, IsTrue};
+ghost use Rattle.std.specs.Prelude.{◌≡◌, IfOk, IfErr, IsTrue};
 ghost use Rattle.ill_schema.specs.Profiles.{profile_of};
 ghost use Rattle.ill_normal.specs.Calls.{taking, putting};
 ghost use Rattle.ill_normal.specs.Skipping.{SkipsToEnd, reporting};
 ghost use Rattle.ill_commands.specs.Output.{message_output, is_counted_good};
-ghost use Rattle.ill_commands.specs.Skipping.{counts_before, fault_of_kind, RunsSkipping, RunsSkippingFails, StopsFor, verdict_of_counts};
+ghost use Rattle.ill_commands.specs.Skipping.{RunsSkipping, RunsSkippingFails, StopsFor, verdict_of_counts};
 
-use crate::fault::RunFault;
-use crate::hexadecimal::read_hex;
-use crate::job::{Job, JobOptions, Verdict};
+use crate::job::{Job, JobOptions};
 use crate::messages::verdict;
 use ber_core::{Buffered, FromSlice, Lookahead, Sink, Source, Unbuffered};
 use ill_normal::{
-    ReportRefusals, SkippingCounts, SkippingError, SkippingErrorKind, for_each_accepted_message,
+    JobError, ReportRefusals, SkippingCounts, Verdict, for_each_accepted_message, read_hex,
 };
 use std::alloc::Global;
 
-/// The reason why a job went no further, and what had been gone through by then.
-#[derive(Clone, Copy, Debug, PartialEq, Eq)]
-pub struct JobError {
-    pub fault: RunFault,
-    pub before: SkippingCounts,
-}
-
-/// The verdict of a job: good if no message is refused, and for `Check` each is in normal form.
+/// The verdict of a job: good if no message is refused, and for a check each is in normal form.
 pub fn verdict_of(job: Job, gone: SkippingCounts) -> Verdict
     ensures { result ≡ verdict_of_counts job gone }
 {
@@ -91,7 +82,7 @@ pub fn run_skipping_peeking<R: Source, L: Lookahead<R>, W: Sink, T: ReportRefusa
     }
     let octets = match read_hex(alloc, source) {
         Ok(octets) => octets,
-        Err(fault) => return Err(at_start(fault)),
+        Err(fault) => return Err(JobError::at_start(fault)),
     };
     let mut messages = FromSlice::new(&octets);
     go_on::<FromSlice<'_>, Buffered, W, T>(alloc, work, &mut messages, sink, reports)
@@ -120,61 +111,6 @@ fn go_on<R: Source, L: Lookahead<R>, W: Sink, T: ReportRefusals>(
         alloc, &work, source, sink, reports,
     ) {
         Ok(gone) => Ok(gone),
-        Err(halted) => Err(halted_job(halted)),
-    }
-}
-
-/// A fault before any message was gone through.
-fn at_start(fault: RunFault) -> JobError
-    ensures fault { result.fault ≡ fault }
-    ensures none { result.before ≡ counts_before 0 0 0 0 }
-{
-    JobError {
-        fault,
-        before: SkippingCounts {
-            messages: 0,
-            refused: 0,
-            good: 0,
-            octets: 0,
-            all_good: true,
-        },
-    }
-}
-
-/// The reason why a job went no further, and what was gone through before.
-fn halted_job(halted: SkippingError) -> JobError
-    requires { halted.refused + halted.good ≤ halted.messages }
-    ensures fault { result.fault ≡ fault_of_kind halted.written halted.why }
-    ensures before { result.before ≡ counts_before halted.messages halted.refused halted.good
-        halted.octets }
-{
-    let SkippingError {
-        messages,
-        refused,
-        good,
-        octets,
-        written,
-        why,
-    } = halted;
-    JobError {
-        fault: fault_of(written, why),
-        before: SkippingCounts {
-            messages,
-            refused,
-            good,
-            octets,
-            all_good: refused + good == messages,
-        },
-    }
-}
-
-fn fault_of(written: u128, why: SkippingErrorKind) -> RunFault
-    ensures { result ≡ fault_of_kind written why }
-{
-    match why {
-        SkippingErrorKind::OutOfMemory => RunFault::OutOfMemory,
-        SkippingErrorKind::ReadFault => RunFault::ReadFault,
-        SkippingErrorKind::WriteFault(_) => RunFault::WriteFault(written),
-        SkippingErrorKind::TooMany => RunFault::TooManyMessages,
+        Err(error) => Err(JobError::of_skipping(error)),
     }
 }

@@ -2,7 +2,7 @@
 ghost use Rattle.std.specs.Prelude.{◌≡◌, codes, false};
 ghost use Rattle.ill_schema.specs.declared.profile.Profile.{Profile as Named};
 
-use crate::fault::RunFault;
+use ill_normal::{RunFault, Verdict};
 use ill_schema::Profile;
 
 /// The output for each message of an input.
@@ -14,8 +14,12 @@ pub enum Job {
     Json,
     /// A line that says whether it is its normal form.
     Check,
+    /// A line of JSON: where it is in the input, and whether it is its normal form.
+    CheckJson,
     /// A line with its digest (SHA-256 of its normal form), the name of the input, and its number.
     Digest,
+    /// The line of `CheckJson`, with its digest.
+    DigestJson,
     /// Its normal form.
     Canonicalise,
 }
@@ -30,15 +34,35 @@ pub struct JobOptions<'a> {
     pub hex: bool,
     /// The name of the input.
     pub name: &'a str,
-    /// True if the line of `Check`, and the first line of `Show`, begins with the name and `: `, and the line of `Json` has the name.
+    /// True if the line of `Check`, and the first line of `Show`, begins with the name and `: `, and a line of JSON has the name.
     pub names_input: bool,
-    /// True if each message is compared with its normal form, as `Check` and `Json` always do, so that those in normal form are counted.
+    /// True if each message is compared with its normal form, as `Check` and lines of JSON always do, so that those in normal form are
+    /// counted.
     pub compares: bool,
+}
+
+impl Job {
+    ghost use Rattle.std.specs.Prelude.{◌≡◌};
+    ghost use Rattle.ill_commands.specs.Output.{is_check, is_json};
+
+    /// Tells whether the job asks for messages in normal form.
+    pub fn is_check(self) -> bool
+        ensures { result ≡ is_check self }
+    {
+        matches!(self, Job::Check | Job::CheckJson)
+    }
+
+    /// Tells whether the lines of the job are JSON.
+    pub fn is_json(self) -> bool
+        ensures { result ≡ is_json self }
+    {
+        matches!(self, Job::Json | Job::CheckJson | Job::DigestJson)
+    }
 }
 
 impl JobOptions<'_> {
     /// The work on an input that no line needs to name, such as standard input: its name is `-`. Messages are read in profile 2, and
-    /// compared by `Check` and `Json` alone.
+    /// compared by `Check` and for lines of JSON alone.
     pub fn new(job: Job, hex: bool) -> JobOptions<'static>
         ensures job { result.job ≡ job }
         ensures profile { result.profile ≡ Named.Two }
@@ -83,13 +107,4 @@ impl Counts {
 pub struct JobOutcome {
     pub result: Result<Verdict, RunFault>,
     pub counts: Counts,
-}
-
-/// The verdict of a job that was done.
-#[derive(Clone, Copy, Debug, PartialEq, Eq)]
-pub enum Verdict {
-    /// All messages are as they should be.
-    Good,
-    /// `Check` met a message that isn't its normal form, or two messages are different.
-    NotGood,
 }

@@ -6,21 +6,22 @@
 //! ```
 #![tactic(auto)]
 
-mod fault;
 mod going;
-mod hexadecimal;
 mod job;
 mod messages;
 mod piece;
+mod refused;
+mod result;
 mod same;
-mod text;
 mod written;
 
-pub use fault::RunFault;
-pub use going::{JobError, run_skipping, run_skipping_peeking, verdict_of};
-pub use hexadecimal::{MAX_HEX_TEXT, read_hex, text_octets};
-pub use ill_normal::{RefusalReport, ReportRefusals, SkippingCounts};
-pub use job::{Counts, Job, JobOptions, JobOutcome, Verdict};
+pub use going::{run_skipping, run_skipping_peeking, verdict_of};
+pub use ill_json::RefusalKind;
+pub use ill_normal::{
+    JobError, MAX_HEX_TEXT, ReadError, RefusalReport, ReportRefusals, RunFault, SkippingCounts,
+    Verdict, read_at_most, read_hex, text_octets,
+};
+pub use job::{Counts, Job, JobOptions, JobOutcome};
 pub use messages::{run, run_as, run_counting, run_with};
+pub use refused::{RefusedLine, refused_json};
 pub use same::{run_same, run_same_as};
-pub use text::{ReadError, read_at_most};

@@ -8,11 +8,11 @@ ghost use Rattle.ill_commands.specs.declared.job.Counts.{Counts};
 ghost use Rattle.ill_commands.specs.code.Endings.{counts_with, run_fault, verdict_by};
 ghost use Rattle.ill_commands.specs.Runs.{fault_at, Done, StopsAfter, RunDone, RunFails, JobDone, JobFails, DoesMessages, RefusesFirst, RefusesMore, RefusesText};
 
-use crate::fault::RunFault;
-use crate::hexadecimal::read_hex;
-use crate::job::{Counts, Job, JobOptions, JobOutcome, Verdict};
+use crate::job::{Counts, Job, JobOptions, JobOutcome};
 use ber_core::{Buffered, FromSlice, Lookahead, Sink, Source, Unbuffered};
-use ill_normal::{ReadFailure, StreamError, StreamErrorKind, for_each_message};
+use ill_normal::{
+    ReadFailure, RunFault, StreamError, StreamErrorKind, Verdict, for_each_message, read_hex,
+};
 use ill_schema::Profile;
 use std::alloc::Global;
 
@@ -242,7 +242,7 @@ pub(crate) fn verdict(job: Job, all_good: bool) -> Verdict
     ensures { result ≡ verdict_by job all_good }
 {
     match job {
-        Job::Check if !all_good => Verdict::NotGood,
+        Job::Check | Job::CheckJson if !all_good => Verdict::NotGood,
         _ => Verdict::Good,
     }
 }

@@ -1,17 +1,19 @@
 //! The result of a job for one message.
-ghost use Rattle.std.specs.Prelude.{◌≡◌, ◌^◌, ◌≤◌, ℕ, List, ◌++◌, codes, length, option_map, IfOk, OnOk};
+ghost use Rattle.std.specs.Prelude.{◌≡◌, ℕ, List, ◌++◌, codes, option_map, IfOk, OnOk};
 ghost use Rattle.hex.specs.Hex.{encode_lower};
 ghost use Rattle.ill_read.specs.Answers.{ReadsNextIn};
 ghost use Rattle.ill_read.specs.Outline.{IsOutlineOf};
-ghost use Rattle.ill_schema.specs.Apdu.{Apdu, SpellsApdu, normal_form_in};
+ghost use Rattle.ill_schema.specs.Apdu.{Apdu, SpellsApdu};
 ghost use Rattle.ill_schema.specs.Profiles.{profile_of};
 ghost use Rattle.ill_text.specs.Shown.{shown_text_in};
 ghost use Rattle.ill_commands.specs.declared.job.Job.{Job};
-ghost use Rattle.ill_commands.specs.Output.{check_end, file_of, head_of, label_of, line_of_check, line_of_digest};
+ghost use Rattle.ill_normal.specs.Inputs.{label_of};
+ghost use Rattle.ill_commands.specs.Output.{check_end, file_of, head_of, line_of_check, line_of_digest};
 ghost use Rattle.ill_commands.specs.code.Finding.{IsFound};
 ghost use Rattle.ill_commands.specs.code.Writing.{IsMade, IsMadeForm, IsWritten};
 
 use crate::job::{Job, JobOptions};
+use crate::result::{check_json, digest_json};
 use crate::written::JobOutput;
 use ber_core::{Lookahead, Source};
 use ill_json::{LineHead, json_line_as};
@@ -87,6 +89,14 @@ fn next_piece<R: Source, L: Lookahead<R>>(
             let reader = &mut readers.normal;
             checked::<R, L>(alloc, reader, work, position, source, buffer.into_octets())
         }
+        Job::CheckJson => {
+            let reader = &mut readers.normal;
+            check_json::<R, L>(alloc, reader, work, position, source, buffer.into_octets())
+        }
+        Job::DigestJson => {
+            let reader = &mut readers.normal;
+            digest_json::<R, L>(alloc, reader, work, position, source, buffer.into_octets())
+        }
         Job::Digest => {
             let reader = &mut readers.normal;
             digested::<R, L>(alloc, reader, work, position, source, buffer.into_octets())
@@ -153,7 +163,7 @@ fn json<R: Source, L: Lookahead<R>>(
     let Some(found) = outlined::<R, L>(alloc, readers, work.profile, true, source, outline)? else {
         return Ok(None);
     };
-    let head = head(position, &found);
+    let head = head(position, found.octets, found.is_good);
     match json_line_as(
         alloc,
         work.profile,
@@ -172,7 +182,7 @@ fn json<R: Source, L: Lookahead<R>>(
 }
 
 /// The name of the file that a line of JSON has, if there are several files.
-fn file_of(work: JobOptions<'_>) -> Option<&str>
+pub(crate) fn file_of(work: JobOptions<'_>) -> Option<&str>
     ensures { option_map (λ name. name.now) result
         ≡ file_of work.entry.names_input work.entry.name.now }
 {
@@ -184,14 +194,14 @@ fn file_of(work: JobOptions<'_>) -> Option<&str>
 }
 
 /// The head of a line of JSON: all of it but the value.
-fn head(position: MessagePlace, found: &CheckedOutline) -> LineHead
-    ensures { result ≡ head_of position found.now.octets found.now.is_good }
+pub(crate) fn head(position: MessagePlace, octets: u32, is_normal: bool) -> LineHead
+    ensures { result ≡ head_of position octets is_normal }
 {
     LineHead {
         number: position.number,
         offset: position.offset,
-        octets: found.octets,
-        is_normal: found.is_good,
+        octets,
+        is_normal,
     }
 }
 

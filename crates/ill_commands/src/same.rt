@@ -5,12 +5,10 @@ ghost use Rattle.ill_schema.specs.Profiles.{profile_of};
 ghost use Rattle.ill_normal.specs.Calls.{taking, putting};
 ghost use Rattle.ill_commands.specs.Compared.{verdict_line, ReadsSide, SideFails, Compares, NotCompared, SameDone, SameFails, ComparesBoth, RefusesOne, RefusesTexts};
 
-use crate::fault::RunFault;
-use crate::hexadecimal::read_hex;
-use crate::job::Verdict;
-use crate::text::read_at_most;
 use ber_core::{Sink, Source, put_all};
-use ill_normal::{Failure, LIMIT, Profile, same_message_as};
+use ill_normal::{
+    Failure, LIMIT, Profile, RunFault, Verdict, read_at_most, read_hex, same_message_as,
+};
 use std::alloc::Global;
 
 /// Writes `same` or `different`, and a line end, for two inputs of one message each. The first

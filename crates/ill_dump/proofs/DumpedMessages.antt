@@ -1,7 +1,8 @@
 -- The messages that a dump has read and written.
-use Rattle.std.proofs.Common.{◌≡◌, ◌+◌, ◌<◌, ◌≤◌, ℕ, suc, List, [], ◌∷◌, ◌++◌, Option, Some, None, Result, Ok, Err, length, take, subst, sym, ap, ◌∙◌, refl, arith, append-nil, append_assoc, length-append}
+use Rattle.std.proofs.Common.{◌≡◌, ◌+◌, ◌<◌, ◌≤◌, ℕ, suc, Bool, true, false, List, [], ◌∷◌, ◌++◌, Option, Some, None, Result, Ok, Err, length, take, codes, decimal, subst, sym, ap, ap₂, ◌∙◌, refl, arith, append-nil, append_assoc, length-append}
 use Rattle.std.proofs.lemmas.List.{length-take-le}
-use Rattle.std.specs.Prelude.{IfSome, OnOk}
+use Rattle.std.specs.Prelude.{IfSome, OnOk, if◌then◌else◌}
+use Rattle.std.proofs.lemmas.Bool.{eqb-true}
 use Rattle.std.specs.Io.KnownBytes.{Consumes, Appends, IsAtEnd}
 use Rattle.std.proofs.KnownBytes.{Consumes-nil, Consumes-trans, Appends-nil, Appends-trans}
 use Rattle.ber_leaf.specs.Profile.{Profile}
@@ -12,12 +13,15 @@ use Rattle.ill_refusals.specs.Fault.{Fault, fault_of}
 use Rattle.ill_refusals.specs.Outcome.{OnlyRefuses}
 use Rattle.ill_read.specs.Answers.{IfReadRefused}
 use Rattle.ill_read.specs.declared.failure.ReadFailure.{ReadFailure}
-use Rattle.ill_commands.specs.Runs.{IsFault}
-use Rattle.ill_commands.specs.declared.fault.RunFault.{RunFault}
+use Rattle.ill_normal.specs.Inputs.{IsFault}
+use Rattle.ill_normal.specs.declared.run_fault.RunFault.{RunFault}
+use Rattle.ill_dump.specs.declared.markup.DumpFormat.{DumpFormat}
 use Rattle.ill_dump.specs.declared.run.DumpOptions.{DumpOptions}
-use Rattle.ill_dump.specs.Dumped.{AreDumped, Dumps, DumpsUpTo, StopsIn, dumped_from, head}
+use Rattle.ill_dump.specs.Markup.{shown_in, tags_in}
+use Rattle.ill_normal.specs.Inputs.{label_of}
+use Rattle.ill_dump.specs.Dumped.{AreDumped, Dumps, DumpsUpTo, IsLast, StopsIn, dumped, dumped_from, head, is_chosen}
 use Rattle.ill_dump.specs.code.Failing.{FollowsFrom}
-use Rattle.ill_dump.specs.code.Putting.{BeginsWith, IfRefused, Puts}
+use Rattle.ill_dump.specs.code.Putting.{BeginsIf, BeginsWith, IfRefused, Puts, is_enough}
 
 -- what waits for the sink
 
@@ -39,34 +43,93 @@ puts_more held held' held'' waiting waiting' waiting'' lines p more none =
       order = sym (append_assoc waiting p.more lines) ∙ ap (λ l. l ++ lines) p.order ∙ append_assoc p.written waiting' lines ∙ sym (append-nil all) ∙ ap (λ l. all ++ l) (sym none);
     }
 
+pub puts_join : (held held' held'' : Option (List ℕ)) (waiting waiting' waiting'' : List ℕ) → Puts held held' waiting waiting' → Puts held' held'' waiting' waiting'' → Puts held held'' waiting waiting''
+puts_join held held' held'' waiting waiting' waiting'' p q = record {
+  written = p.written ++ q.written;
+  more = p.more ++ q.more;
+  appended = Appends-trans held held' held'' _ _ p.appended q.appended;
+  order = sym (append_assoc waiting p.more q.more) ∙ ap (λ l. l ++ q.more) p.order ∙ append_assoc p.written waiting' q.more ∙ ap (λ l. p.written ++ l) q.order
+      ∙ sym (append_assoc p.written q.written waiting'');
+}
+
 pub puts_all : (held held' held'' : Option (List ℕ)) (front waiting waiting' lines : List ℕ) → waiting ≡ front → Puts held held' waiting waiting' → Appends held' held'' (waiting' ++ lines) → BeginsWith held held'' front
 puts_all held held' held'' front waiting waiting' lines e p more =
     let all = puts_more held held' held'' waiting waiting' [] lines p more refl in
     (all.more, subst (Appends held held'') (sym (append-nil all.written) ∙ sym all.order ∙ ap (λ l. l ++ all.more) e) all.appended)
 
+-- what is put of a message that is chosen, and of another
+
+pub begins_not : (b : Bool) (held : Option (List ℕ)) (front : List ℕ) → b ≡ false → BeginsIf b held held front
+begins_not false held front e = refl
+begins_not true held front e = absurd cc
+
+pub begins_if : (b : Bool) (held held' : Option (List ℕ)) (waiting front : List ℕ) → b ≡ true → waiting ≡ [] → BeginsWith held held' (waiting ++ front) → BeginsIf b held held' front
+begins_if true held held' waiting front e none h = subst (λ (w : List ℕ). BeginsWith held held' (w ++ front)) none h
+begins_if false held held' waiting front e none h = absurd cc
+
+-- the head of a message, made part by part
+
+plain_message : (format : DumpFormat) → shown_in format (codes "message ") ≡ codes "message "
+plain_message DumpFormat.Text = refl
+plain_message DumpFormat.Html = refl
+
+plain_colon : (format : DumpFormat) → shown_in format (codes ": ") ≡ codes ": "
+plain_colon DumpFormat.Text = refl
+plain_colon DumpFormat.Html = refl
+
+joined_five : (o a b c d e : List ℕ) → o ++ a ++ b ++ c ++ d ++ e ≡ o ++ (a ++ b ++ c ++ d ++ e)
+joined_five o a b c d e =
+    let two = append_assoc o a b in
+    let three = ap (λ l. l ++ c) two ∙ append_assoc o (a ++ b) c in
+    let four = ap (λ l. l ++ d) three ∙ append_assoc o (a ++ b ++ c) d in
+    ap (λ l. l ++ e) four ∙ append_assoc o (a ++ b ++ c ++ d) e
+
+pub head_made : (dump : DumpOptions) (i : ℕ) (old tagged labelled named counted made : List ℕ) → tagged ≡ old ++ tags_in dump.format (codes "<section><h2>")
+    → labelled ≡ tagged ++ label_of dump.names_input (shown_in dump.format dump.name.now) → named ≡ labelled ++ shown_in dump.format (codes "message ")
+    → counted ≡ named ++ decimal i → made ≡ counted ++ shown_in dump.format (codes ": ") → made ≡ old ++ head dump i
+head_made dump i old tagged labelled named counted made a b c d e =
+    let label = label_of dump.names_input (shown_in dump.format dump.name.now) in
+    let tags = tags_in dump.format (codes "<section><h2>") in
+    let to_label : labelled ≡ old ++ tags ++ label = b ∙ ap (λ l. l ++ label) a in
+    let to_message : named ≡ old ++ tags ++ label ++ codes "message " = c ∙ ap₂ (λ (l m : List ℕ). l ++ m) to_label (plain_message dump.format) in
+    let to_count : counted ≡ old ++ tags ++ label ++ codes "message " ++ decimal i = d ∙ ap (λ l. l ++ decimal i) to_message in
+    e ∙ ap₂ (λ (l m : List ℕ). l ++ m) to_count (plain_colon dump.format) ∙ joined_five old tags label (codes "message ") (decimal i) (codes ": ")
+
 -- messages that were written
 
-dumped_push : (dump : DumpOptions) (i : ℕ) (parts : List (List ℕ)) (more : List ℕ) → dumped_from dump i (parts ++ more ∷ []) ≡ dumped_from dump i parts ++ (head dump (i + length parts) ++ more)
-dumped_push dump i [] more = append-nil (head dump i ++ more) ∙ ap (λ (n : ℕ). head dump n ++ more) (let e : i ≡ i + 0 = omega arith in e)
+dumped_push : (dump : DumpOptions) (i : ℕ) (parts : List (List ℕ)) (more : List ℕ) → dumped_from dump i (parts ++ more ∷ []) ≡ dumped_from dump i parts ++ dumped dump (i + length parts) more
+dumped_push dump i [] more = append-nil (dumped dump i more) ∙ ap (λ (n : ℕ). dumped dump n more) (let e : i ≡ i + 0 = omega arith in e)
 dumped_push dump i (part ∷ parts) more =
     let number : suc i + length parts ≡ i + suc (length parts) = omega arith in
-    ap (λ l. head dump i ++ part ++ l) (dumped_push dump (suc i) parts more ∙ ap (λ (n : ℕ). dumped_from dump (suc i) parts ++ (head dump n ++ more)) number)
-    ∙ sym (append_assoc (head dump i ++ part) (dumped_from dump (suc i) parts) (head dump (i + suc (length parts)) ++ more))
+    ap (λ l. dumped dump i part ++ l) (dumped_push dump (suc i) parts more ∙ ap (λ (n : ℕ). dumped_from dump (suc i) parts ++ dumped dump n more) number)
+    ∙ sym (append_assoc (dumped dump i part) (dumped_from dump (suc i) parts) (dumped dump (i + suc (length parts)) more))
 
-dumps_none : (dump : DumpOptions) (held : Option (List ℕ)) → Dumps dump 0 held held
+pub dumps_none : (dump : DumpOptions) (held : Option (List ℕ)) → Dumps dump 0 held held
 dumps_none dump held = record { parts = []; count = refl; written = Appends-nil held }
 
-dumps_more : (dump : DumpOptions) (n : ℕ) (held held' held'' : Option (List ℕ)) → Dumps dump n held held' → BeginsWith held' held'' (head dump (n + 1)) → Dumps dump (n + 1) held held''
-dumps_more dump n held held' held'' d b =
+-- what was written of message i
+dumps_one : (dump : DumpOptions) (i : ℕ) (b : Bool) (held held' : Option (List ℕ)) → is_chosen dump.only i ≡ b → BeginsIf b held held' (head dump i) → (more : List ℕ) × Appends held held' (dumped dump i more)
+dumps_one dump i true held held' e h = (h.0, subst (λ (b : Bool). Appends held held' (if b then head dump i ++ h.0 else [])) (sym e) h.1)
+dumps_one dump i false held held' e h =
+    ([], subst (λ (b : Bool). Appends held held' (if b then head dump i ++ [] else [])) (sym e) (subst (λ (z : Option (List ℕ)). Appends held z []) h (Appends-nil held)))
+
+pub dumps_more : (dump : DumpOptions) (n : ℕ) (held held' held'' : Option (List ℕ)) → Dumps dump n held held' → BeginsIf (is_chosen dump.only (n + 1)) held' held'' (head dump (n + 1)) → Dumps dump (n + 1) held held''
+dumps_more dump n held held' held'' d h =
+    let one = dumps_one dump (n + 1) (is_chosen dump.only (n + 1)) held' held'' refl h in
     let number : n + 1 ≡ 1 + length d.parts = omega (arith, d.count) in
-    let all = ap (λ (k : ℕ). dumped_from dump 1 d.parts ++ (head dump k ++ b.0)) number ∙ sym (dumped_push dump 1 d.parts b.0) in
+    let all = ap (λ (k : ℕ). dumped_from dump 1 d.parts ++ dumped dump k one.0) number ∙ sym (dumped_push dump 1 d.parts one.0) in
     record {
-      parts = d.parts ++ b.0 ∷ [];
-      count = omega (arith, d.count, length-append d.parts (b.0 ∷ []));
-      written = subst (Appends held held'') all (Appends-trans held held' held'' _ _ d.written b.1);
+      parts = d.parts ++ one.0 ∷ [];
+      count = omega (arith, d.count, length-append d.parts (one.0 ∷ []));
+      written = subst (Appends held held'') all (Appends-trans held held' held'' _ _ d.written one.1);
     }
 
--- this number of messages was taken, and written
+-- no other message is chosen
+pub enough : (only : Option ℕ) (n : ℕ) → is_enough only n ≡ true → only ≡ Some n
+enough None n e = absurd cc
+enough (Some k) n e = ap Some (eqb-true k n e)
+
+-- this number of messages was taken, and those that are chosen were written
 pub record Reached (dump : DumpOptions) (left left' held held' : Option (List ℕ)) (count : ℕ) : Type 0 where
   pub apdus : List Apdu
   pub octets : List ℕ
@@ -84,7 +147,7 @@ stream_front q b t [] h = ap (λ l. l ++ t) h
 stream_front q b t (a ∷ apdus) h = (h.0, h.1 ++ t, ap (λ l. l ++ t) h.2 ∙ append_assoc h.0 h.1 t, h.3, stream_front q h.1 t apdus h.4)
 
 pub reached_more : (dump : DumpOptions) (left left' left'' held held' held'' : Option (List ℕ)) (count : ℕ) (a : Apdu) (b : List ℕ)
-    → Reached dump left left' held held' count → Consumes left' left'' b → SpellsApdu (profile_of dump.profile) a b → BeginsWith held' held'' (head dump (count + 1))
+    → Reached dump left left' held held' count → Consumes left' left'' b → SpellsApdu (profile_of dump.profile) a b → BeginsIf (is_chosen dump.only (count + 1)) held' held'' (head dump (count + 1))
     → Reached dump left left'' held held'' (count + 1)
 reached_more dump left left' left'' held held' held'' count a b h more spells begins = record {
   apdus = h.apdus ++ a ∷ [];
@@ -95,17 +158,18 @@ reached_more dump left left' left'' held held' held'' count a b h more spells be
   dumps = dumps_more dump count held held' held'' h.dumps begins;
 }
 
--- no more were left
-pub reached_all : (dump : DumpOptions) (left left' left'' held held' : Option (List ℕ)) (count : ℕ) → Reached dump left left' held held' count → Consumes left' left'' [] → IsAtEnd left'' → count ≤ 1_000_000
-    → AreDumped dump left left'' held held'
-reached_all dump left left' left'' held held' count h none end few = record {
+-- the last one was reached
+pub reached_all : (dump : DumpOptions) (left left' left'' held held' : Option (List ℕ)) (count n : ℕ) → Reached dump left left' held held' count → n ≡ count → Consumes left' left'' [] → IsLast dump n left'' → n ≤ 1_000_000
+    → AreDumped dump left left'' held held' n
+reached_all dump left left' left'' held held' count n h same none last few = record {
   apdus = h.apdus;
   octets = h.octets;
   stream = h.stream;
   taken = subst (Consumes left left'') (append-nil h.octets) (Consumes-trans left left' left'' h.octets [] h.taken none);
-  end = end;
-  few = omega (arith, h.counted, few);
-  dumps = subst (λ (n : ℕ). Dumps dump n held held') (sym h.counted) h.dumps;
+  counted = same ∙ sym h.counted;
+  last = last;
+  few = few;
+  dumps = subst (λ (k : ℕ). Dumps dump k held held') (sym same) h.dumps;
 }
 
 -- memory, the source or the sink failed
@@ -166,9 +230,9 @@ module _ (dump : DumpOptions) (held held' : Option (List ℕ)) where
 
   -- and it was written
   pub dumps_next : (held'' : Option (List ℕ)) (count i : ℕ) (failure : ReadFailure) (fault : RunFault) → Dumps dump count held held' → i ≡ count + 1
-      → FollowsFrom i failure fault → IfRefused fault (BeginsWith held' held'' (head dump i)) → DumpsUpTo dump fault held held''
+      → FollowsFrom i failure fault → IfRefused fault (BeginsIf (is_chosen dump.only i) held' held'' (head dump i)) → DumpsUpTo dump fault held held''
   dumps_next held'' count i failure (RunFault.Refused message refusal) d n follows begins =
-      subst (λ (k : ℕ). Dumps dump k held held'') (sym (follows.0 ∙ n)) (dumps_more dump count held held' held'' d (subst (λ (k : ℕ). BeginsWith held' held'' (head dump k)) n begins))
+      subst (λ (k : ℕ). Dumps dump k held held'') (sym (follows.0 ∙ n)) (dumps_more dump count held held' held'' d (subst (λ (k : ℕ). BeginsIf (is_chosen dump.only k) held' held'' (head dump k)) n begins))
   dumps_next held'' count i failure (RunFault.RefusedSide side refusal) d n follows begins = tt
   dumps_next held'' count i failure RunFault.OddHex d n follows begins = tt
   dumps_next held'' count i failure (RunFault.BadHex at) d n follows begins = tt

@@ -1,1 +1,3 @@
 pub mod DumpedMessages
+pub mod Escaped
+pub mod GoneOver

@@ -1,5 +1,5 @@
 -- What a dump does to its source and its sink. Of the text that is written only what each message begins with has a definition.
-use Rattle.std.specs.Prelude.{◌≡◌, ◌⊎◌, ℕ, suc, ◌+◌, ◌<◌, ◌≤◌, Bool, true, false, List, [], ◌∷◌, ◌++◌, length, codes, decimal, Option, Some, None, IfSome, IsTrue}
+use Rattle.std.specs.Prelude.{◌≡◌, ◌⊎◌, ℕ, suc, ◌+◌, ◌<◌, ◌≤◌, nat_eq, Bool, true, false, if◌then◌else◌, List, [], ◌∷◌, ◌++◌, length, codes, decimal, Option, Some, None, IfSome, IsTrue}
 use Rattle.std.specs.Io.KnownBytes.{Consumes, Keeps, Appends, IsAtEnd}
 use Rattle.ber_leaf.specs.Profile.{Profile}
 use Rattle.ill_schema.specs.Apdu.{Apdu, IsStream, SpellsApdu}
@@ -8,41 +8,58 @@ use Rattle.ill_schema.specs.declared.refusal.Refusal.{Refusal}
 use Rattle.ill_refusals.specs.Fault.{fault_of}
 use Rattle.ill_refusals.specs.Outcome.{OnlyRefuses}
 use Rattle.ill_read.specs.Answers.{RefusesWholeIn}
-use Rattle.ill_commands.specs.declared.fault.RunFault.{RunFault}
-use Rattle.ill_commands.specs.Output.{label_of}
-use Rattle.ill_commands.specs.Runs.{FailsText, IsFault, TextOf}
+use Rattle.ill_normal.specs.declared.run_fault.RunFault.{RunFault}
+use Rattle.ill_normal.specs.Inputs.{label_of}
+use Rattle.ill_normal.specs.Inputs.{FailsText, IsFault, TextOf}
+use Rattle.ill_dump.specs.Markup.{shown_in, tags_in}
 use Rattle.ill_dump.specs.declared.run.DumpOptions.{DumpOptions}
 
--- what the lines of message i begin with
+-- what the lines of message i begin with; in HTML tags come first, and the name is escaped
 abbrev pub head : DumpOptions → ℕ → List ℕ
-head dump i = label_of dump.names_input dump.name.now ++ codes "message " ++ decimal i ++ codes ": "
+head dump i =
+    tags_in dump.format (codes "<section><h2>") ++ label_of dump.names_input (shown_in dump.format dump.name.now)
+    ++ codes "message " ++ decimal i ++ codes ": "
 
--- what is written of messages from message i on: the head of each, and more
+-- message i is written: each one is, or one alone
+abbrev pub is_chosen : Option ℕ → ℕ → Bool
+is_chosen None i = true
+is_chosen (Some n) i = nat_eq n i
+
+-- what is written of message i: its head, and more; of one that isn't chosen, nothing
+abbrev pub dumped : DumpOptions → ℕ → List ℕ → List ℕ
+dumped dump i more = if is_chosen dump.only i then head dump i ++ more else []
+
+-- what is written of messages from message i on
 abbrev pub dumped_from : DumpOptions → ℕ → List (List ℕ) → List ℕ
 dumped_from dump i [] = []
-dumped_from dump i (more ∷ others) = head dump i ++ more ++ dumped_from dump (suc i) others
+dumped_from dump i (more ∷ others) = dumped dump i more ++ dumped_from dump (suc i) others
 
--- n messages were written, from the first one on
+-- n messages were gone through, from the first one on, and those of them that are chosen were written
 pub record Dumps (dump : DumpOptions) (n : ℕ) (held held' : Option (List ℕ)) : Type 0 where
   pub parts : List (List ℕ)
   pub count : length parts ≡ n
   pub written : Appends held held' (dumped_from dump 1 parts)
 
--- what was left is messages to its end, at most 1,000,000; all of it was taken, and each message was written
-pub record AreDumped (dump : DumpOptions) (left left' held held' : Option (List ℕ)) : Type 0 where
+-- after this many messages the input is at its end, or no other message is chosen
+abbrev pub IsLast : DumpOptions → ℕ → Option (List ℕ) → Type 0
+IsLast dump n left' = IsAtEnd left' ⊎ (dump.only ≡ Some n)
+
+-- the octets that were taken are this number of messages, at most 1,000,000, up to the last one; those that are chosen were written
+pub record AreDumped (dump : DumpOptions) (left left' held held' : Option (List ℕ)) (count : ℕ) : Type 0 where
   pub apdus : List Apdu
   pub octets : List ℕ
   pub stream : IsStream (profile_of dump.profile) octets apdus []
   pub taken : Consumes left left' octets
-  pub end : IsAtEnd left'
-  pub few : length apdus ≤ 1_000_000
-  pub dumps : Dumps dump (length apdus) held held'
+  pub counted : count ≡ length apdus
+  pub last : IsLast dump count left'
+  pub few : count ≤ 1_000_000
+  pub dumps : Dumps dump count held held'
 
 -- the same of an input that is read as octets, or as hexadecimal text
-abbrev pub DumpDone : Bool → DumpOptions → Option (List ℕ) → Option (List ℕ) → Option (List ℕ) → Option (List ℕ) → Type 0
-DumpDone false dump left left' held held' = AreDumped dump left left' held held'
-DumpDone true dump left left' held held' =
-    (octets : List ℕ) × TextOf left left' octets × ((rest : List ℕ) × AreDumped dump (Some octets) (Some rest) held held')
+abbrev pub DumpDone : Bool → DumpOptions → Option (List ℕ) → Option (List ℕ) → Option (List ℕ) → Option (List ℕ) → ℕ → Type 0
+DumpDone false dump left left' held held' count = AreDumped dump left left' held held' count
+DumpDone true dump left left' held held' count =
+    (octets : List ℕ) × TextOf left left' octets × ((rest : List ℕ) × AreDumped dump (Some octets) (Some rest) held held' count)
 
 -- the first message that is refused has this number, and the refusal is the one fault of what is left there; or 1,000,000 messages come before
 -- the end; or memory, the source or the sink failed
@@ -54,7 +71,7 @@ StopsIn q s RunFault.TooManyMessages =
     (apdus : List Apdu) × (rest : List ℕ) × IsStream q s apdus rest × (length apdus ≡ 1_000_000) × (0 < length rest)
 StopsIn q s fault = IsFault fault
 
--- the messages up to the one that is refused were written, and it, too; or 1,000,000 of them
+-- the messages up to the one that is refused were gone through, and it, too; or 1,000,000 of them
 abbrev pub DumpsUpTo : DumpOptions → RunFault → Option (List ℕ) → Option (List ℕ) → Type 0
 DumpsUpTo dump (RunFault.Refused message refusal) held held' = Dumps dump message held held'
 DumpsUpTo dump RunFault.TooManyMessages held held' = Dumps dump 1_000_000 held held'

@@ -1,2 +1,4 @@
+pub mod Markup
 pub mod Dumped
+pub mod Going
 pub mod code

@@ -5,6 +5,7 @@ use std::alloc::AllocError;
 
 /// `refused at`, the offset, and the cause with the part that it is about.
 pub fn put_refusal(lines: &mut LineBuffer, refusal: Refusal) -> Result<(), AllocError> {
+    lines.tags("<b>")?;
     lines.text("refused at ")?;
     lines.number(i64::from(refusal.at))?;
     lines.text(": ")?;
@@ -13,6 +14,7 @@ pub fn put_refusal(lines: &mut LineBuffer, refusal: Refusal) -> Result<(), Alloc
         Cause::LeftOut(part) | Cause::Missing(part) => put_part(lines, part)?,
         _ => {}
     }
+    lines.tags("</b>")?;
     lines.text("\n")
 }
 

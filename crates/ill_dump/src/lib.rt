@@ -2,21 +2,39 @@
 //! not normal in it.
 //!
 //! ```
-//! let options = DumpOptions { hex: false, name: "messages.ber", names_input: false };
-//! run_dump::<R, Unbuffered, W>(alloc, options, &mut source, &mut sink)?;
+//! let options = DumpOptions {
+//!     profile: Profile::Two,
+//!     hex: false,
+//!     name: "messages.ber",
+//!     names_input: false,
+//!     only: None,
+//!     format: DumpFormat::Text,
+//! };
+//! let messages = run_dump::<R, Unbuffered, W>(alloc, options, &mut source, &mut sink)?;
 //! ```
 #![tactic(auto)]
 
 mod cause;
+mod document;
 mod found;
+mod going;
 mod label;
+mod laws;
 mod lines;
+mod markup;
 mod message;
 mod note;
+mod put;
 mod refusal;
+mod rest;
 mod run;
+mod unjudged;
 mod value;
 mod walk;
 
+pub use document::{HTML_BEGIN, HTML_END};
+pub use going::{DumpCounts, run_dump_skipping};
+pub use laws::texts_have_no_markup;
+pub use markup::DumpFormat;
 pub use message::{DumpedMessage, dump_message};
 pub use run::{DumpOptions, run_dump};

@@ -1,6 +1,9 @@
 //! Lines of text that are made in memory.
 ghost use Rattle.std.specs.Prelude.{◌≡◌, ◌++◌, [], decimal, OnOk};
+ghost use Rattle.std.specs.List.{flat_map};
+ghost use Rattle.ill_dump.specs.Markup.{escape, shown_in};
 
+use crate::markup::{DumpFormat, reference};
 use itoa::Buffer;
 use std::alloc::{AllocError, Global};
 
@@ -13,25 +16,64 @@ const OCTETS_COLUMN: usize = 7;
 #[derive(Drop)]
 pub struct LineBuffer {
     pub octets: Vec<u8>,
+    pub format: DumpFormat,
 }
 
 impl LineBuffer {
-    pub fn new(alloc: Global) -> LineBuffer
+    pub fn new(alloc: Global, format: DumpFormat) -> LineBuffer
         ensures { result.octets.items ≡ [] }
     {
         LineBuffer {
             octets: Vec::new(alloc),
+            format,
         }
     }
 
-    pub fn text(&mut self, text: &str) -> Result<(), AllocError>
-        ensures { OnOk result (self.new.octets.items ≡ self.old.octets.items ++ text.now) }
-    {
-        self.octets.extend_from_slice(text.as_bytes())
+    pub fn text(&mut self, text: &str) -> Result<(), AllocError> {
+        self.text_in(self.format, text)
     }
 
+    /// A text in a format.
+    pub fn text_in(&mut self, format: DumpFormat, text: &str) -> Result<(), AllocError>
+        ensures { OnOk result (self.new.octets.items ≡ self.old.octets.items
+            ++ shown_in format text.now) }
+    {
+        self.octets_in(format, text.as_bytes())
+    }
+
+    /// Octets of a text.
     pub fn raw(&mut self, octets: &[u8]) -> Result<(), AllocError> {
-        self.octets.extend_from_slice(octets)
+        self.octets_in(self.format, octets)
+    }
+
+    fn octets_in(&mut self, format: DumpFormat, octets: &[u8]) -> Result<(), AllocError>
+        ensures { OnOk result (self.new.octets.items ≡ self.old.octets.items
+            ++ shown_in format octets.now) }
+    {
+        match format {
+            DumpFormat::Text => self.octets.extend_from_slice(octets),
+            DumpFormat::Html => self.escaped(octets),
+        }
+    }
+
+    /// Octets with a reference in place of each that could be markup.
+    fn escaped(&mut self, octets: &[u8]) -> Result<(), AllocError>
+        ensures { OnOk result (self.new.octets.items ≡ self.old.octets.items
+            ++ flat_map escape octets.now) }
+    {
+        for octet in octets {
+            self.escaped_octet(*octet)?;
+        }
+        Ok(())
+    }
+
+    fn escaped_octet(&mut self, octet: u8) -> Result<(), AllocError>
+        ensures { OnOk result (self.new.octets.items ≡ self.old.octets.items ++ escape octet) }
+    {
+        match reference(octet) {
+            Some(text) => self.octets.extend_from_slice(text.as_bytes()),
+            None => self.octets.extend_from_slice(&[octet]),
+        }
     }
 
     pub fn number(&mut self, number: i64) -> Result<(), AllocError> {
@@ -84,18 +126,18 @@ impl LineBuffer {
 
     /// Octets of a string in quotation marks; those that are no visible character of ASCII are escaped.
     pub fn quoted(&mut self, octets: &[u8]) -> Result<(), AllocError> {
-        self.octets.extend_from_slice(b"\"")?;
+        self.raw(b"\"")?;
         for octet in octets {
             match *octet {
-                b'"' | b'\\' => self.octets.extend_from_slice(&[b'\\', *octet])?,
-                b' '..=b'~' => self.octets.extend_from_slice(&[*octet])?,
+                b'"' | b'\\' => self.raw(&[b'\\', *octet])?,
+                b' '..=b'~' => self.raw(&[*octet])?,
                 _ => {
-                    self.octets.extend_from_slice(b"\\x")?;
+                    self.raw(b"\\x")?;
                     self.octet(*octet)?;
                 }
             }
         }
-        self.octets.extend_from_slice(b"\"")
+        self.raw(b"\"")
     }
 
     /// Octets of no known meaning: in quotation marks where all are printable ASCII, else in hexadecimal without blanks.

@@ -4,11 +4,14 @@ ghost use Rattle.ill_schema.specs.Profiles.{profile_of};
 ghost use Rattle.ill_dump.specs.Dumped.{IsJudged};
 
 use crate::lines::LineBuffer;
+use crate::markup::DumpFormat;
+use crate::put::{put_check, put_head, put_refused_line};
 use crate::refusal::put_lines;
-use crate::run::{DumpOptions, put_check, put_head};
-use crate::walk::ElementWalk;
+use crate::run::DumpOptions;
+use crate::unjudged::UnjudgedWalk;
+use crate::walk::{ElementWalk, Steps};
 use ill_read::{Failure, decode_normal_as};
-use ill_schema::{Profile, Refusal};
+use ill_schema::{Cause, Profile, Refusal};
 use std::alloc::{AllocError, Global};
 
 /// A message as it is spelled, and why it is refused, if it is.
@@ -39,13 +42,16 @@ pub fn dump_message(
         hex: false,
         name: "",
         names_input: false,
+        only: None,
+        format: DumpFormat::Text,
     };
-    let mut lines = LineBuffer::new(alloc);
+    let mut lines = LineBuffer::new(alloc, DumpFormat::Text);
     put_head(dump, number, &mut lines)?;
     match decode_normal_as(alloc, profile, octets) {
         Ok(normal) => {
             put_check(dump, octets, &normal.octets, &mut lines)?;
-            put_elements(alloc, profile, octets, octets.len(), &mut lines)?;
+            let mut walk = ElementWalk::new(alloc, profile, octets.len());
+            put_elements(&mut walk, octets, &mut lines)?;
             Ok(DumpedMessage {
                 text: lines.octets,
                 refusal: None,
@@ -70,24 +76,27 @@ fn put_refused(
     refusal: Refusal,
     lines: &mut LineBuffer,
 ) -> Result<(), AllocError> {
-    lines.text("refused\n")?;
-    let walk = put_elements(alloc, profile, octets, refusal.at as usize, lines)?;
-    put_lines(lines, &walk, octets, refusal)
+    put_refused_line(lines)?;
+    let mut walk = ElementWalk::new(alloc, profile, refusal.at as usize);
+    put_elements(&mut walk, octets, lines)?;
+    put_lines(lines, &walk, octets, refusal)?;
+    if refusal.cause == Cause::NormalTooLong {
+        return Ok(());
+    }
+    let mut rest = UnjudgedWalk::from_place(&walk, refusal.at as usize)?;
+    put_elements(&mut rest, octets, lines)
 }
 
-/// The lines of the elements that begin before `stop`. Returns the walk through them.
-fn put_elements(
-    alloc: Global,
-    profile: Profile,
+/// The lines of the elements on a way through them.
+fn put_elements<S: Steps>(
+    walk: &mut S,
     octets: &[u8],
-    stop: usize,
     lines: &mut LineBuffer,
-) -> Result<ElementWalk, AllocError> {
-    let mut walk = ElementWalk::new(alloc, profile);
+) -> Result<(), AllocError> {
     for _ in 0..=octets.len() {
-        if !walk.step(octets, stop, lines)? {
-            return Ok(walk);
+        if !walk.step(octets, lines)? {
+            return Ok(());
         }
     }
-    Ok(walk)
+    Ok(())
 }

@@ -16,9 +16,13 @@ impl DerNotes {
 
     /// One more note begins.
     pub fn begin(&mut self, lines: &mut LineBuffer) -> Result<(), AllocError> {
-        lines.text(if self.is_open { ", " } else { "  (" })?;
+        if self.is_open {
+            return lines.text(", ");
+        }
         self.is_open = true;
-        Ok(())
+        lines.text("  ")?;
+        lines.tags("<span class=\"note\">")?;
+        lines.text("(")
     }
 
     pub fn note(&mut self, lines: &mut LineBuffer, text: &str) -> Result<(), AllocError> {
@@ -30,6 +34,7 @@ impl DerNotes {
     pub fn end(self, lines: &mut LineBuffer) -> Result<(), AllocError> {
         if self.is_open {
             lines.text(")")?;
+            lines.tags("</span>")?;
         }
         Ok(())
     }

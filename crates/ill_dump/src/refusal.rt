@@ -16,6 +16,15 @@ const MAX_TAG_TRIED: [(Class, u32, u32); 3] = [
     (Class::Context, 0, 60),
 ];
 
+/// The line for what is refused by a limit.
+const OUR_LIMIT: &str = "    a limit of illcanon, not of ISO 10161-1\n";
+
+/// The number of octets of an identifier that has to have more: the first one, and four of the tag number.
+const LONG_TAG: usize = 5;
+
+/// The bit of an identifier's first octet that is 1 in a constructed element (X.690, 8.1.2.5).
+const CONSTRUCTED: u8 = 0x20;
+
 /// Makes the lines of a refusal, of a message that was gone through up to its place.
 pub fn put_lines(
     lines: &mut LineBuffer,
@@ -23,21 +32,41 @@ pub fn put_lines(
     octets: &[u8],
     refusal: Refusal,
 ) -> Result<(), AllocError> {
+    walk.close_all(lines)?;
+    lines.tags("<div class=\"refused\">")?;
     put_refusal(lines, refusal)?;
     lines.text("    ")?;
     lines.text(text_of(walk, refusal.cause))?;
     lines.text("\n")?;
     if refusal.cause == Cause::NormalTooLong {
-        return Ok(());
+        lines.text(OUR_LIMIT)?;
+    } else {
+        put_place(lines, walk, octets, refusal)?;
     }
+    lines.tags("</div>")
+}
+
+/// The lines for the place of a refusal, and for what is there.
+fn put_place(
+    lines: &mut LineBuffer,
+    walk: &ElementWalk,
+    octets: &[u8],
+    refusal: Refusal,
+) -> Result<(), AllocError> {
     let begun = read_start(octets_at(octets, refusal.at as usize, walk.bound()));
     put_path(lines, walk, begun, refusal.cause)?;
     put_found(lines, octets, begun, refusal)?;
     match refusal.cause {
         Cause::UnexpectedTag | Cause::Missing(_) => put_due(lines, walk)?,
+        Cause::WrongForm => put_due_form(lines, octets, begun, refusal)?,
         _ => {}
     }
-    put_hint(lines, walk, refusal.cause)
+    put_hint(
+        lines,
+        walk,
+        octets_at(octets, refusal.at as usize, usize::MAX),
+        refusal.cause,
+    )
 }
 
 /// The text of a cause, at the place that was reached.
@@ -55,8 +84,19 @@ fn is_foreign(place: Place) -> bool {
     kind(place.node()) == Kind::Any
 }
 
-/// That the module profile reads what profile 2 leaves out or tags in another way, where this may be so.
-fn put_hint(lines: &mut LineBuffer, walk: &ElementWalk, cause: Cause) -> Result<(), AllocError> {
+/// That what is refused is not wrong by ISO 10161-1, where this is so or may be so: the module profile reads what profile 2 leaves out or
+/// tags in another way, and other things neither reads.
+fn put_hint(
+    lines: &mut LineBuffer,
+    walk: &ElementWalk,
+    rest: &[u8],
+    cause: Cause,
+) -> Result<(), AllocError> {
+    match cause {
+        Cause::IntegerTooLong | Cause::TooLong | Cause::TooDeep => return lines.text(OUR_LIMIT),
+        Cause::BadTag if has_long_number(rest) => return lines.text(OUR_LIMIT),
+        _ => {}
+    }
     if walk.profile() != Profile::Two {
         return Ok(());
     }
@@ -66,7 +106,36 @@ fn put_hint(lines: &mut LineBuffer, walk: &ElementWalk, cause: Cause) -> Result<
         Cause::WrongForm | Cause::UnexpectedTag if is_retagged(node) => {
             lines.text("    --profile module has other tags here\n")
         }
+        // No other octets of a GeneralString are refused.
+        Cause::BadText if is_general(walk, rest) => {
+            lines.text("    --profile module reads escape sequences\n")
+        }
         _ => Ok(()),
+    }
+}
+
+/// Tells whether a tag begins with these octets whose number goes on after four of them (X.690, 8.1.2.4).
+fn has_long_number(rest: &[u8]) -> bool {
+    match rest {
+        [first, number, ..] => {
+            let octets = first_of(rest, LONG_TAG);
+            first & 0x1F == 0x1F
+                && *number != 0x80
+                && octets.len() == LONG_TAG
+                && octets[1..].iter().all(|octet| *octet >= 0x80)
+        }
+        _ => false,
+    }
+}
+
+/// Tells whether a GeneralString is due here with the tag that the octets begin with.
+fn is_general(walk: &ElementWalk, rest: &[u8]) -> bool {
+    let Some((id, _)) = read_start(rest).id else {
+        return false;
+    };
+    match walk.place().find(id) {
+        Some(found) => found.element_type() == ElementType::General,
+        None => false,
     }
 }
 
@@ -136,7 +205,7 @@ fn put_found(
     match refusal.cause {
         Cause::Truncated => lines.text("the end of the input")?,
         Cause::Missing(_) => lines.text("the end of the element")?,
-        Cause::BadEnd => lines.hex(first(rest, 2))?,
+        Cause::BadEnd => lines.hex(first_of(rest, 2))?,
         cause => put_header(lines, rest, begun, cause)?,
     }
     lines.text("\n")
@@ -153,7 +222,7 @@ fn put_header(
         return lines.text("nothing before the end");
     }
     let Some((id, id_size)) = begun.id else {
-        return lines.hex(first(rest, begun.size));
+        return lines.hex(first_of(rest, begun.size));
     };
     put_tag(lines, id.class(), id.number())?;
     lines.text(if id.constructed() {
@@ -166,7 +235,7 @@ fn put_header(
         Cause::BadLength | Cause::Overrun | Cause::TooLong => begun.size,
         _ => begun.size.saturating_add(content_size(begun, id)),
     };
-    lines.hex(first(rest, size))
+    lines.hex(first_of(rest, size))
 }
 
 /// The number of octets that the content of a primitive element has.
@@ -180,11 +249,38 @@ fn content_size(begun: ElementStart, id: Id) -> usize {
     }
 }
 
-fn first(octets: &[u8], count: usize) -> &[u8] {
+/// The first octets, `count` of them where there are as many.
+fn first_of(octets: &[u8], count: usize) -> &[u8] {
     match octets.get(..count) {
         Some(front) => front,
         None => octets,
     }
+}
+
+/// The line for the form that was due: the tag as it was found, with the other form.
+fn put_due_form(
+    lines: &mut LineBuffer,
+    octets: &[u8],
+    begun: ElementStart,
+    refusal: Refusal,
+) -> Result<(), AllocError> {
+    let rest = octets_at(octets, refusal.at as usize, usize::MAX);
+    let (Some((id, size)), Some((first, others))) = (begun.id, rest.split_first()) else {
+        return Ok(());
+    };
+    lines.text("    due ")?;
+    put_tag(lines, id.class(), id.number())?;
+    lines.text(if id.constructed() {
+        " primitive: "
+    } else {
+        " constructed: "
+    })?;
+    lines.octet(*first ^ CONSTRUCTED)?;
+    for octet in others.iter().take(size.saturating_sub(1)) {
+        lines.text(" ")?;
+        lines.octet(*octet)?;
+    }
+    lines.text("\n")
 }
 
 /// The lines for what was due: one for each tag, and one for the end of the element, where nothing is missing in it.
@@ -192,30 +288,34 @@ fn put_due(lines: &mut LineBuffer, walk: &ElementWalk) -> Result<(), AllocError>
     if is_foreign(walk.place()) {
         return lines.text("    due one element of any tag\n");
     }
+    let mut some_left_out = false;
     for (class, low, high) in MAX_TAG_TRIED {
         for number in low..=high {
             if let Some(id) = Id::new(class, true, number) {
-                put_due_tag(lines, walk, id)?;
+                some_left_out |= put_due_tag(lines, walk, id)?;
             }
         }
     }
     if walk.is_inside() && !walk.place().is_missing() {
         lines.text("    due the end of the element\n")?;
     }
+    if some_left_out {
+        lines.text("    --profile module reads what is marked as not read\n")?;
+    }
     Ok(())
 }
 
-fn put_due_tag(lines: &mut LineBuffer, walk: &ElementWalk, id: Id) -> Result<(), AllocError> {
+/// The line for a tag, if it is due. Returns whether it is that of a part that is left out.
+fn put_due_tag(lines: &mut LineBuffer, walk: &ElementWalk, id: Id) -> Result<bool, AllocError> {
     let place = walk.place();
     let Some(found) = place.find(id) else {
-        return Ok(());
+        return Ok(false);
     };
     lines.text("    due ")?;
     put_tag(lines, id.class(), id.number())?;
     lines.text(" ")?;
     label_of(found, id, place.node(), walk.items()).put(lines)?;
-    if found.element_type() == ElementType::LeftOut {
-        lines.text(" (not read)")?;
-    }
-    lines.text("\n")
+    let is_left_out = found.element_type() == ElementType::LeftOut;
+    lines.text(if is_left_out { " (not read)\n" } else { "\n" })?;
+    Ok(is_left_out)
 }

@@ -1,32 +1,22 @@
 //! The messages of an input, one after another.
-ghost use Rattle.std.specs.Prelude.{◌≡◌, ◌≢◌, ◌++◌, [], Ok, IfOk, IfErr, IfSome, IsTrue, OnOk};
-ghost use Rattle.std.specs.Io.KnownBytes.{Appends};
+ghost use Rattle.std.specs.Prelude.{◌≡◌, [], IfOk, IfErr, IfSome, IsTrue};
 ghost use Rattle.ill_schema.specs.Profiles.{profile_of};
 ghost use Rattle.ill_read.specs.declared.failure.ReadFailure.{ReadFailure};
-ghost use Rattle.ill_commands.specs.declared.fault.RunFault.{RunFault};
-ghost use Rattle.ill_commands.specs.Output.{label_of};
-ghost use Rattle.ill_commands.specs.Runs.{FailsText, IsFault, TextOf};
-ghost use Rattle.ill_dump.specs.Dumped.{AreDumped, BreaksSink, BreaksSource, DumpDone, DumpFails, DumpsUpTo, StopsIn, head};
+ghost use Rattle.ill_normal.specs.declared.run_fault.RunFault.{RunFault};
+ghost use Rattle.ill_dump.specs.Dumped.{AreDumped, BreaksSink, BreaksSource, DumpDone, DumpFails, DumpsUpTo, StopsIn, head, is_chosen};
 ghost use Rattle.ill_dump.specs.code.Failing.{FollowsFrom};
-ghost use Rattle.ill_dump.specs.code.Putting.{BeginsWith, IfRefused, Puts};
+ghost use Rattle.ill_dump.specs.code.Putting.{BeginsIf, IfRefused, is_enough};
 
-use crate::found::read_start;
-use crate::label::label_of;
-use crate::lines::LineBuffer;
-use crate::refusal;
-use crate::walk::ElementWalk;
-use ber_core::{Buffered, FromSlice, Lookahead, Sink, Source, put_all};
-use ill_commands::{RunFault, read_hex};
-use ill_grammar::Place;
-use ill_normal::MAX_MESSAGES;
-use ill_read::{NormalForm, NormalReader, ReadFailure};
-use ill_schema::{Profile, Refusal};
-use std::alloc::{AllocError, Global};
+use crate::markup::DumpFormat;
+use crate::put::{DumpSink, put_message, put_refused};
+use crate::rest::take_rest;
+use ber_core::{Buffered, FromSlice, Lookahead, Sink, Source};
+use ill_normal::{MAX_MESSAGES, RunFault, read_hex};
+use ill_read::{NormalReader, ReadFailure};
+use ill_schema::Profile;
+use std::alloc::Global;
 
-/// The number of octets that are made before they are written.
-const FLUSH_AT: usize = 4096;
-
-/// The options of a dump: how an input is read, and how the first line of each message names it.
+/// The options of a dump: how an input is read, which of its messages are written, and how the first line of each names it.
 #[derive(Clone, Copy, Debug)]
 pub struct DumpOptions<'a> {
     /// The profile that messages are read in.
@@ -37,23 +27,52 @@ pub struct DumpOptions<'a> {
     pub name: &'a str,
     /// True if the first line of a message begins with the name and `: `.
     pub names_input: bool,
+    /// The number of the one message that is written, from 1; None where each is.
+    pub only: Option<u32>,
+    /// The format that messages are written in.
+    pub format: DumpFormat,
+}
+
+impl DumpOptions<'_> {
+    /// Tells whether the message of this number is written.
+    pub(crate) fn is_chosen(&self, message: u32) -> bool
+        ensures { result ≡ is_chosen self.now.only message }
+    {
+        match self.only {
+            Some(number) => number == message,
+            None => true,
+        }
+    }
+
+    /// Tells whether no message after this many is written.
+    pub(crate) fn is_enough(&self, before: u32) -> bool
+        ensures { result ≡ is_enough self.now.only before }
+    {
+        match self.only {
+            Some(number) => number == before,
+            None => false,
+        }
+    }
 }
 
 /// Writes the messages of an input as they are spelled, one after another up to its end: for each a line as `check` writes it, and then a
 /// line for each element. Of a message that is refused it writes the elements before the place, and then the refusal in words. One message
-/// is held at a time, of at most 1,048,576 octets, and its normal form.
+/// is held at a time, of at most 1,048,576 octets, and its normal form. Returns how many messages were gone through.
+///
+/// Where one message alone is asked for, those before it are read and not written, and nothing after it is read. Fewer messages than its
+/// number say that the input has no such message.
 ///
 /// # Errors
 ///
-/// The reason why not all of the input was written, see [`RunFault`]. Of a refused message all lines were written.
+/// The reason why not all of the input was gone through, see [`RunFault`]. Of a refused message all lines were written, if it is asked for.
 pub fn run_dump<R: Source, L: Lookahead<R>, W: Sink>(
     alloc: Global,
     dump: DumpOptions<'_>,
     source: &mut R,
     sink: &mut W,
-) -> Result<(), RunFault>
-    // The input was messages to its end, and each was written; or this is why it was not.
-    ensures done { OnOk result (DumpDone dump.entry.hex dump.entry
+) -> Result<u32, RunFault>
+    // The input was messages to its end, or to the one that is asked for, and those that are asked for were written; or this is why not.
+    ensures done { IfOk result (DumpDone dump.entry.hex dump.entry
         (R.left source.old) (R.left source.new) (W.contents sink.old) (W.contents sink.new)) }
     ensures fails { IfErr result (DumpFails dump.entry.hex dump.entry
         (R.left source.old) (R.left source.new) (R.is_broken source.new) (W.contents sink.old)
@@ -76,8 +95,8 @@ fn dump_messages<R: Source, L: Lookahead<R>, W: Sink>(
     dump: DumpOptions<'_>,
     source: &mut R,
     sink: &mut W,
-) -> Result<(), RunFault>
-    ensures done { OnOk result (AreDumped dump.entry
+) -> Result<u32, RunFault>
+    ensures done { IfOk result (AreDumped dump.entry
         (R.left source.old) (R.left source.new) (W.contents sink.old) (W.contents sink.new)) }
     ensures stops { IfErr result (λ fault. IfSome (R.left source.old)
         (λ s. StopsIn (profile_of dump.entry.profile) s fault)) }
@@ -88,133 +107,59 @@ fn dump_messages<R: Source, L: Lookahead<R>, W: Sink>(
     ensures source_stays { IsTrue (R.is_broken source.old) → IsTrue (R.is_broken source.new) }
     ensures sink_stays { IsTrue (W.is_broken sink.old) → IsTrue (W.is_broken sink.new) }
 {
-    let mut out = DumpSink {
-        head: LineBuffer::new(alloc),
-        lines: LineBuffer::new(alloc),
-        written: 0,
-    };
+    let mut out = DumpSink::new(alloc, dump.format);
     let mut reader = NormalReader::new(alloc);
     let mut kept = Vec::new(alloc);
     let mut buffer = Vec::new(alloc);
     for before in 0..MAX_MESSAGES {
+        if dump.is_enough(before) {
+            return Ok(before);
+        }
         let message = before + 1;
         kept.clear();
         let read = reader.read_recording_as::<R, L>(dump.profile, source, buffer, &mut kept);
         match read {
             Ok(Some(normal)) => {
-                put_message(alloc, dump, message, &kept, &normal, &mut out, sink)?;
+                put_message(alloc, dump, message, &kept, &normal.octets, &mut out, sink)?;
                 buffer = normal.octets;
             }
-            Ok(None) => return Ok(()),
+            Ok(None) => return Ok(before),
             Err(failure) => {
-                let (octets, out) = (&kept, &mut out);
-                return Err(put_failure(alloc, dump, message, octets, failure, out, sink));
+                return Err(put_failure(
+                    alloc, dump, message, source, kept, failure, &mut out, sink,
+                ));
             }
         }
     }
     drop(reader);
+    if dump.is_enough(MAX_MESSAGES) {
+        return Ok(MAX_MESSAGES);
+    }
     match source.take(&mut [0]) {
-        Ok(0) => Ok(()),
+        Ok(0) => Ok(MAX_MESSAGES),
         Ok(_) => Err(RunFault::TooManyMessages),
         Err(_) => Err(RunFault::ReadFault),
     }
 }
 
-/// The lines of a message that are not yet written: the beginning of its first line, and what comes after that; and how many octets were written.
-#[derive(Drop)]
-struct DumpSink {
-    head: LineBuffer,
-    lines: LineBuffer,
-    written: u128,
-}
-
-impl DumpSink {
-    /// Writes what was made.
-    fn put<W: Sink>(&mut self, sink: &mut W) -> Result<(), RunFault>
-        ensures puts { OnOk result (Appends (W.contents sink.old) (W.contents sink.new)
-            (self.old.head.octets.items ++ self.old.lines.octets.items)) }
-        ensures none { OnOk result (self.new.head.octets.items ≡ []) }
-        ensures breaks { IfErr result (λ fault. BreaksSink fault (W.is_broken sink.new)) }
-        ensures refuses { IfErr result IsFault }
-        ensures writes { IfErr result (λ fault. fault ≢ RunFault.ReadFault) }
-        ensures stays { IsTrue (W.is_broken sink.old) → IsTrue (W.is_broken sink.new) }
-    {
-        send(&mut self.head, &mut self.written, sink)?;
-        send(&mut self.lines, &mut self.written, sink)
-    }
-}
-
-/// Writes lines after this number of octets, and forgets them.
-fn send<W: Sink>(lines: &mut LineBuffer, written: &mut u128, sink: &mut W) -> Result<(), RunFault>
-    ensures puts { OnOk result (Appends (W.contents sink.old) (W.contents sink.new)
-        lines.old.octets.items) }
-    ensures none { OnOk result (lines.new.octets.items ≡ []) }
-    ensures breaks { IfErr result (λ fault. BreaksSink fault (W.is_broken sink.new)) }
-    ensures refuses { IfErr result IsFault }
-    ensures writes { IfErr result (λ fault. fault ≢ RunFault.ReadFault) }
-    ensures stays { IsTrue (W.is_broken sink.old) → IsTrue (W.is_broken sink.new) }
-{
-    match put_all(sink, &lines.octets) {
-        Ok(()) => {
-            *written = written.saturating_add(lines.octets.len() as u128);
-            lines.octets.clear();
-            Ok(())
-        }
-        Err(count) => Err(RunFault::WriteFault(written.saturating_add(count as u128))),
-    }
-}
-
-/// Turns a result of memory into a fault of the job.
-fn or_out_of_memory<T: Drop>(or_out_of_memory: Result<T, AllocError>) -> Result<T, RunFault>
-    ensures same { IfOk result (λ value. or_out_of_memory ≡ Ok value) }
-    ensures memory { IfErr result (λ fault. fault ≡ RunFault.OutOfMemory) }
-{
-    match or_out_of_memory {
-        Ok(or_out_of_memory) => Ok(or_out_of_memory),
-        Err(AllocError) => Err(RunFault::OutOfMemory),
-    }
-}
-
-/// Writes the lines of a message.
-fn put_message<W: Sink>(
-    alloc: Global,
-    dump: DumpOptions<'_>,
-    message: u32,
-    octets: &[u8],
-    normal: &NormalForm,
-    out: &mut DumpSink,
-    sink: &mut W,
-) -> Result<(), RunFault>
-    ensures begins { OnOk result (BeginsWith (W.contents sink.old) (W.contents sink.new)
-        (out.old.head.octets.items ++ head dump.entry message)) }
-    ensures none { OnOk result (out.new.head.octets.items ≡ []) }
-    ensures breaks { IfErr result (λ fault. BreaksSink fault (W.is_broken sink.new)) }
-    ensures refuses { IfErr result IsFault }
-    ensures writes { IfErr result (λ fault. fault ≢ RunFault.ReadFault) }
-    ensures stays { IsTrue (W.is_broken sink.old) → IsTrue (W.is_broken sink.new) }
-{
-    or_out_of_memory(put_head(dump, message, &mut out.head))?;
-    or_out_of_memory(put_check(dump, octets, &normal.octets, &mut out.lines))?;
-    let mut walk = ElementWalk::new(alloc, dump.profile);
-    put_elements(&mut walk, octets, octets.len(), out, sink)?;
-    out.put(sink)
-}
-
 /// The reason why no message was read, after the lines of one that is refused were written.
-fn put_failure<W: Sink>(
+fn put_failure<R: Source, W: Sink>(
     alloc: Global,
     dump: DumpOptions<'_>,
     message: u32,
-    octets: &[u8],
+    source: &mut R,
+    kept: Vec<u8>,
     failure: ReadFailure,
     out: &mut DumpSink,
     sink: &mut W,
 ) -> RunFault
+    requires { out.old.head.octets.items ≡ [] }
     ensures follows { FollowsFrom message failure result }
     ensures reads { result ≡ RunFault.ReadFault → failure ≡ ReadFailure.ReadFault }
-    ensures begins { IfRefused result (BeginsWith (W.contents sink.old) (W.contents sink.new)
-        (out.old.head.octets.items ++ head dump.entry message)) }
+    ensures begins { IfRefused result (BeginsIf (is_chosen dump.entry.only message)
+        (W.contents sink.old) (W.contents sink.new) (head dump.entry message)) }
     ensures breaks { BreaksSink result (W.is_broken sink.new) }
+    ensures source_stays { IsTrue (R.is_broken source.old) → IsTrue (R.is_broken source.new) }
     ensures stays { IsTrue (W.is_broken sink.old) → IsTrue (W.is_broken sink.new) }
 {
     let refusal = match failure {
@@ -222,116 +167,12 @@ fn put_failure<W: Sink>(
         ReadFailure::OutOfMemory => return RunFault::OutOfMemory,
         ReadFailure::ReadFault => return RunFault::ReadFault,
     };
-    match put_refused(alloc, dump, message, octets, refusal, out, sink) {
+    let mut octets = kept;
+    if dump.is_chosen(message) && take_rest(source, &mut octets).is_err() {
+        return RunFault::OutOfMemory;
+    }
+    match put_refused(alloc, dump, message, &octets, refusal, out, sink) {
         Ok(()) => RunFault::Refused { message, refusal },
         Err(fault) => fault,
-    }
-}
-
-/// Writes the lines of a message that is refused.
-fn put_refused<W: Sink>(
-    alloc: Global,
-    dump: DumpOptions<'_>,
-    message: u32,
-    octets: &[u8],
-    refusal: Refusal,
-    out: &mut DumpSink,
-    sink: &mut W,
-) -> Result<(), RunFault>
-    ensures begins { OnOk result (BeginsWith (W.contents sink.old) (W.contents sink.new)
-        (out.old.head.octets.items ++ head dump.entry message)) }
-    ensures breaks { IfErr result (λ fault. BreaksSink fault (W.is_broken sink.new)) }
-    ensures refuses { IfErr result IsFault }
-    ensures writes { IfErr result (λ fault. fault ≢ RunFault.ReadFault) }
-    ensures stays { IsTrue (W.is_broken sink.old) → IsTrue (W.is_broken sink.new) }
-{
-    or_out_of_memory(put_head(dump, message, &mut out.head))?;
-    or_out_of_memory(out.lines.text("refused\n"))?;
-    let mut walk = ElementWalk::new(alloc, dump.profile);
-    put_elements(&mut walk, octets, refusal.at as usize, out, sink)?;
-    or_out_of_memory(refusal::put_lines(&mut out.lines, &walk, octets, refusal))?;
-    out.put(sink)
-}
-
-/// Writes the lines of the elements that begin before `stop`.
-fn put_elements<W: Sink>(
-    walk: &mut ElementWalk,
-    octets: &[u8],
-    stop: usize,
-    out: &mut DumpSink,
-    sink: &mut W,
-) -> Result<(), RunFault>
-    ensures puts { OnOk result (Puts (W.contents sink.old) (W.contents sink.new)
-        out.old.head.octets.items out.new.head.octets.items) }
-    ensures breaks { IfErr result (λ fault. BreaksSink fault (W.is_broken sink.new)) }
-    ensures refuses { IfErr result IsFault }
-    ensures writes { IfErr result (λ fault. fault ≢ RunFault.ReadFault) }
-    ensures stays { IsTrue (W.is_broken sink.old) → IsTrue (W.is_broken sink.new) }
-{
-    for _ in 0..=octets.len() {
-        if !or_out_of_memory(walk.step(octets, stop, &mut out.lines))? {
-            return Ok(());
-        }
-        if out.lines.octets.len() >= FLUSH_AT {
-            out.put(sink)?;
-        }
-    }
-    Ok(())
-}
-
-/// The beginning of the first line of a message.
-pub(crate) fn put_head(
-    dump: DumpOptions<'_>,
-    message: u32,
-    lines: &mut LineBuffer,
-) -> Result<(), AllocError>
-    ensures { OnOk result (lines.new.octets.items ≡ lines.old.octets.items
-        ++ head dump.entry message) }
-{
-    put_label(dump, lines)?;
-    lines.text("message ")?;
-    lines.count(message as usize)?;
-    lines.text(": ")
-}
-
-/// The name of the input, where the first line of a message begins with it.
-fn put_label(dump: DumpOptions<'_>, lines: &mut LineBuffer) -> Result<(), AllocError>
-    ensures { OnOk result (lines.new.octets.items ≡ lines.old.octets.items
-        ++ label_of dump.entry.names_input dump.entry.name.now) }
-{
-    if dump.names_input {
-        lines.text(dump.name)?;
-        lines.text(": ")?;
-    }
-    Ok(())
-}
-
-/// The rest of the line of a message: its APDU, its size, and whether it is in normal form.
-pub(crate) fn put_check(
-    dump: DumpOptions<'_>,
-    octets: &[u8],
-    normal: &[u8],
-    lines: &mut LineBuffer,
-) -> Result<(), AllocError> {
-    put_apdu(dump.profile, octets, lines)?;
-    lines.text(", ")?;
-    lines.count(octets.len())?;
-    if octets == normal {
-        return lines.text(" octets, normal\n");
-    }
-    lines.text(" octets, not normal, normal form ")?;
-    lines.count(normal.len())?;
-    lines.text(" octets\n")
-}
-
-/// The name of the APDU that the octets begin.
-fn put_apdu(profile: Profile, octets: &[u8], lines: &mut LineBuffer) -> Result<(), AllocError> {
-    let top = Place::top_of(profile);
-    let Some((id, _)) = read_start(octets).id else {
-        return Ok(());
-    };
-    match top.find(id) {
-        Some(found) => label_of(found, id, top.node(), 0).put(lines),
-        None => Ok(()),
     }
 }

@@ -21,6 +21,12 @@ struct OpenElement {
     items: usize,
 }
 
+/// A way through elements.
+pub trait Steps: Drop {
+    /// Makes the line of the next element or end mark, if there is one. Returns whether there was one.
+    fn step(&mut self, octets: &[u8], lines: &mut LineBuffer) -> Result<bool, AllocError>;
+}
+
 /// A walk through the elements of a message, as far as it has come.
 #[derive(Drop)]
 pub struct ElementWalk {
@@ -28,6 +34,8 @@ pub struct ElementWalk {
     profile: Profile,
     open: Vec<OpenElement>,
     at: usize,
+    /// The offset from which on no element is begun.
+    stop: usize,
 }
 
 /// An element with a whole header.
@@ -42,13 +50,24 @@ struct WalkedElement {
 }
 
 impl ElementWalk {
-    pub fn new(alloc: Global, profile: Profile) -> ElementWalk {
+    /// A walk through the elements that begin before `stop`.
+    pub fn new(alloc: Global, profile: Profile, stop: usize) -> ElementWalk {
         ElementWalk {
             alloc,
             profile,
             open: Vec::new(alloc),
             at: 0,
+            stop,
         }
+    }
+
+    /// The offsets where the open elements end, the outermost one first; None for one that an end mark closes.
+    pub fn ends(&self) -> Result<Vec<Option<usize>>, AllocError> {
+        let mut ends = Vec::new(self.alloc);
+        for open in self.open.as_slice() {
+            ends.push(open.end)?;
+        }
+        Ok(ends)
     }
 
     /// The offset where the next element may begin, once what ended there is closed.
@@ -103,41 +122,25 @@ impl ElementWalk {
         Ok(some)
     }
 
-    /// Makes the line of the next element or end mark, if it begins before `stop`. Returns whether there was one.
-    pub fn step(
-        &mut self,
-        octets: &[u8],
-        stop: usize,
-        lines: &mut LineBuffer,
-    ) -> Result<bool, AllocError> {
-        self.close_ended();
-        if self.at >= stop {
-            return Ok(false);
-        }
-        let Some(rest) = octets.get(self.at..) else {
-            return Ok(false);
-        };
-        if self.awaits_end_mark() && matches!(rest, [0, 0, ..]) {
-            self.end_mark(lines)?;
-            return Ok(true);
-        }
-        let Some(element) = self.element(read_start(rest)) else {
-            return Ok(false);
-        };
-        self.put_element(element, octets, rest, stop, lines)?;
-        self.pass(element, octets.len())?;
-        Ok(true)
-    }
-
     /// Closes the elements that end here, but for one in which something is missing.
-    fn close_ended(&mut self) {
+    fn close_ended(&mut self, lines: &mut LineBuffer) -> Result<(), AllocError> {
         for _ in 0..self.open.len() {
             match self.open.as_slice().last() {
                 Some(open) if open.end == Some(self.at) && !open.place.is_missing() => {}
-                _ => return,
+                _ => break,
             }
             let _ = self.open.pop();
+            lines.close()?;
         }
+        Ok(())
+    }
+
+    /// The ends of all elements that are open, where no more of them is written.
+    pub fn close_all(&self, lines: &mut LineBuffer) -> Result<(), AllocError> {
+        for _ in 0..self.open.len() {
+            lines.close()?;
+        }
+        Ok(())
     }
 
     fn awaits_end_mark(&self) -> bool {
@@ -150,12 +153,11 @@ impl ElementWalk {
     /// The line of an end mark.
     fn end_mark(&mut self, lines: &mut LineBuffer) -> Result<(), AllocError> {
         let _ = self.open.pop();
-        lines.offset(self.at)?;
-        lines.text("  ")?;
-        lines.indent(self.open.len())?;
-        lines.text("00 00  end mark\n")?;
+        lines.close()?;
+        lines.begin_element(self.at, self.open.len(), false)?;
+        lines.text("00 00  end mark")?;
         self.at = self.at.saturating_add(2);
-        Ok(())
+        lines.end_element(&[], false)
     }
 
     /// The element that a header begins, if one is due.
@@ -178,38 +180,41 @@ impl ElementWalk {
         element: WalkedElement,
         octets: &[u8],
         rest: &[u8],
-        stop: usize,
         lines: &mut LineBuffer,
     ) -> Result<(), AllocError> {
-        lines.offset(self.at)?;
+        let is_round = element.header.id.constructed();
+        lines.begin_element(self.at, self.open.len(), is_round)?;
+        let header = rest.get(..element.size).unwrap_or(&[]);
+        let (id, len) = header.split_at(element.id_size.min(header.len()));
+        lines.header(element.header.id.class(), id, len)?;
         lines.text("  ")?;
-        lines.indent(self.open.len())?;
-        lines.hex(rest.get(..element.size).unwrap_or(&[]))?;
-        lines.text("  ")?;
+        lines.tags("<span class=\"name\">")?;
         element.label.put(lines)?;
+        lines.tags("</span>")?;
         let mut notes = DerNotes::new();
-        let size = element.size.saturating_sub(element.id_size);
-        if element.header.id.constructed() {
-            notes.length(lines, element.header.len, size)?;
-            self.put_constructed(element, octets, stop, lines, &mut notes)?;
+        if is_round {
+            notes.length(lines, element.header.len, len.len())?;
+            self.put_constructed(element, octets, lines, &mut notes)?;
         } else {
             self.put_primitive(element, rest, lines, &mut notes)?;
         }
         notes.end(lines)?;
-        lines.text("\n")
+        let content = rest
+            .get(element.size..element.end_from(0).min(rest.len()))
+            .unwrap_or(&[]);
+        lines.end_element(if is_round { &[] } else { content }, is_round)
     }
 
     fn put_constructed(
         &self,
         element: WalkedElement,
         octets: &[u8],
-        stop: usize,
         lines: &mut LineBuffer,
         notes: &mut DerNotes,
     ) -> Result<(), AllocError> {
         match element.found.element_type() {
             ElementType::Segment => notes.note(lines, "segment"),
-            ElementType::LooseWrapper if self.is_bare(element, octets, stop) => {
+            ElementType::LooseWrapper if self.is_bare(element, octets) => {
                 notes.note(lines, "without inner SEQUENCE")
             }
             ElementType::BitSegment => notes.note(lines, "segment"),
@@ -219,13 +224,13 @@ impl ElementWalk {
     }
 
     /// Tells whether a wrapper has no SEQUENCE in it.
-    fn is_bare(&self, element: WalkedElement, octets: &[u8], stop: usize) -> bool {
+    fn is_bare(&self, element: WalkedElement, octets: &[u8]) -> bool {
         if element.header.len == Len::Definite(0) {
             return true;
         }
         let next = self.at.saturating_add(element.size);
         match octets.get(next) {
-            Some(octet) => next < stop && *octet != 0x30,
+            Some(octet) => next < self.stop && *octet != 0x30,
             None => false,
         }
     }
@@ -243,6 +248,7 @@ impl ElementWalk {
             return notes.note(lines, "cut short");
         };
         lines.text(" = ")?;
+        lines.tags("<span class=\"value\">")?;
         let element_type = element.found.element_type();
         let is_default = match leaf_type(element_type) {
             Some(leaf) => put_leaf(lines, self.alloc, leaf, element.found.part(), content)?,
@@ -251,6 +257,7 @@ impl ElementWalk {
                 false
             }
         };
+        lines.tags("</span>")?;
         notes.length(lines, element.header.len, length)?;
         match element_type {
             ElementType::Segment | ElementType::BitSegment => notes.note(lines, "segment")?,
@@ -292,6 +299,28 @@ impl ElementWalk {
             end,
             items: 0,
         }])
+    }
+}
+
+impl Steps for ElementWalk {
+    fn step(&mut self, octets: &[u8], lines: &mut LineBuffer) -> Result<bool, AllocError> {
+        self.close_ended(lines)?;
+        if self.at >= self.stop {
+            return Ok(false);
+        }
+        let Some(rest) = octets.get(self.at..) else {
+            return Ok(false);
+        };
+        if self.awaits_end_mark() && matches!(rest, [0, 0, ..]) {
+            self.end_mark(lines)?;
+            return Ok(true);
+        }
+        let Some(element) = self.element(read_start(rest)) else {
+            return Ok(false);
+        };
+        self.put_element(element, octets, rest, lines)?;
+        self.pass(element, octets.len())?;
+        Ok(true)
     }
 }
 

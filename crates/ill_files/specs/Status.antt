@@ -4,8 +4,8 @@ use Rattle.std.specs.List.{list_any}
 use Rattle.clap.specs.Words.{kind_of}
 use Rattle.clap.specs.declared.error.Error.{Error}
 use Rattle.clap.specs.declared.error.kind.ErrorKind.{ErrorKind}
-use Rattle.ill_commands.specs.declared.fault.RunFault.{RunFault}
-use Rattle.ill_commands.specs.declared.job.Verdict.{Verdict}
+use Rattle.ill_normal.specs.declared.run_fault.RunFault.{RunFault}
+use Rattle.ill_normal.specs.declared.verdict.Verdict.{Verdict}
 use Rattle.ill_files.specs.declared.error.ProgramError.{ProgramError}
 use Rattle.ill_args.specs.declared.fault.LineFault.{LineFault}
 
@@ -31,7 +31,9 @@ error_status (ProgramError.Line (LineFault.Line error)) = line_status_is error
 error_status (ProgramError.Line _) = 2
 error_status ProgramError.HiddenCharacters = 2
 error_status ProgramError.SameFile = 2
+error_status ProgramError.RefusedIsShared = 2
 error_status (ProgramError.Run line) = run_status_is line.0
+error_status (ProgramError.NoMessage missing) = 1
 error_status _ = 3
 
 -- 0 where all is well, 1 where a message is not normal or two are different

@@ -2,14 +2,16 @@
 ghost use Rattle.std.specs.Prelude.{◌≡◌};
 ghost use Rattle.ill_files.specs.Status.{is_output_lost, keeps_output, line_status_is, loses_output, run_status_is, status_is};
 
+use crate::count::Count;
 use crate::names::{Name, NameOf};
+use crate::open_obstacle::OpenObstacle;
 use clap::Error as LineError;
 use clap::error::ErrorKind;
 use ill_args::LineFault;
-use ill_commands::{RunFault, Verdict};
-use ill_normal::{Cause, PartId, Refusal, Side, part_name};
+use ill_normal::{Cause, PartId, Refusal, RunFault, Side, Verdict, part_name};
 use std::alloc::Global;
-use std::{fmt, io};
+use std::rt::Files;
+use std::{fmt, fs, io, str};
 use thiserror::Error;
 
 /// An error that ends the work on a file, or all work. Each is printed as one line.
@@ -24,12 +26,18 @@ pub enum ProgramError {
     /// The job was not done to the end of its input.
     #[error("{0}")]
     Run(RunLine),
+    /// The input has no message of the number that is asked for. Nothing was written.
+    #[error("{0}")]
+    NoMessage(MissingMessage),
     /// The input and the output are one regular file. Nothing was written.
     #[error("IN and OUT are the same file")]
     SameFile,
-    /// A file of this name can't be opened, to be read or to be written.
+    /// The file of refused messages is another regular file of the command. Nothing was written.
+    #[error("--refused needs a file of its own")]
+    RefusedIsShared,
+    /// A file of this name can't be opened, to be read or to be written, for this reason.
     #[error("cannot open {0}")]
-    CannotOpen(Name),
+    CannotOpen(Name, OpenObstacle),
     /// The output was written to a new file, which can't be given this name. The file of this name is as it was.
     #[error("cannot replace {0}")]
     CannotReplace(Name),
@@ -58,10 +66,16 @@ impl ProgramError {
         }
     }
 
-    /// There is no file of this name to be read or written.
-    pub fn cannot_open(alloc: Global, name: &str) -> ProgramError {
+    /// The file of this name can't be opened, to be read or to be written, for this reason.
+    pub fn cannot_open(alloc: Global, name: &str, why: OpenObstacle) -> ProgramError {
+        // A word of the command line that is no UTF-8 text begins so.
+        let why = if name.starts_with('\0') {
+            OpenObstacle::NotText
+        } else {
+            why
+        };
         match Name::of(alloc, name) {
-            Ok(name) => ProgramError::CannotOpen(name),
+            Ok(name) => ProgramError::CannotOpen(name, why),
             Err(_) => ProgramError::out_of_memory(),
         }
     }
@@ -102,6 +116,20 @@ impl From<RunFault> for ProgramError {
 
     fn from(fault: RunFault) -> ProgramError {
         ProgramError::Run(RunLine(fault))
+    }
+}
+
+/// The number of a message that an input doesn't have, and how many messages it has, as a line.
+#[derive(Clone, Copy, Debug, PartialEq, Eq)]
+pub struct MissingMessage {
+    pub number: u32,
+    pub count: u32,
+}
+
+impl fmt::Display for MissingMessage {
+    fn fmt<W: fmt::Write>(&self, f: &mut fmt::Formatter<W>) -> fmt::Result {
+        let count = Count(u64::from(self.count), "message");
+        write!(f, "no message {}: the input has {count}", self.number)
     }
 }
 
@@ -169,10 +197,16 @@ pub fn status_of(done: &Result<Verdict, ProgramError>) -> u8
         Ok(Verdict::Good) => 0,
         Ok(Verdict::NotGood) => 1,
         Err(ProgramError::Line(LineFault::Line(error))) => line_status(error),
-        Err(ProgramError::Line(_) | ProgramError::HiddenCharacters | ProgramError::SameFile) => 2,
-        Err(ProgramError::Run(RunLine(fault))) => run_status(fault),
         Err(
-            ProgramError::CannotOpen(_)
+            ProgramError::Line(_)
+            | ProgramError::HiddenCharacters
+            | ProgramError::SameFile
+            | ProgramError::RefusedIsShared,
+        ) => 2,
+        Err(ProgramError::Run(RunLine(fault))) => run_status(fault),
+        Err(ProgramError::NoMessage(_)) => 1,
+        Err(
+            ProgramError::CannotOpen(..)
             | ProgramError::CannotReplace(_)
             | ProgramError::NamesAreTaken(_)
             | ProgramError::Flush
@@ -243,15 +277,40 @@ fn loses_output(error: &ProgramError) -> bool
     )
 }
 
-/// Prints the error of one of several files as one line, which names the file.
-pub fn print_error_of<R: Print + Eprint>(
+/// Prints the error of one of several files as one line, which names the file, and says why it can't be opened.
+pub fn print_error_of<R: Print + Eprint + Files>(
     rt: &R,
     name: &[u8],
     error: &ProgramError,
 ) -> io::Result<()> {
     match error {
-        ProgramError::CannotOpen(_) | ProgramError::Closed => print_error(rt, error),
-        _ => eprintln!(rt; "illcanon: {}: {error}", NameOf(name)),
+        ProgramError::CannotOpen(name, OpenObstacle::Unknown) => {
+            eprintln!(rt; "illcanon: cannot open {name}")
+        }
+        ProgramError::CannotOpen(name, why) => eprintln!(rt; "illcanon: cannot open {name}: {why}"),
+        ProgramError::Closed => Ok(()),
+        error if is_of_folder(rt, name, error) => {
+            eprintln!(rt;
+                "illcanon: cannot open {}: {}",
+                NameOf(name),
+                OpenObstacle::Folder
+            )
+        }
+        error => eprintln!(rt; "illcanon: {}: {error}", NameOf(name)),
+    }
+}
+
+/// Tells whether an error is that a folder was read: a folder can be opened, but not read.
+pub fn is_of_folder<R: Files>(rt: &R, name: &[u8], error: &ProgramError) -> bool {
+    if !matches!(error, ProgramError::Run(RunLine(RunFault::ReadFault))) {
+        return false;
+    }
+    let Ok(name) = str::from_utf8(name) else {
+        return false;
+    };
+    match fs::metadata(rt, name) {
+        Ok(found) => found.is_dir(),
+        Err(_) => false,
     }
 }
 

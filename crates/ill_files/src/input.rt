@@ -3,11 +3,12 @@ ghost use Rattle.ill_files.specs.Opened.{left_of, is_broken_of};
 
 use crate::error::ProgramError;
 use crate::host::Host;
+use crate::open_obstacle::OpenObstacle;
 use crate::output::{FlushBeforeRead, Output, OutputOf};
 use crate::progress::{ProgressLine, ProgressReader};
 use crate::same_file::FileId;
 use ber_core::{Broken, BufferedSource, FromBuffer, FromRead, Source};
-use ill_commands::{RunFault, read_at_most};
+use ill_normal::{RunFault, read_at_most};
 use std::alloc::Global;
 use std::fs::{self, OpenFile};
 use std::io::{Printer, Read, Write};
@@ -144,7 +145,13 @@ fn standard_input<R: Input + AllocGlobal>(rt: &R) -> Result<Box<R::Reader>, Prog
 
 /// Opens the file of this name.
 fn open_file<R: Files + AllocGlobal>(rt: &R, name: &str) -> Result<R::File, ProgramError> {
-    fs::open(rt, name).map_err(|_| ProgramError::cannot_open(rt.alloc(), name))
+    match fs::open(rt, name) {
+        Ok(file) => Ok(file),
+        Err(error) => {
+            let why = OpenObstacle::of(error.kind());
+            Err(ProgramError::cannot_open(rt.alloc(), name, why))
+        }
+    }
 }
 
 /// Opens an input as [`open_input`] does, and returns which regular file it is, None where it is not one.

@@ -13,6 +13,7 @@ mod error;
 mod host;
 mod input;
 mod names;
+mod open_obstacle;
 mod output;
 mod progress;
 mod replacement;
@@ -21,18 +22,19 @@ mod streams;
 
 pub use count::Count;
 pub use error::{
-    CauseName, ProgramError, RunLine, is_output_lost, keeps_output, print_error, print_error_of,
-    status_of,
+    CauseName, MissingMessage, ProgramError, RunLine, is_of_folder, is_output_lost, keeps_output,
+    print_error, print_error_of, status_of,
 };
 pub use host::Host;
 pub use input::{
     AloneSource, InputSource, Opened, Shared, open_alone, open_and_identify, open_input, read_whole,
 };
 pub use names::{Name, NameOf, printable, printed, word};
+pub use open_obstacle::OpenObstacle;
 pub use output::{
     FlushBeforeRead, Output, OutputDestination, OutputOf, ToOutput, close_output, open_output,
     open_standard_output,
 };
 pub use progress::{ProgressLine, ProgressReader};
-pub use same_file::FileId;
+pub use same_file::{FileId, are_one_target};
 pub use streams::open_closed_streams;

@@ -4,9 +4,10 @@ ghost use Rattle.std.specs.Prelude.{◌≤◌, length, IfOk};
 use crate::error::{ProgramError, RunLine, is_output_lost, keeps_output};
 use crate::host::Host;
 use crate::names::NameOf;
+use crate::open_obstacle::OpenObstacle;
 use crate::replacement::{self, ReplaceMode, ReplaceObstacle, Replacement, sync_folder};
 use crate::same_file::FileId;
-use ill_commands::{RunFault, Verdict};
+use ill_normal::{RunFault, Verdict};
 use std::alloc::Global;
 use std::cell::RefCell;
 use std::fs::{self, OpenFile};
@@ -295,7 +296,13 @@ fn open_directly<'r, R: Print + Eprint + Host + AllocGlobal>(
     obstacle: Option<ReplaceObstacle>,
 ) -> Result<OutputDestination, ProgramError> {
     let alloc = rt.alloc();
-    let file = fs::create(rt, name).map_err(|_| ProgramError::cannot_open(alloc, name))?;
+    let file = match fs::create(rt, name) {
+        Ok(file) => file,
+        Err(error) => {
+            let why = OpenObstacle::of(error.kind());
+            return Err(ProgramError::cannot_open(alloc, name, why));
+        }
+    };
     output.open(alloc, OutputKind::File(file))?;
     if let Some(obstacle) = obstacle {
         let name = NameOf(name.as_bytes());

@@ -1,9 +1,12 @@
 //! The line on a terminal that says how far the work is.
 use crate::count::Count;
 use crate::host::Host;
+use crate::same_file::STANDARD_INPUT;
 use std::cell::Cell;
 use std::io::{self, Read};
+use std::rt::Files;
 use std::time::{Duration, Instant};
+use std::{fmt, fs, str};
 
 /// The number of milliseconds that the work goes on before its line is shown.
 const SHOW_AFTER: u64 = 2_000;
@@ -15,7 +18,7 @@ const UPDATE_INTERVAL: u64 = 200;
 const ERASE_LINE: &str = "\r\x1b[K";
 
 /// The progress of the work: the numbers of files opened and of octets read. A line on a terminal says so while the work takes
-/// more than two seconds.
+/// more than two seconds; where the sizes of all files are known, it also has the share, the rate and the time that is left.
 #[derive(Drop)]
 pub struct ProgressLine {
     state: Cell<State>,
@@ -25,6 +28,10 @@ pub struct ProgressLine {
 struct State {
     files: u64,
     octets: u64,
+    /// The number of octets of all files, where that is known.
+    total: Option<u64>,
+    /// The time when the work began.
+    since: Option<Instant>,
     /// The time when the next line is due; None where no line is wanted.
     due: Option<Instant>,
     /// True if a line is on the terminal.
@@ -34,26 +41,46 @@ struct State {
 impl ProgressLine {
     /// Shows no line.
     pub fn none() -> ProgressLine {
-        ProgressLine::due_at(None)
+        ProgressLine::due_after(None)
     }
 
     /// Shows a line if standard error is a terminal.
     pub fn begin<R: Host>(rt: &R) -> ProgressLine {
-        if rt.is_terminal() {
-            ProgressLine::due_at(time_in(rt, SHOW_AFTER))
-        } else {
-            ProgressLine::none()
+        if !rt.is_terminal() {
+            return ProgressLine::none();
+        }
+        match Instant::now(rt) {
+            Ok(now) => ProgressLine::due_after(Some(now)),
+            Err(_) => ProgressLine::none(),
         }
     }
 
-    fn due_at(due: Option<Instant>) -> ProgressLine {
+    /// Shows a line some time after the work began, if that is known.
+    fn due_after(since: Option<Instant>) -> ProgressLine {
+        let due = match since {
+            Some(since) => since.checked_add(Duration::from_millis(SHOW_AFTER)),
+            None => None,
+        };
         ProgressLine {
             state: Cell::new(State {
                 files: 0,
                 octets: 0,
+                total: None,
+                since,
                 due,
                 is_shown: false,
             }),
+        }
+    }
+
+    /// Takes the sizes of the files of these names, if a line is wanted.
+    pub fn expect<R: Host>(&self, rt: &R, names: &[&[u8]]) {
+        let state = self.state.get();
+        if state.due.is_some() {
+            self.state.set(State {
+                total: total_len(rt, names),
+                ..state
+            });
         }
     }
 
@@ -77,14 +104,15 @@ impl ProgressLine {
         let Some(due) = state.due else {
             return;
         };
-        match Instant::now(rt) {
-            Ok(now) if now >= due => {}
+        let now = match Instant::now(rt) {
+            Ok(now) if now >= due => now,
             _ => return,
-        }
+        };
         let files = Count(state.files, "file");
         let octets = Count(state.octets, "octet");
+        let rest = Rest::at(state, now);
         // Where standard error is closed, nothing is shown.
-        let _ = eprint!(rt; "{ERASE_LINE}illcanon: {files}, {octets}");
+        let _ = eprint!(rt; "{ERASE_LINE}illcanon: {files}, {octets}{rest}");
         self.state.set(State {
             due: time_in(rt, UPDATE_INTERVAL),
             is_shown: true,
@@ -104,6 +132,76 @@ impl ProgressLine {
             is_shown: false,
             ..state
         });
+    }
+}
+
+/// The share of the work that is done, its rate, and the time that is left; nothing where that isn't known.
+#[derive(Clone, Copy)]
+enum Rest {
+    Unknown,
+    Known {
+        percent: u128,
+        octets_per_second: u128,
+        seconds: u128,
+    },
+}
+
+impl Rest {
+    /// What is left at this time.
+    fn at(state: State, now: Instant) -> Rest {
+        let (Some(total), Some(since)) = (state.total, state.since) else {
+            return Rest::Unknown;
+        };
+        let milliseconds = now.saturating_duration_since(since).as_millis();
+        let octets = u128::from(state.octets);
+        if octets == 0 || milliseconds == 0 || total == 0 {
+            return Rest::Unknown;
+        }
+        let left = u128::from(total.saturating_sub(state.octets));
+        let percent = octets.saturating_mul(100) / u128::from(total);
+        Rest::Known {
+            percent: percent.min(100),
+            octets_per_second: octets.saturating_mul(1000) / milliseconds,
+            seconds: left.saturating_mul(milliseconds) / octets / 1000,
+        }
+    }
+}
+
+impl fmt::Display for Rest {
+    fn fmt<W: fmt::Write>(&self, f: &mut fmt::Formatter<W>) -> fmt::Result {
+        match *self {
+            Rest::Unknown => Ok(()),
+            Rest::Known {
+                percent,
+                octets_per_second,
+                seconds,
+            } => write!(
+                f,
+                ", {percent} %, {octets_per_second} octets/s, {seconds} s left"
+            ),
+        }
+    }
+}
+
+/// The number of octets of the files of these names; None where one is no regular file.
+fn total_len<R: Files>(rt: &R, names: &[&[u8]]) -> Option<u64> {
+    let mut total: u64 = 0;
+    for name in names {
+        total = total.saturating_add(file_len(rt, name)?);
+    }
+    Some(total)
+}
+
+/// The number of octets of the file of this name, standard input for `-`.
+fn file_len<R: Files>(rt: &R, name: &[u8]) -> Option<u64> {
+    let name = match str::from_utf8(name) {
+        Ok("-") => STANDARD_INPUT,
+        Ok(name) => name,
+        Err(_) => return None,
+    };
+    match fs::metadata(rt, name) {
+        Ok(found) if found.is_file() => Some(found.len()),
+        _ => None,
     }
 }
 

@@ -1,6 +1,7 @@
 //! A new file that is written beside the one that it replaces, so that this one is replaced or as it was.
 use crate::error::ProgramError;
 use crate::host::Host;
+use crate::open_obstacle::OpenObstacle;
 use std::alloc::{AllocError, Global};
 use std::fmt;
 use std::fs::{self, Metadata, OpenFile, OpenOptions, Permissions};
@@ -106,7 +107,10 @@ fn begin_beside<R: Host + AllocGlobal>(
     }
     let _ = fs::remove_file(rt, new.name.as_str());
     match taken_over {
-        Ok(_) => Err(ProgramError::cannot_open(rt.alloc(), name)),
+        Ok(_) => {
+            let why = OpenObstacle::Denied;
+            Err(ProgramError::cannot_open(rt.alloc(), name, why))
+        }
         Err(_) => Ok(ReplaceMode::Direct(Some(ReplaceObstacle::Owner))),
     }
 }

@@ -5,7 +5,7 @@ use std::os::unix::fs::MetadataExt;
 use std::rt::Files;
 
 /// The name by which the system knows standard input.
-const STANDARD_INPUT: &str = "/dev/stdin";
+pub(crate) const STANDARD_INPUT: &str = "/dev/stdin";
 
 /// The name by which the system knows standard output.
 const STANDARD_OUTPUT: &str = "/dev/stdout";
@@ -58,5 +58,32 @@ impl FileId {
     /// The regular file of this name.
     pub fn of_name<R: Files>(rt: &R, name: &str) -> Option<FileId> {
         FileId::of(fs::metadata(rt, name))
+    }
+}
+
+/// Tells whether two names of files stand for one target: one regular file, or one name in one folder, which no file has yet.
+pub fn are_one_target<R: Files>(rt: &R, one: &str, other: &str) -> bool {
+    if let Some(file) = FileId::of_output(rt, one) {
+        return FileId::of_output(rt, other) == Some(file);
+    }
+    let (folder, name) = parts(one);
+    let (other_folder, other_name) = parts(other);
+    name == other_name && are_one_folder(rt, folder, other_folder)
+}
+
+/// The folder of a name, and the name that the file has there.
+fn parts(name: &str) -> (&str, &str) {
+    match name.rsplit_once('/') {
+        Some(("", name)) => ("/", name),
+        Some((folder, name)) => (folder, name),
+        None => (".", name),
+    }
+}
+
+/// Tells whether two names stand for one folder.
+fn are_one_folder<R: Files>(rt: &R, one: &str, other: &str) -> bool {
+    match (fs::metadata(rt, one), fs::metadata(rt, other)) {
+        (Ok(one), Ok(other)) => one.dev() == other.dev() && one.ino() == other.ino(),
+        _ => false,
     }
 }

@@ -10,7 +10,8 @@ use Rattle.ill_schema.specs.declared.node.NodeId.{NodeId}
 use Rattle.ill_schema.specs.Table.{kind_of}
 use Rattle.ill_schema.specs.Tagging.{same_tag}
 use Rattle.ill_refusals.specs.Element.{Component, component_starts, components, own_starts, Start}
-use Rattle.ill_grammar.specs.Cells.{element_with, node_choice}
+use Rattle.ill_grammar.specs.Elements.{element_with}
+use Rattle.ill_grammar.specs.Cells.{node_choice}
 use Rattle.ill_grammar.specs.code.Meant.{all_open, alone, cell_start, is_nested, nested_starts, node_starts, opens_in, starts_of_cells}
 use Rattle.ill_grammar.specs.code.Starts.{BeginsIn}
 use Rattle.ill_grammar.specs.declared.cell.Cell.{Cell}

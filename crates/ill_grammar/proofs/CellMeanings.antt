@@ -12,7 +12,8 @@ use Rattle.ill_schema.specs.Table.{kind_of}
 use Rattle.ill_schema.specs.Tagging.{Tagging, untagged, implicit, explicit, explicit_or_bare, same_tag}
 use Rattle.ill_refusals.specs.Element.{Component, component_starts, components, Element, segment, Start, start, starts}
 use Rattle.ill_refusals.specs.Next.{first_mandatory, octets, part, segments}
-use Rattle.ill_grammar.specs.Cells.{Begins, BeginsDue, due_at, due_item, due_row, due_segment, element_with, is_placed, is_strict, node_choice, presence_default, segments_in, wrapped}
+use Rattle.ill_grammar.specs.Elements.{element_with}
+use Rattle.ill_grammar.specs.Cells.{Begins, BeginsDue, due_at, due_item, due_row, due_segment, is_placed, is_strict, node_choice, presence_default, segments_in, wrapped}
 use Rattle.ill_grammar.specs.code.Meant.{Meant, cell_meant, cells_meant, component_choice, default_at, default_first, is_must, is_there, item_meant, kind_meant, meant, node_meant, node_starts, row_there, rows_meant, segment_meant}
 use Rattle.ill_grammar.specs.code.Starts.{BeginsIn, IsBegun}
 use Rattle.ill_grammar.specs.declared.cell.Cell.{Cell}

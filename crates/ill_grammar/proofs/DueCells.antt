@@ -15,12 +15,12 @@ use Rattle.ill_schema.specs.declared.part.Presence.{Presence}
 use Rattle.ill_schema.specs.declared.part.Row.{Row}
 use Rattle.ill_schema.specs.Table.{kind_of, rows_of}
 use Rattle.ill_schema.specs.Tagging.{same_tag, sequence_tag}
-use Rattle.ill_refusals.specs.Element.{Component, Element, Start, component_starts, components, components_from, list, own_starts, sequence, start, starts}
+use Rattle.ill_refusals.specs.Element.{Component, Element, Start, components, list, own_starts, sequence, start, starts}
 use Rattle.ill_refusals.specs.Next as next
 use Rattle.ill_refusals.specs.Next.{part, octets, any, rows, items, due, due_in, element_of, start_of}
 use Rattle.ill_refusals.proofs.Rows.{two_cases}
 use Rattle.ill_grammar.specs.Cells as cells
-use Rattle.ill_grammar.specs.Cells.{BeginsDue, IsAlternative, is_strict, levels_in, wrapped}
+use Rattle.ill_grammar.specs.Cells.{BeginsDue, is_strict, levels_in, wrapped}
 use Rattle.ill_grammar.specs.Places.{IsAtRow, IsDue, PlaceView, due_of, element_found, next_at, node_in, node_of, part_in, part_of, place_after, row_of, slot_of, type_of}
 use Rattle.ill_grammar.specs.code.Meant.{is_wrapped, opens_in}
 use Rattle.ill_grammar.specs.declared.place.Place.{Place}
@@ -32,7 +32,8 @@ use Rattle.ill_grammar.proofs.Scanning.{same_tag-swap, sequence_starts}
 use Rattle.ill_grammar.specs.declared.cell.EntryRole.{EntryRole}
 use Rattle.ill_grammar.specs.declared.cell.EntryRole.TheVariants as cell
 use Rattle.ill_grammar.specs.Elements.{component_of, component_at, element_is, element_with, found_is}
-use Rattle.ill_grammar.specs.Due.{Begins, BeginsAt, Due, IsComing, IsDueIn, IsDueInRows, IsForeignDue, IsItemDue, IsInnerDue, IsRowDue, IsSegmentDue, MayAllLack, behind, due_as, element_as, first_of, found_as, next_is, shape, shape_around, shape_at, shape_in, shape_of, slot_as}
+use Rattle.ill_grammar.specs.Cells.{Begins}
+use Rattle.ill_grammar.specs.Due.{BeginsAt, Due, IsComing, IsDueIn, IsDueInRows, IsForeignDue, IsItemDue, IsInnerDue, IsRowDue, IsSegmentDue, MayAllLack, behind, due_as, element_as, first_of, found_as, next_is, shape, shape_around, shape_at, shape_in, shape_of, slot_as}
 use Rattle.ill_grammar.specs.declared.due.Next.{Next}
 use Rattle.ill_grammar.specs.declared.due.Next.TheVariants.{Rows, Inner, Items, Either, Segments, BitSegments, Root, Foreigns, Nothing}
 use Rattle.ill_grammar.proofs.DueElements.{first_due}
@@ -40,43 +41,11 @@ use Rattle.ill_grammar.specs.declared.due.Slot.{Slot}
 use Rattle.ill_grammar.specs.declared.due.Slot.TheVariants.{Row as AtRow, Item, Inner as Inside, Segment as InString, Foreign as InForeign}
 use Rattle.ill_grammar.specs.Begun.{Begun}
 use Rattle.ill_grammar.specs.declared.element.Wrapped.{Wrapped}
-
-there : (node : NodeId) (k i : ℕ) (rs : List Row) (c : Component) (cs : List Component) → drop i (components_from profile_two node k rs) ≡ c ∷ cs
-    → (row : Row) × (slice_get rs i ≡ Some row) × (c ≡ component_at (record { node = node; row = k + i }) row)
-there node k zero [] c cs e = absurd cc
-there node k zero (r ∷ rs) c cs e =
-    let z : k ≡ k + zero = omega arith in
-    let q : component_at (record { node = node; row = k }) r ≡ c = cc in
-    (r, refl, sym q ∙ ap (λ (m : ℕ). component_at (record { node = node; row = m }) r) z)
-there node k (suc i) [] c cs e = absurd cc
-there node k (suc i) (r ∷ rs) c cs e =
-    let z : k + 1 + i ≡ k + suc i = omega arith in
-    let x = there node (k + 1) i rs c cs e in
-    (x.0, x.1, x.2 ∙ ap (λ (m : ℕ). component_at (record { node = node; row = m }) x.0) z)
-
--- the row of a component
-pub component-row : (node : NodeId) (i : ℕ) (c : Component) (cs : List Component) → drop i (components profile_two node) ≡ c ∷ cs
-    → (row : Row) × (slice_get (rows_of node) i ≡ Some row) × (c ≡ component_at (record { node = node; row = i }) row)
-component-row node i c cs e =
-    let z : 0 + i ≡ i = omega arith in
-    let x = there node 0 i (rows_of node) c cs e in
-    (x.0, x.1, x.2 ∙ ap (λ (m : ℕ). component_at (record { node = node; row = m }) x.0) z)
-
-got : {A : Type 0} (xs : List A) (i : ℕ) (x : A) → slice_get xs i ≡ Some x → (ys : List A) × (drop i xs ≡ x ∷ ys)
-got [] i x e = absurd cc
-got (y ∷ ys) zero x e = (ys, (let q : y ≡ x = cc in ap (λ z. z ∷ ys) q))
-got (y ∷ ys) (suc i) x e = got ys i x e
-
-begins-as : (t : Tag) (c : Component) (alt : Option ℕ) (e : Element) → cells.Begins t c alt e → Begins t c alt e
-begins-as t c None e b = b
-begins-as t c (Some n) e b =
-    let g = got (components profile_two c.node) n b.2.0 b.2.1 in
-    let w = component-row c.node n b.2.0 g.0 g.1 in
-    (b.0, b.1, (w.0, w.1, subst (λ x. element_with t (component_starts x) ≡ Some e) w.2 b.2.2))
+use Rattle.ill_grammar.proofs.RowStarts.{component-row}
 
 begins-due : (t : Tag) (c : Component) (e : Element) (n : next.Next) (D : next.Due) (alt : Option ℕ) → D ≡ part c e n → BeginsDue t D alt → Begins t c alt (element_of D)
 begins-due t c e n D alt is b =
-    subst (λ x. Begins t c alt (element_of x)) (sym is) (begins-as t c alt e (subst (λ x. BeginsDue t x alt) is b))
+    subst (λ x. Begins t c alt (element_of x)) (sym is) (subst (λ x. BeginsDue t x alt) is b)
 
 -- a row is due only if none before it has to be there
 record Lacks (t : Tag) (node : NodeId) (n : ℕ) (c : Component) (cs : List Component) (D : next.Due) : Type 0 where

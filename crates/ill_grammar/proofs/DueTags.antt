@@ -25,7 +25,8 @@ use Rattle.ill_schema.proofs.Tags.{at_row}
 use Rattle.ill_refusals.specs.Element.{Component, Element, foreign, leaf, segment, Start, own_starts, retag, leave_out, tagged_starts, component_starts}
 use Rattle.ill_refusals.proofs.Rows.{same_tag-is, two_cases}
 use Rattle.ill_grammar.specs.Elements.{component_of, component_at, element_is, element_with, found_is}
-use Rattle.ill_grammar.specs.Due.{Begins, Due, IsDueIn, IsDueInRows, IsRowDue}
+use Rattle.ill_grammar.specs.Cells.{Begins}
+use Rattle.ill_grammar.specs.Due.{Due, IsDueIn, IsDueInRows, IsRowDue}
 use Rattle.ill_grammar.specs.Contents.{with_alternative}
 use Rattle.ill_grammar.specs.Due.{due_with}
 use Rattle.ill_grammar.specs.Written.{left_away}
@@ -35,6 +36,7 @@ use Rattle.ill_grammar.specs.declared.due.Slot.{Slot}
 use Rattle.ill_grammar.specs.declared.due.Slot.TheVariants.{Row as AtRow, Inner as Inside}
 use Rattle.ill_grammar.specs.declared.element.Element.{Element as CodeElement}
 use Rattle.ill_grammar.proofs.NormalLeaves.{alternative_kept}
+use Rattle.ill_grammar.proofs.RowStarts.{row-start}
 
 -- what holds of a start where this holds of its tag and its element
 abbrev AllStarts : (Tag → Element → Type 0) → List Start → Type 0
@@ -143,7 +145,9 @@ at_apart node n row e = row_apart row.tag row.mode row.presence row.node (at_row
 
 begins_apart : (t : Tag) (c : Component) (alt : Option ℕ) (e : Element) → TaggingApart c.tagging → Begins t c alt e → IsStart t e
 begins_apart t c None e h b = found_start IsStart t (component_starts c) e (component_apart c h) b
-begins_apart t c (Some n) e h b = found_start IsStart t _ e (component_apart (component_at (record { node = c.node; row = n }) b.2.0) (at_apart c.node n b.2.0 b.2.1)) b.2.2
+begins_apart t c (Some n) e h b =
+    let s = row-start t c.node n e b.2 in
+    found_start IsStart t _ e (component_apart (component_at (record { node = c.node; row = n }) s.0) (at_apart c.node n s.0 s.1)) s.2
 
 rows_start : (t : Tag) (node : NodeId) (n : ℕ) (d : Due) → IsDueInRows t node n d → IsStart t (found_is d.found)
 rows_start t node n d h = go d.slot h

@@ -8,6 +8,7 @@ pub mod AtRow
 pub mod Enumerated
 pub mod ReadLeaves
 pub mod DueElements
+pub mod RowStarts
 pub mod DueCells
 pub mod Entries
 pub mod Meanings

@@ -19,7 +19,8 @@ use Rattle.ill_schema.specs.Tagging.{Tagging, Tagged, untagged, implicit, explic
 use Rattle.ill_schema.proofs.Tags.{untagged_any, implicit_any, is_proper, is_proper_row, at_row, tables_proper}
 use Rattle.ill_schema.proofs.Unique.{leaf_at, no_leaf}
 use Rattle.ill_grammar.specs.Elements.{component_of, component_at, element_with, found_is}
-use Rattle.ill_grammar.specs.Due.{Begins, IsBegun, IsRowDue}
+use Rattle.ill_grammar.specs.Cells.{Begins}
+use Rattle.ill_grammar.specs.Due.{IsBegun, IsRowDue}
 use Rattle.ill_refusals.specs.Element.{Component, Element, Start, own_starts, tagged_starts, component_starts}
 use Rattle.ill_grammar.specs.Contents.{IsValueOf, with_alternative}
 use Rattle.ill_grammar.specs.Begun.{Begun}
@@ -27,6 +28,7 @@ use Rattle.ill_grammar.specs.declared.element.Wrapped.{Wrapped}
 use Rattle.ill_refusals.proofs.WholeElements.{element_at, own_start, implicit_start, one_start, improper_choice, own_of, own_is, leaf_value, explicit_means, bare_kind, choice_starts, carried_starts, left_found, carried_or_left, left_starts, IsProperComponent, untagged_carried}
 use Rattle.ill_refusals.proofs.OpenElements.{inner_proper, row_proper}
 use Rattle.ill_refusals.proofs.Rows.{starting}
+use Rattle.ill_grammar.proofs.RowStarts.{row-start}
 
 -- what a tag begins in a wrapper is no open type
 pub closed : (t : Tag) (w : Wrapped) (alt : Option ℕ) (f : Begun) → IsBegun t (component_of w) alt f → kind_of w.node ≡ Kind.Any → ⊥
@@ -124,13 +126,14 @@ begins_means p w None e c T ok h m =
     let s = start_with (tag_of T) (component_starts w) e h in
     component_means p w s.0 c T ok.proper s.1 (subst (λ x. IsValueOf p x c T) (sym s.2) m)
 begins_means p w (Some n) e c T ok h m =
-    let row = h.2.0 in
+    let begun = row-start (tag_of T) w.node n e h.2 in
+    let row = begun.0 in
     let at = component_at (record { node = w.node; row = n }) row in
-    let s = start_with (tag_of T) (component_starts at) e h.2.2 in
-    let proper : IsTrue (is_proper_row profile_two row) = at_row (is_proper_row profile_two) (rows_of w.node) n row (tables_proper profile_two w.node) h.2.1 in
+    let s = start_with (tag_of T) (component_starts at) e begun.2 in
+    let proper : IsTrue (is_proper_row profile_two row) = at_row (is_proper_row profile_two) (rows_of w.node) n row (tables_proper profile_two w.node) begun.1 in
     let q = component_means p at s.0 c T proper s.1 (subst (λ x. IsValueOf p x c T) (sym s.2) m) in (
       untagged_carried w.presence w.tagging h.0 ok.carried,
-      subst (λ g. Means (profile_of p) (alternative n c) w.node g T) (sym h.0) (row, (h.1, h.2.1, q.0), q.1),
+      subst (λ g. Means (profile_of p) (alternative n c) w.node g T) (sym h.0) (row, (h.1, begun.1, q.0), q.1),
     )
 
 -- of an element that begins a component

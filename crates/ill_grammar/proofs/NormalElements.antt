@@ -19,13 +19,15 @@ use Rattle.ill_refusals.proofs.OpenElements.{row_proper}
 use Rattle.ill_refusals.proofs.Rows.{starting}
 use Rattle.ill_refusals.proofs.WholeElements.{element_at, own_start, implicit_start, one_start, improper_choice, own_of, own_is, leaf_value, choice_starts, carried_starts, left_found, carried_or_left, left_starts, IsProperComponent}
 use Rattle.ill_grammar.specs.Elements.{component_of, component_at, found_is}
-use Rattle.ill_grammar.specs.Due.{Begins, IsRowDue, IsItemDue, IsInnerDue}
+use Rattle.ill_grammar.specs.Cells.{Begins}
+use Rattle.ill_grammar.specs.Due.{IsRowDue, IsItemDue, IsInnerDue}
 use Rattle.ill_grammar.specs.Contents.{IsValueOf, with_alternative}
 use Rattle.ill_grammar.specs.Written.{normal_element}
 use Rattle.ill_grammar.specs.Due.{Due}
 use Rattle.ill_grammar.specs.Begun.{Begun}
 use Rattle.ill_grammar.proofs.Meanings.{begun_proper}
 use Rattle.ill_grammar.specs.declared.element.Wrapped.{Wrapped}
+use Rattle.ill_grammar.proofs.RowStarts.{row-start}
 
 -- what a value under a function comes from
 mapped_some : {A B : Type 0} (f : A → B) (o : Option A) (y : B) → option_map f o ≡ Some y → (x : A) × (o ≡ Some x) × (f x ≡ y)
@@ -100,11 +102,12 @@ pub begins_normal : (p : Named) (t : Tag) (w : Component) (alt : Option ℕ) (e 
     → normal_tree (with_alternative alt c) w.node w.tagging ≡ normal_element e t c
 begins_normal p t w None e c T ok b m = component_normal p w t e c T ok.proper b m
 begins_normal p t w (Some n) e c T ok b m =
-    let row = b.2.0 in
-    let proper : IsTrue (is_proper_row profile_two row) = at_row (is_proper_row profile_two) (rows_of w.node) n row (tables_proper profile_two w.node) b.2.1 in
+    let s = row-start t w.node n e b.2 in
+    let row = s.0 in
+    let proper : IsTrue (is_proper_row profile_two row) = at_row (is_proper_row profile_two) (rows_of w.node) n row (tables_proper profile_two w.node) s.1 in
     ap (normal_tree (alternative n c) w.node) b.0
-    ∙ ap (λ o. elim o as (λ _. Tree) [ Some x ↦ normal_tree c x.node (tagging profile_two x) | None ↦ constructed sequence_tag none ]) b.2.1
-    ∙ component_normal p (component_at (record { node = w.node; row = n }) row) t e c T proper b.2.2 m
+    ∙ ap (λ o. elim o as (λ _. Tree) [ Some x ↦ normal_tree c x.node (tagging profile_two x) | None ↦ constructed sequence_tag none ]) s.1
+    ∙ component_normal p (component_at (record { node = w.node; row = n }) row) t e c T proper s.2 m
 
 -- of an element of a row
 pub row_normal : (p : Named) (t : Tag) (node : NodeId) (position r : ℕ) (alt : Option ℕ) (f : Begun) (c : Content) (T : Tree) → (h : IsRowDue t node position r alt f) → IsValueOf p (found_is f) c T

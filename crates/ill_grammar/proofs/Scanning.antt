@@ -13,7 +13,8 @@ use Rattle.ill_schema.specs.Table.{kind_of}
 use Rattle.ill_schema.specs.Tagging.{same_tag, sequence_tag}
 use Rattle.ill_refusals.specs.Element.{Component, component_starts, components, own_starts, segment, sequence, Start, start}
 use Rattle.ill_refusals.specs.Next.{Next, rows, items, either, segments, anything, foreigns, Due, part, octets, due, due_in, start_of, first_mandatory, missing}
-use Rattle.ill_grammar.specs.Cells.{around, due_at, due_segment, element_with, is_strict, next_from, next_of_kind, node_choice, segments_in, wrapped}
+use Rattle.ill_grammar.specs.Elements.{element_with}
+use Rattle.ill_grammar.specs.Cells.{around, due_at, due_segment, is_strict, next_from, next_of_kind, node_choice, segments_in, wrapped}
 use Rattle.ill_grammar.specs.code.ByTag.{due_by_tag}
 use Rattle.ill_schema.proofs.Tags.{same_tag-refl}
 use Rattle.ill_grammar.specs.code.Meant.{Meant, meant, is_must, item_meant, kind_meant, node_meant, node_starts, rows_meant, segment_meant}

@@ -9,7 +9,8 @@ use Rattle.ill_schema.specs.declared.part.PartId.{PartId}
 use Rattle.ill_schema.specs.Table.{kind_of}
 use Rattle.ill_refusals.specs.Element.{components, Element}
 use Rattle.ill_refusals.specs.Next.{Due, first_mandatory, missing}
-use Rattle.ill_grammar.specs.Cells.{due_at, element_with, is_strict, next_from, node_choice}
+use Rattle.ill_grammar.specs.Elements.{element_with}
+use Rattle.ill_grammar.specs.Cells.{due_at, is_strict, next_from, node_choice}
 use Rattle.ill_grammar.specs.code.ByTag.{due_by_tag}
 use Rattle.ill_grammar.specs.code.Meant.{Meant, cell_meant, cell_starts, cells_meant, kind_meant, meant, node_meant, node_starts}
 use Rattle.ill_grammar.specs.declared.cell.Cell.{Cell}

@@ -1,5 +1,5 @@
 -- What an index and a cell that is found stand for.
-use Rattle.std.specs.Prelude.{◌-◌, ◌≡◌, ℕ, ℤ, zero, suc, Bool, true, false, ◌&&◌, List, [], ◌∷◌, drop, Option, Some, None, find, option_map, slice_get, if◌then◌else◌}
+use Rattle.std.specs.Prelude.{◌-◌, ◌≡◌, ℕ, ℤ, zero, suc, Bool, true, false, ◌&&◌, List, [], ◌∷◌, drop, Option, Some, None, option_map, slice_get, if◌then◌else◌}
 use Rattle.ber_core.specs.Identifier.{Tag}
 use Rattle.ber_core.specs.Tree.{octet_string}
 use Rattle.ber_core.specs.Foreign.{foreign_levels}
@@ -16,8 +16,9 @@ use Rattle.ill_schema.specs.declared.part.Presence.{Presence}
 use Rattle.ill_schema.specs.Table.{kind_of}
 use Rattle.ill_schema.specs.TableFacts.{is_of_two}
 use Rattle.ill_schema.specs.Tagging.{untagged, same_tag}
-use Rattle.ill_refusals.specs.Element.{Component, component_starts, components, Start, Element, leaf, sequence, list, wrapper, loose_wrapper, segment, foreign, left_out}
+use Rattle.ill_refusals.specs.Element.{Component, component_starts, components, Element, leaf, sequence, list, wrapper, loose_wrapper, segment, foreign, left_out}
 use Rattle.ill_refusals.specs.Next.{Next, rows, items, either, segments, anything, foreigns, Due, part, octets, any, opening}
+use Rattle.ill_grammar.specs.Elements.{element_with}
 use Rattle.ill_grammar.specs.declared.cell.Cell.{Cell}
 use Rattle.ill_grammar.specs.declared.cell.ElementType.{ElementType}
 use Rattle.ill_grammar.specs.declared.cell.ElementType.TheVariants as element_type
@@ -169,10 +170,6 @@ due_at p node position slot.Item e = due_item (wrapped p node) e (components pro
 due_at p node position slot.Segment e = due_segment (segments_in (kind_of node)) (wrapped p node) e
 due_at p node position slot.Root e = due_foreign (rows []) (wrapped p node) e
 due_at p node position slot.Foreign e = due_foreign (foreigns (levels_in p)) (wrapped p node) e
-
--- the first element with the tag
-abbrev pub element_with : Tag → List Start → Option Element
-element_with t ss = option_map (λ s. s.element) (find (λ s. same_tag s.tag t) ss)
 
 -- the tag begins the alternative of this number of a choice (8.13)
 abbrev pub IsAlternative : Tag → NodeId → ℕ → Element → Type 0

@@ -12,8 +12,8 @@ use Rattle.ill_schema.specs.declared.node.NodeId.{NodeId}
 use Rattle.ill_schema.specs.declared.part.PartId.{PartId}
 use Rattle.ill_schema.specs.declared.part.Row.{Row}
 use Rattle.ill_schema.specs.Table.{kind_of, rows_of}
-use Rattle.ill_schema.specs.Tagging.{untagged, same_tag, sequence_tag}
-use Rattle.ill_refusals.specs.Element.{Component, Element, foreign, list, segment, components, component_starts, starts}
+use Rattle.ill_schema.specs.Tagging.{same_tag, sequence_tag}
+use Rattle.ill_refusals.specs.Element.{Component, Element, foreign, list, segment, components, starts}
 use Rattle.ill_refusals.specs.Next as next
 use Rattle.ill_grammar.specs.Cells.{is_strict, levels_in}
 use Rattle.ill_grammar.specs.Places.{PlaceView, place_view, part_of, node_of, type_of, alternative_of, slot_of, row_of, place_after}
@@ -23,6 +23,7 @@ use Rattle.ill_grammar.specs.declared.cell.EntryRole.{EntryRole}
 use Rattle.ill_grammar.specs.declared.cell.ElementType.{ElementType}
 use Rattle.ill_grammar.specs.declared.cell.ElementType.TheVariants as element_type
 use Rattle.ill_grammar.specs.declared.cell.EntryRole.TheVariants as cell
+use Rattle.ill_grammar.specs.Cells.{Begins}
 use Rattle.ill_grammar.specs.Elements.{component_of, component_at, element_with, found_is}
 use Rattle.ill_schema.specs.declared.part.Presence.{Presence}
 use Rattle.ill_grammar.specs.declared.due.Slot.TheVariants.{Row as AtRow, Item, Inner as Inside, Segment, Foreign as InForeign}
@@ -157,15 +158,6 @@ next_is BitSegments = next.segments (segment_tag bit_string)
 next_is (Root w) = next.anything (component_of w)
 next_is (Foreigns n) = next.foreigns n
 next_is Nothing = next.rows []
-
--- the tag begins an element of the row of a choice
-abbrev pub IsRowStart : Tag → NodeId → ℕ → Element → Type 0
-IsRowStart t node n e = (row : Row) × (slice_get (rows_of node) n ≡ Some row) × (element_with t (component_starts (component_at (record { node = node; row = n }) row)) ≡ Some e)
-
--- the tag begins the component, or an alternative of it where it is a choice without a tag
-abbrev pub Begins : Tag → Component → Option ℕ → Element → Type 0
-Begins t c None e = element_with t (component_starts c) ≡ Some e
-Begins t c (Some n) e = (c.tagging ≡ untagged) × (kind_of c.node ≡ Kind.Choice) × IsRowStart t c.node n e
 
 pub record IsBegun (t : Tag) (c : Component) (alternative : Option ℕ) (found : Begun) : Type 0 where
   pub is : element_with t (starts profile_two c) ≡ Some (found_is found)

@@ -11,7 +11,8 @@ use Rattle.ill_schema.specs.Table.{kind_of}
 use Rattle.ill_schema.specs.TableFacts.{is_of_two}
 use Rattle.ill_refusals.specs.Element.{Component, components, Element, starts}
 use Rattle.ill_refusals.specs.Next.{Next, rows, Due, part, due, element_of}
-use Rattle.ill_grammar.specs.Cells.{alternative_in, is_two_cell, next_from, element_in, element_with, due_at, first_position, is_placed, row_before, wrapped, BeginsDue}
+use Rattle.ill_grammar.specs.Elements.{element_with}
+use Rattle.ill_grammar.specs.Cells.{alternative_in, is_two_cell, next_from, element_in, due_at, first_position, is_placed, row_before, wrapped, BeginsDue}
 use Rattle.ill_grammar.specs.declared.cell.EntryRole.{EntryRole}
 use Rattle.ill_grammar.specs.declared.cell.ElementType.{ElementType}
 use Rattle.ill_grammar.specs.declared.cell.EntryRole.TheVariants as slot

@@ -5,8 +5,8 @@ use Rattle.std.specs.List.{list_all}
 use Rattle.std.proofs.lemmas.Bool.{and_parts}
 use Rattle.std.proofs.lemmas.Bool.Decides.{nat_tests}
 use Rattle.ill_read.specs.declared.mark.Mark.{Mark}
-use Rattle.ill_text.specs.Marks.{octets_in}
-use Rattle.ill_text.specs.Shown.{components, numbers_after, with_dots}
+use Rattle.ill_read.specs.Marks.{octets_in}
+use Rattle.ill_schema.specs.Texts.{components, numbers_after, with_dots}
 use Rattle.ill_json.specs.code.Identifiers.{IsNext, dotted, is_short}
 
 -- the numbers from mark i on are those of all marks, where this one goes on

@@ -4,4 +4,5 @@ pub mod Identifiers
 pub mod InAscii
 pub mod ModuleLeaves
 pub mod OneToOne
+pub mod Results
 pub mod WideNumbers

@@ -42,8 +42,8 @@ use Rattle.ill_schema.specs.Names.{names_of}
 use Rattle.ill_schema.specs.Table.{kind_of, rows_of}
 use Rattle.ill_schema.specs.TableFacts.{is_of_two}
 use Rattle.ill_schema.specs.Tagging.{leaf_of}
-use Rattle.ill_text.specs.Numbers.{number_name, number_names}
-use Rattle.ill_text.specs.Shown.{name_or_none, node_or_left_out, row_name, row_node}
+use Rattle.ill_schema.specs.Numbers.{number_name, number_names}
+use Rattle.ill_schema.specs.Names.{name_or_none, node_or_left_out, row_name, row_node}
 use Rattle.ill_json.specs.Json.{characters, entry_members, in_member, item_values, json_line_of, leaf_json, line_json, number_json, plain, value_json, with_file}
 use Rattle.ill_json.specs.declared.line.LineHead.{LineHead}
 use Rattle.ill_json.proofs.InAscii.{AreTexts-json_tokens, HasTexts, IsUtf8-are_low, are_low, in_ascii, in_ascii-cons, tokens-in_ascii}

@@ -16,10 +16,11 @@ use Rattle.ill_schema.specs.Content.{Content, alternative, Entries, no_entries, 
 use Rattle.ill_read.specs.Outline.{AreEntries, AreItems, IsMarked}
 use Rattle.ill_read.specs.declared.mark.Mark.{Mark}
 use Rattle.ill_read.specs.declared.mark.Mark.TheVariants as mark
-use Rattle.ill_text.specs.Shown.{hexadecimal, row_name, row_node}
-use Rattle.ill_text.specs.Marks.{IsEntry, is_at_end, is_there, octets_in}
-use Rattle.ill_text.proofs.Lines.{mark_step, no_entry, no_item}
-use Rattle.ill_json.specs.Json.{characters, entry_members, in_member, item_values, json_line_in, line_json_in, plain, value_json}
+use Rattle.ill_schema.specs.Texts.{hexadecimal}
+use Rattle.ill_schema.specs.Names.{row_name, row_node}
+use Rattle.ill_read.specs.Marks.{IsEntry, is_at_end, is_there, octets_in}
+use Rattle.ill_read.proofs.MarkedValues.{mark_step, no_entry, no_item}
+use Rattle.ill_json.specs.Json.{characters, entry_members, in_member, item_values, line_json_in, line_of, plain, value_json}
 use Rattle.ill_json.specs.code.Adding.{Adds, entry_tokens, file_tokens, head_tokens, part_tokens, value_tokens}
 use Rattle.ill_json.specs.declared.line.LineHead.{LineHead}
 use Rattle.ill_json.specs.declared.writing.LineWriter.{LineWriter}
@@ -209,8 +210,7 @@ line_same p file head a name node row n k e =
 pub one_more : (a b c x y z : List ℕ) → b ≡ a ++ x → c ≡ b ++ y → z ≡ x ++ y → c ≡ a ++ z
 one_more a b c x y z h k e = k ∙ ap (λ (t : List ℕ). t ++ y) h ∙ append_assoc a x y ∙ ap (λ (t : List ℕ). a ++ t) (sym e)
 
-pub line_text : (q : Profile) (file : Option (List ℕ)) (head : LineHead) (a : Apdu) (o p : LineWriter) → o.writer.tokens ≡ [] → Adds (json_tokens (line_json_in q file head a)) o p → p.failed ≡ false
-    → flat_map plain (chars (print p.writer.tokens)) ++ codes "\n" ≡ json_line_in q file head a
+pub text_of_line : (j : Json) (o p : LineWriter) → o.writer.tokens ≡ [] → Adds (json_tokens j) o p → p.failed ≡ false → flat_map plain (chars (print p.writer.tokens)) ++ codes "\n" ≡ line_of j
 unfolding Adds
-line_text q file head a o p empty adds whole =
-    ap (λ (ts : List Token). flat_map plain (chars (print ts)) ++ codes "\n") ((adds whole).1 ∙ ap (λ (ts : List Token). ts ++ json_tokens (line_json_in q file head a)) empty)
+text_of_line j o p empty adds whole =
+    ap (λ (ts : List Token). flat_map plain (chars (print ts)) ++ codes "\n") ((adds whole).1 ∙ ap (λ (ts : List Token). ts ++ json_tokens j) empty)

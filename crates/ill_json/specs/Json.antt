@@ -14,8 +14,9 @@ use Rattle.ill_schema.specs.declared.node.NodeId.{NodeId}
 use Rattle.ber_leaf.specs.Profile.{Profile, profile_two}
 use Rattle.ill_schema.specs.Apdu.{Apdu, root}
 use Rattle.ill_schema.specs.Content.{Content, simple, sequence, list, alternative, foreign, Entries, no_entries, absent, present, Items, no_items, item}
-use Rattle.ill_text.specs.Numbers.{number_name}
-use Rattle.ill_text.specs.Shown.{hexadecimal, oid_text, row_name, row_node}
+use Rattle.ill_schema.specs.Numbers.{number_name}
+use Rattle.ill_schema.specs.Texts.{hexadecimal, oid_text}
+use Rattle.ill_schema.specs.Names.{row_name, row_node}
 use Rattle.ill_json.specs.declared.line.LineHead.{LineHead}
 
 -- each octet is the character of its number, in UTF-8
@@ -76,15 +77,19 @@ abbrev pub with_file : Option (List ℕ) → Members → Members
 with_file None ms = ms
 with_file (Some name) ms = member (codes "file") (string name) ms
 
--- the APDU of the profile is in the row of ILL-APDU that its number, from 1, says
-abbrev pub line_json_in : Profile → Option (List ℕ) → LineHead → Apdu → Json
-line_json_in p file head a = object (with_file file
-    (member (codes "number") (number (decimal head.number))
+-- the members of the head, with this name of the APDU, before others
+abbrev pub head_members : LineHead → List ℕ → Members → Members
+head_members head apdu ms =
+    member (codes "number") (number (decimal head.number))
     (member (codes "offset") (number (decimal head.offset))
     (member (codes "octets") (number (decimal head.octets))
-    (member (codes "apdu") (string (row_name (root p) (a.number - 1)))
-    (member (codes "normal") (boolean head.is_normal)
-    (member (codes "value") (value_json [] (row_node (root p) (a.number - 1)) a.body) no_members)))))))
+    (member (codes "apdu") (string apdu)
+    (member (codes "normal") (boolean head.is_normal) ms))))
+
+-- the APDU of the profile is in the row of ILL-APDU that its number, from 1, says
+abbrev pub line_json_in : Profile → Option (List ℕ) → LineHead → Apdu → Json
+line_json_in p file head a = object (with_file file (head_members head (row_name (root p) (a.number - 1))
+    (member (codes "value") (value_json [] (row_node (root p) (a.number - 1)) a.body) no_members)))
 
 abbrev pub line_json : Option (List ℕ) → LineHead → Apdu → Json
 line_json file head a = line_json_in profile_two file head a
@@ -98,8 +103,11 @@ abbrev pub plain : ℕ → List ℕ
 plain c = if nat_lt c 0x7F then c ∷ [] else flat_map unit_text (encode_utf16 c)
 
 -- the text in ASCII, and a line feed
+abbrev pub line_of : Json → List ℕ
+line_of j = flat_map plain (chars (print (json_tokens j))) ++ codes "\n"
+
 abbrev pub json_line_in : Profile → Option (List ℕ) → LineHead → Apdu → List ℕ
-json_line_in p file head a = flat_map plain (chars (print (json_tokens (line_json_in p file head a)))) ++ codes "\n"
+json_line_in p file head a = line_of (line_json_in p file head a)
 
 -- the same in profile 2
 abbrev pub json_line_of : Option (List ℕ) → LineHead → Apdu → List ℕ

@@ -1,2 +1,3 @@
 pub mod Json
+pub mod Results
 pub mod code

@@ -1,8 +1,8 @@
 //! Octets as text in hexadecimal.
 ghost use Rattle.std.specs.Prelude.{◌≡◌, ◌<◌, ◌++◌, [], ◌∷◌, codes, slice_index, string_bytes, OnOk};
 ghost use Rattle.std.specs.Char.{encode_utf8};
-ghost use Rattle.ill_text.specs.Marks.{octets_in};
-ghost use Rattle.ill_text.specs.Shown.{hexadecimal};
+ghost use Rattle.ill_read.specs.Marks.{octets_in};
+ghost use Rattle.ill_schema.specs.Texts.{hexadecimal};
 
 use ill_read::Mark;
 use std::alloc::AllocError;

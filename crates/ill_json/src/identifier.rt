@@ -1,8 +1,8 @@
 //! The text of an OBJECT IDENTIFIER.
 ghost use Rattle.std.specs.Prelude.{◌≡◌, ◌<◌, ◌++◌, [], ℕ, length, min, decimal, string_bytes, IfSome, IsTrue, MatchOption, OnOk};
 ghost use Rattle.std.specs.List.{list_all};
-ghost use Rattle.ill_text.specs.Marks.{octets_in};
-ghost use Rattle.ill_text.specs.Shown.{components, numbers_after, oid_text, with_dots};
+ghost use Rattle.ill_read.specs.Marks.{octets_in};
+ghost use Rattle.ill_schema.specs.Texts.{components, numbers_after, oid_text, with_dots};
 ghost use Rattle.ill_json.specs.code.Identifiers.{IsNext, dotted, ends_number, is_short, number_with};
 
 use crate::hexadecimal::add_hexadecimal;

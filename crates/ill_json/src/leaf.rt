@@ -1,5 +1,5 @@
 //! Leaves as tokens.
-ghost use Rattle.std.specs.Prelude.{◌≡◌, Option, Some};
+ghost use Rattle.std.specs.Prelude.{Option, Some};
 ghost use Rattle.json.specs.Tree.{json_tokens};
 ghost use Rattle.ill_schema.specs.declared.profile.Profile.{Profile as Named};
 ghost use Rattle.ber_leaf.specs.Leaf.{value};
@@ -9,15 +9,14 @@ ghost use Rattle.ill_schema.specs.Table.{kind_of};
 ghost use Rattle.ill_schema.specs.declared.node.NodeId.{NodeId};
 ghost use Rattle.ill_grammar.specs.LeafTypes.{IsContentIn, leaf_is};
 ghost use Rattle.ill_read.specs.Outline.{IsPassed};
-ghost use Rattle.ill_text.specs.Numbers.{number_name};
-ghost use Rattle.ill_text.specs.Marks.{is_there, octets_in};
+ghost use Rattle.ill_schema.specs.Numbers.{number_name};
+ghost use Rattle.ill_read.specs.Marks.{octets_in};
 ghost use Rattle.ill_json.specs.Json.{leaf_json, number_json, text_json};
 ghost use Rattle.ill_json.specs.code.Adding.{Adds, value_tokens};
 
 use crate::writing::LineWriter;
-use ill_read::{LeafType, Mark};
-use ill_schema::{Kind, LeafKind, NodeId, PartId, Presence, kind, row};
-use ill_text::{is_set, number_in, number_name};
+use ill_read::{LeafType, Mark, is_set, number_in};
+use ill_schema::{Kind, LeafKind, NodeId, PartId, Presence, kind, number_name, row};
 use json::Token;
 
 /// Puts a leaf with these octets, in a row of this name.
@@ -35,16 +34,6 @@ pub fn put_leaf(leaf: LeafType, octets: &[Mark], name: &str, out: &mut LineWrite
         LeafType::Printable => out.octets(octets),
         LeafType::Date => out.octets(octets),
         LeafType::Time => out.octets(octets),
-    }
-}
-
-/// Tells whether a row that was passed has a default.
-pub fn has_default(part: PartId) -> bool
-    ensures { (e : Option Content) → IsPassed part e → result ≡ is_there e }
-{
-    match row(part) {
-        Some(row) => matches!(row.presence, Presence::Default(_)),
-        None => false,
     }
 }
 

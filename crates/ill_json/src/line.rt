@@ -1,5 +1,5 @@
 //! Messages as lines.
-ghost use Rattle.std.specs.Prelude.{◌≡◌, ◌++◌, IfOk, option_map};
+ghost use Rattle.std.specs.Prelude.{◌≡◌, IfOk, option_map};
 ghost use Rattle.json.specs.Tree.{json_tokens};
 ghost use Rattle.ill_schema.specs.Apdu.{Apdu, choice_of};
 ghost use Rattle.ill_schema.specs.Profiles.{profile_of};
@@ -9,9 +9,8 @@ ghost use Rattle.ill_json.specs.code.Adding.{Adds, file_tokens, head_tokens};
 
 use crate::value::put_value;
 use crate::writing::LineWriter;
-use ill_read::{Mark, Outline};
-use ill_schema::Profile;
-use ill_text::{after_first, alternative, row_name, row_node};
+use ill_read::{Mark, Outline, after_first, alternative};
+use ill_schema::{Profile, row_name, row_node};
 use json::Token;
 use std::alloc::{AllocError, Global};
 
@@ -122,7 +121,7 @@ fn put_line(
 }
 
 /// Puts the member of the file's name, if it is given.
-fn put_file(file: Option<&str>, out: &mut LineWriter)
+pub(crate) fn put_file(file: Option<&str>, out: &mut LineWriter)
     ensures { Adds (file_tokens (option_map (λ name. name.now) file.entry)) out.old out.new }
 {
     match file {
@@ -135,7 +134,7 @@ fn put_file(file: Option<&str>, out: &mut LineWriter)
 }
 
 /// Puts the members of the head, with the APDU's name.
-fn put_head(head: LineHead, name: &str, out: &mut LineWriter)
+pub(crate) fn put_head(head: LineHead, name: &str, out: &mut LineWriter)
     ensures { Adds (head_tokens head name.now) out.old out.new }
 {
     out.put(Token::Key("number"));

@@ -11,8 +11,8 @@ ghost use Rattle.ill_schema.specs.Content.{foreign};
 ghost use Rattle.ill_schema.specs.declared.node.NodeId.{NodeId};
 ghost use Rattle.ill_schema.specs.declared.profile.Profile.{Profile as Named};
 ghost use Rattle.ill_grammar.specs.LeafTypes.{IsContentIn, module_leaf_is};
-ghost use Rattle.ill_text.specs.Marks.{octets_in};
-ghost use Rattle.ill_text.specs.Shown.{hexadecimal};
+ghost use Rattle.ill_read.specs.Marks.{octets_in};
+ghost use Rattle.ill_schema.specs.Texts.{hexadecimal};
 ghost use Rattle.ill_json.specs.Json.{leaf_json, value_json};
 ghost use Rattle.ill_json.specs.code.Adding.{Adds};
 

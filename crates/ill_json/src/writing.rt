@@ -5,8 +5,8 @@ ghost use Rattle.std.specs.Str.{chars};
 ghost use Rattle.json.specs.Print.{IsPrintable, print};
 ghost use Rattle.json.specs.Reads.{token_of};
 ghost use Rattle.json.specs.Token.{Token as Put, number, string};
-ghost use Rattle.ill_text.specs.Marks.{octets_in};
-ghost use Rattle.ill_text.specs.Shown.{hexadecimal, oid_text};
+ghost use Rattle.ill_read.specs.Marks.{octets_in};
+ghost use Rattle.ill_schema.specs.Texts.{hexadecimal, oid_text};
 ghost use Rattle.ill_json.specs.Json.{characters, plain};
 
 use crate::ascii::into_ascii;
@@ -129,6 +129,15 @@ impl LineWriter {
         self.put_made(made);
     }
 
+    /// Puts a string: two names with a dot between them.
+    pub fn dotted(&mut self, first: &str, second: &str)
+        ensures { Adds (string (first.now ++ codes "." ++ second.now) ∷ []) self.old self.new }
+    {
+        self.characters.clear();
+        let made = add_dotted(&mut self.characters, first, second);
+        self.put_made(made);
+    }
+
     /// Puts the text of an OBJECT IDENTIFIER as a string.
     pub fn identifier(&mut self, octets: &[Mark])
         ensures { Adds (string (oid_text (octets_in octets.now)) ∷ []) self.old self.new }
@@ -161,6 +170,16 @@ impl LineWriter {
     {
         self.failed = true;
     }
+}
+
+/// Adds two names with a dot between them.
+fn add_dotted(text: &mut String, first: &str, second: &str) -> Result<(), AllocError>
+    ensures { OnOk result (string_bytes text.new ≡ string_bytes text.old
+        ++ (first.now ++ codes "." ++ second.now)) }
+{
+    text.push_str(first)?;
+    text.push('.')?;
+    text.push_str(second)
 }
 
 /// Adds the characters whose numbers the octets are.

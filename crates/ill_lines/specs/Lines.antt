@@ -12,9 +12,9 @@ use Rattle.ill_refusals.specs.Fault.{Fault}
 use Rattle.ill_read.specs.Answers.{RefusesWholeIn}
 use Rattle.ill_normal.specs.Calls.{Taking, Putting}
 use Rattle.ill_normal.specs.Messages.{Spelling, spelling}
-use Rattle.ill_commands.specs.Hexadecimal.{hex_octets}
-use Rattle.ill_commands.specs.Output.{is_normal}
-use Rattle.ill_commands.specs.declared.fault.RunFault.{RunFault}
+use Rattle.ill_normal.specs.Hexadecimal.{hex_octets}
+use Rattle.ill_normal.specs.Messages.{is_normal}
+use Rattle.ill_normal.specs.declared.run_fault.RunFault.{RunFault}
 use Rattle.ill_lines.specs.Parts.{has_end, parts_by}
 use Rattle.ill_lines.specs.Words.{check_words, hex_words, refusal_words}
 use Rattle.ill_lines.specs.declared.job.LineJob.{LineJob}

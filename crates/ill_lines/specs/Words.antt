@@ -5,8 +5,8 @@ use Rattle.ill_schema.specs.Names.{apdu_name_in, part_name_of}
 use Rattle.ill_schema.specs.Causes.{cause_name}
 use Rattle.ill_schema.specs.declared.refusal.Cause.{Cause}
 use Rattle.ill_refusals.specs.Fault.{Fault}
-use Rattle.ill_text.specs.Shown.{name_or_none}
-use Rattle.ill_commands.specs.declared.fault.RunFault.{RunFault}
+use Rattle.ill_schema.specs.Names.{name_or_none}
+use Rattle.ill_normal.specs.declared.run_fault.RunFault.{RunFault}
 
 -- the name of a node, and that of its row
 abbrev pub part_words : Option (List ℕ × List ℕ) → List ℕ

@@ -5,8 +5,7 @@ ghost use Rattle.ill_lines.specs.code.After.{Answers, IsSame, StandsAfter};
 
 use crate::job::LineOptions;
 use crate::result::result_of;
-use ill_commands::MAX_HEX_TEXT;
-use ill_normal::NormalReader;
+use ill_normal::{MAX_HEX_TEXT, NormalReader};
 use std::alloc::{AllocError, Global};
 
 /// The octets of the line that has not ended, and the results that were not written.

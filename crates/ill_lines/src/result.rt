@@ -4,14 +4,15 @@ ghost use Rattle.hex.specs.Hex.{encode_lower};
 ghost use Rattle.ill_schema.specs.Apdu.{Apdu, SpellsApdu, normal_form_in};
 ghost use Rattle.ill_schema.specs.Profiles.{profile_of};
 ghost use Rattle.ill_normal.specs.Messages.{spelling};
-ghost use Rattle.ill_commands.specs.Hexadecimal.{hex_octets};
+ghost use Rattle.ill_normal.specs.Hexadecimal.{hex_octets};
 ghost use Rattle.ill_lines.specs.Lines.{IsResult, IsResultOf, IsSaid, line_options};
 ghost use Rattle.ill_lines.specs.declared.job.LineJob.{LineJob as Job};
 
 use crate::job::{LineJob, LineOptions};
 use crate::words::{check_words, hex_words, refusal_words};
-use ill_commands::{RunFault, text_octets};
-use ill_normal::{Failure, NormalReader, Profile, apdu_number, normal_digest};
+use ill_normal::{
+    Failure, NormalReader, Profile, RunFault, apdu_number, normal_digest, text_octets,
+};
 use std::alloc::{AllocError, Global};
 
 /// The result of a line, and whether it is good.

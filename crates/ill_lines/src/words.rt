@@ -5,8 +5,7 @@ ghost use Rattle.ill_schema.specs.Profiles.{profile_of};
 ghost use Rattle.ill_refusals.specs.Fault.{fault_of};
 ghost use Rattle.ill_lines.specs.Words.{cause_words, check_words, hex_words, part_words, refusal_words};
 
-use ill_commands::RunFault;
-use ill_normal::{Cause, PartId, Profile, Refusal, apdu_name_as, part_name};
+use ill_normal::{Cause, PartId, Profile, Refusal, RunFault, apdu_name_as, part_name};
 use itoa::Buffer;
 use std::alloc::{AllocError, Global};
 

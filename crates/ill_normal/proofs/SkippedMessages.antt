@@ -20,7 +20,7 @@ use Rattle.ill_normal.specs.declared.skipping.SkippingError.{SkippingError}
 use Rattle.ill_normal.specs.declared.skipping.SkippingErrorKind.{SkippingErrorKind}
 use Rattle.ill_normal.specs.Items.{Item, good, bad, IsRefusedFor, AreItems, item_octets, position_past, written_of, written_from, report, reports_from, good_in, all_good, Adds}
 use Rattle.ill_normal.specs.Skipping.{Reporting, reporting, Goes, HasNoEnd, SkipsToEnd, part_of, StopsFor, SkipsAndStops}
-use Rattle.ill_normal.specs.code.Taking.{TakesPart}
+use Rattle.ill_normal.specs.Next.{TakesPart}
 use Rattle.ill_normal.specs.code.SkippingEnds.{GoesOn, counts_of, error_at, why_of}
 use Rattle.ill_normal.specs.declared.next_message.TakeError.{TakeError}
 
@@ -28,7 +28,7 @@ pub adds_none : (r : Option (List RefusalReport)) → Adds r r []
 adds_none None = tt
 adds_none (Some rs) = sym (append-nil rs)
 
-adds_more : (old new next : Option (List RefusalReport)) (xs ys : List RefusalReport) → Adds old new xs → Adds new next ys → Adds old next (xs ++ ys)
+pub adds_more : (old new next : Option (List RefusalReport)) (xs ys : List RefusalReport) → Adds old new xs → Adds new next ys → Adds old next (xs ++ ys)
 adds_more None new next xs ys h k = tt
 adds_more (Some a) None next xs ys h k = absurd h
 adds_more (Some a) (Some b) None xs ys h k = absurd k
@@ -53,14 +53,11 @@ past_push : (p : MessagePlace) (items : List Item) (x : Item) → position_past 
 past_push p [] x = refl
 past_push p (y ∷ items) x = past_push (after p (length (item_octets y))) items x
 
-reports_push : (i : ℕ) (items : List Item) (x : Item) → reports_from i (items ++ x ∷ []) ≡ reports_from i items ++ reports_from (i + length items) (x ∷ [])
-reports_push i [] x = let e : i ≡ i + 0 = omega arith in ap (λ (n : ℕ). reports_from n (x ∷ [])) e
-reports_push i (good m ∷ items) x =
-    let e : suc i + length items ≡ i + suc (length items) = omega arith in
-    reports_push (suc i) items x ∙ ap (λ (n : ℕ). reports_from (suc i) items ++ reports_from n (x ∷ [])) e
-reports_push i (bad octets refusal ∷ items) x =
-    let e : suc i + length items ≡ i + suc (length items) = omega arith in
-    ap (λ z. report i refusal true ∷ z) (reports_push (suc i) items x ∙ ap (λ (n : ℕ). reports_from (suc i) items ++ reports_from n (x ∷ [])) e)
+pub reports_push : (p : MessagePlace) (items : List Item) (x : Item) → reports_from p (items ++ x ∷ []) ≡ reports_from p items ++ reports_from (position_past p items) (x ∷ [])
+reports_push p [] x = refl
+reports_push p (good m ∷ items) x = reports_push (after p (length m.octets)) items x
+reports_push p (bad octets refusal ∷ items) x =
+    ap (λ z. report p refusal (Some (counted (length octets))) ∷ z) (reports_push (after p (length octets)) items x)
 
 good_push : (p : Spelling → Bool) (items : List Item) (m : Spelling) → good_in p (items ++ good m ∷ []) ≡ good_in p items + one_if (p m)
 good_push p [] m = omega arith
@@ -73,10 +70,10 @@ bad_push p (good x ∷ items) octets refusal = ap (λ (n : ℕ). one_if (p x) + 
 bad_push p (bad o r ∷ items) octets refusal = bad_push p items octets refusal
 
 -- no more are refused or good than there are
-sum_bound : (p : Spelling → Bool) (i : ℕ) (items : List Item) → length (reports_from i items) + good_in p items ≤ length items
+sum_bound : (p : Spelling → Bool) (i : MessagePlace) (items : List Item) → length (reports_from i items) + good_in p items ≤ length items
 sum_bound p i [] = omega arith
-sum_bound p i (good m ∷ items) = omega (arith, one_bound (p m), sum_bound p (suc i) items)
-sum_bound p i (bad octets refusal ∷ items) = omega (arith, sum_bound p (suc i) items)
+sum_bound p i (good m ∷ items) = omega (arith, one_bound (p m), sum_bound p (after i (length m.octets)) items)
+sum_bound p i (bad octets refusal ∷ items) = omega (arith, sum_bound p (after i (length octets)) items)
 
 counted_good : (b rest : Bool) (r g n : ℕ) → r + g ≤ n → nat_eq (r + g) n ≡ rest → nat_eq (r + (one_if b + g)) (suc n) ≡ (b && rest)
 counted_good b rest r g n le e =
@@ -84,18 +81,20 @@ counted_good b rest r g n le e =
     ap (λ (k : ℕ). nat_eq k (suc n)) sum ∙ all_counted b rest (r + g) n le e
 
 -- all that aren't refused are good exactly if as many are refused or good as there are
-counted_all : (p : Spelling → Bool) (i : ℕ) (items : List Item) → nat_eq (length (reports_from i items) + good_in p items) (length items) ≡ all_good p items
+counted_all : (p : Spelling → Bool) (i : MessagePlace) (items : List Item) → nat_eq (length (reports_from i items) + good_in p items) (length items) ≡ all_good p items
 counted_all p i [] = refl
 counted_all p i (good m ∷ items) =
-    counted_good (p m) (all_good p items) (length (reports_from (suc i) items)) (good_in p items) (length items) (sum_bound p (suc i) items) (counted_all p (suc i) items)
+    let next = after i (length m.octets) in
+    counted_good (p m) (all_good p items) (length (reports_from next items)) (good_in p items) (length items) (sum_bound p next items) (counted_all p next items)
 counted_all p i (bad octets refusal ∷ items) =
-    let refused = length (reports_from (suc i) items) in
+    let next = after i (length octets) in
+    let refused = length (reports_from next items) in
     let more : suc refused + good_in p items ≡ suc (refused + good_in p items) = omega arith in
-    ap (λ (k : ℕ). nat_eq k (suc (length items))) more ∙ eqb-suc-suc (refused + good_in p items) (length items) ∙ counted_all p (suc i) items
+    ap (λ (k : ℕ). nat_eq k (suc (length items))) more ∙ eqb-suc-suc (refused + good_in p items) (length items) ∙ counted_all p next items
 
 module _ (q : Named) where
   -- an item that is right for its octets
-  abbrev Is : Item → List ℕ → Type 0
+  abbrev pub Is : Item → List ℕ → Type 0
   Is (good m) b = (m.octets ≡ b) × SpellsApdu (profile_of q) m.apdu m.octets
   Is (bad octets refusal) b = (octets ≡ b) × IsFrame octets × IsRefusedFor (profile_of q) octets refusal
 
@@ -103,7 +102,7 @@ module _ (q : Named) where
   items_one (good m) b h = ([], sym h.0 ∙ sym (append-nil m.octets), h.1, refl)
   items_one (bad octets refusal) b h = ([], sym h.0 ∙ sym (append-nil octets), h.1, h.2, refl)
 
-  items_more : (s b : List ℕ) (items : List Item) (x : Item) → AreItems (profile_of q) s items [] → Is x b → AreItems (profile_of q) (s ++ b) (items ++ x ∷ []) []
+  pub items_more : (s b : List ℕ) (items : List Item) (x : Item) → AreItems (profile_of q) s items [] → Is x b → AreItems (profile_of q) (s ++ b) (items ++ x ∷ []) []
   items_more s b [] x h k = subst (λ z. AreItems (profile_of q) (z ++ b) (x ∷ []) []) (sym h) (items_one x b k)
   items_more s b (good m ∷ items) x h k = (h.0 ++ b, ap (λ z. z ++ b) h.1 ∙ append_assoc m.octets h.0 b, h.2, items_more h.0 b items x h.3 k)
   items_more s b (bad octets refusal ∷ items) x h k =
@@ -114,7 +113,7 @@ module _ (q : Named) where
     pub items : List Item
     pub goes : Goes (profile_of q) text left left' held held' reports items
     pub count : before ≡ length items
-    pub bad_ones : refused ≡ length (reports_from 1 items)
+    pub bad_ones : refused ≡ length (reports_from first items)
     pub good_are : good_ones ≡ good_in is_good items
     pub input : offset ≡ counted (length goes.octets)
     pub next : position_past first items ≡ position (before + 1) offset
@@ -157,12 +156,10 @@ module _ (q : Named) where
           past_push first r.items x ∙ ap₂ after r.next (ap length f) ∙ ap (λ (k : ℕ). position k (counted (offset + length b))) number ∙ ap (position (before + 2)) (sym sum),
         )
 
-    reported : (x : Item) → reports_from 1 (r.items ++ x ∷ []) ≡ reports_from 1 r.items ++ reports_from (before + 1) (x ∷ [])
-    reported x =
-        let e : 1 + length r.items ≡ before + 1 = omega (arith, r.count) in
-        reports_push 1 r.items x ∙ ap (λ (n : ℕ). reports_from 1 r.items ++ reports_from n (x ∷ [])) e
+    reported : (x : Item) → reports_from first (r.items ++ x ∷ []) ≡ reports_from first r.items ++ reports_from (position (before + 1) offset) (x ∷ [])
+    reported x = reports_push first r.items x ∙ ap (λ (p : MessagePlace). reports_from first r.items ++ reports_from p (x ∷ [])) r.next
 
-    goes_more : (x : Item) (b : List ℕ) → Is x b → Consumes left' left'' b → Appends held' held'' (written_of (text (position (before + 1) offset)) x) → Adds new next (reports_from (before + 1) (x ∷ []))
+    goes_more : (x : Item) (b : List ℕ) → Is x b → Consumes left' left'' b → Appends held' held'' (written_of (text (position (before + 1) offset)) x) → Adds new next (reports_from (position (before + 1) offset) (x ∷ []))
         → Goes (profile_of q) text left left'' held held'' (reporting old next) (r.items ++ x ∷ [])
     unfolding here
     goes_more x b is c w a = record {
@@ -187,7 +184,7 @@ module _ (q : Named) where
           items = r.items ++ x ∷ [];
           goes = goes_more x p.0 (refl, p.2.spells) p.1 w (subst (λ (z : Option (List RefusalReport)). Adds new z []) e (adds_none new));
           count = omega (arith, r.count, length-append r.items (x ∷ []));
-          bad_ones = r.bad_ones ∙ sym (ap length (reported x ∙ append-nil (reports_from 1 r.items)));
+          bad_ones = r.bad_ones ∙ sym (ap length (reported x ∙ append-nil (reports_from first r.items)));
           good_are = omega (arith, r.good_are, ap one_if p.2.good, good_push is_good r.items m);
           input = more.0;
           next = more.1 ∙ ap (λ (k : ℕ). position k (counted (offset + piece.octets))) (let e : before + 2 ≡ before + 1 + 1 = omega arith in e);
@@ -195,7 +192,7 @@ module _ (q : Named) where
         }
 
     -- a message was refused, and reported
-    pub reached_bad : (b : List ℕ) (refusal : Refusal) (n : ℕ) → n ≡ counted (length b) → Consumes left' left'' b → IsRefusedFor (profile_of q) b refusal → IsFrame b → held' ≡ held'' → Adds new next (report (before + 1) refusal true ∷ [])
+    pub reached_bad : (b : List ℕ) (refusal : Refusal) (n : ℕ) → n ≡ counted (length b) → Consumes left' left'' b → IsRefusedFor (profile_of q) b refusal → IsFrame b → held' ≡ held'' → Adds new next (report (position (before + 1) offset) refusal (Some n) ∷ [])
         → Reached text is_good left left'' held held'' (reporting old next) (before + 1) (refused + 1) good_ones (counted (offset + n)) written
     unfolding here goes_more
     reached_bad b refusal n e c is frame same a =
@@ -203,9 +200,10 @@ module _ (q : Named) where
         let more = offset_more x b n e refl in
         record {
           items = r.items ++ x ∷ [];
-          goes = goes_more x b (refl, frame, is) c (subst (λ (z : Option (List ℕ)). Appends held' z []) same (Appends-nil held')) a;
+          goes = goes_more x b (refl, frame, is) c (subst (λ (z : Option (List ℕ)). Appends held' z []) same (Appends-nil held'))
+              (subst (λ (k : ℕ). Adds new next (report (position (before + 1) offset) refusal (Some k) ∷ [])) e a);
           count = omega (arith, r.count, length-append r.items (x ∷ []));
-          bad_ones = omega (arith, r.bad_ones, ap length (reported x), length-append (reports_from 1 r.items) (report (before + 1) refusal true ∷ []));
+          bad_ones = omega (arith, r.bad_ones, ap length (reported x), length-append (reports_from first r.items) (report (position (before + 1) offset) refusal (Some (counted (length b))) ∷ []));
           good_are = r.good_are ∙ sym (bad_push is_good r.items b refusal);
           input = more.0;
           next = more.1 ∙ ap (λ (k : ℕ). position k (counted (offset + n))) (let e : before + 2 ≡ before + 1 + 1 = omega arith in e);
@@ -231,12 +229,12 @@ module _ (q : Named) where
         few = le;
         good = r.good_are;
         octets = r.input;
-        all = ap₂ (λ (a b : ℕ). nat_eq a b) (ap₂ (λ (a b : ℕ). a + b) r.bad_ones r.good_are) (same ∙ r.count) ∙ counted_all is_good 1 r.items;
+        all = ap₂ (λ (a b : ℕ). nat_eq a b) (ap₂ (λ (a b : ℕ). a + b) r.bad_ones r.good_are) (same ∙ r.count) ∙ counted_all is_good first r.items;
       }
 
       -- a message was refused whose end can't be known
       pub through_lost : (b : List ℕ) (refusal : Refusal) → before < 1_000_000 → Consumes left' left'' b → IsRefusedFor (profile_of q) b refusal → HasNoEnd b left'' → held' ≡ held''
-          → Adds new next (report (before + 1) refusal false ∷ [])
+          → Adds new next (report (position (before + 1) offset) refusal None ∷ [])
           → SkipsToEnd (profile_of q) text is_good (taking left left'' x) (putting held held'' y) (reporting old next) (counts_of (before + 1) (refused + 1) good_ones offset)
       through_lost b refusal lt c is no_end h a =
           let number : before + 1 ≡ length r.items + 1 = omega (arith, r.count) in
@@ -252,14 +250,14 @@ module _ (q : Named) where
               reported = r.goes.reported;
             };
             ends = inr (
-              record { octets = b; refusal = refusal; taken = c; no_end = no_end; refused = is; reported = subst (λ (n : ℕ). Adds new next (report n refusal false ∷ [])) number a },
+              record { octets = b; refusal = refusal; taken = c; no_end = no_end; refused = is; reported = subst (λ (p : MessagePlace). Adds new next (report p refusal None ∷ [])) (sym r.next) a },
               number,
               omega (arith, r.bad_ones),
             );
             few = omega arith;
             good = r.good_are;
             octets = r.input;
-            all = lost_all refused good_ones before ∙ ap₂ (λ (a b : ℕ). nat_eq a b) (ap₂ (λ (a b : ℕ). a + b) r.bad_ones r.good_are) r.count ∙ counted_all is_good 1 r.items;
+            all = lost_all refused good_ones before ∙ ap₂ (λ (a b : ℕ). nat_eq a b) (ap₂ (λ (a b : ℕ). a + b) r.bad_ones r.good_are) r.count ∙ counted_all is_good first r.items;
           }
 
       halts : (n written' : ℕ) (why : SkippingErrorKind) → n ≡ before → new ≡ next → written' ≡ length (written_from text first r.items) + part_of why
@@ -274,7 +272,7 @@ module _ (q : Named) where
           are = r.goes.are;
           taken = r.goes.taken;
           written = r.goes.written;
-          reported = subst (λ (z : Option (List RefusalReport)). Adds old z (reports_from 1 r.items)) k r.goes.reported;
+          reported = subst (λ (z : Option (List RefusalReport)). Adds old z (reports_from first r.items)) k r.goes.reported;
         };
         messages = same ∙ r.count;
         refused = r.bad_ones;
@@ -318,4 +316,4 @@ module _ (q : Named) where
   -- no more are refused or good than were gone through
   pub halted_sum : (text : MessagePlace → Spelling → List ℕ) (is_good : Spelling → Bool) (source : Taking) (sink : Putting) (reports : Reporting) (halted : SkippingError)
       → SkipsAndStops (profile_of q) text is_good source sink reports halted → halted.refused + halted.good ≤ halted.messages
-  halted_sum text is_good source sink reports halted h = omega (arith, h.messages, h.refused, h.good, sum_bound is_good 1 h.items)
+  halted_sum text is_good source sink reports halted h = omega (arith, h.messages, h.refused, h.good, sum_bound is_good first h.items)

@@ -28,7 +28,8 @@ use Rattle.ill_normal.proofs.WrittenMessages.{counted_left}
 use Rattle.ill_normal.specs.declared.messages.RenderedMessage.{RenderedMessage}
 use Rattle.ill_normal.specs.declared.next_message.NextMessage.{NextMessage}
 use Rattle.ill_normal.specs.Skipping.{HasNoEnd}
-use Rattle.ill_normal.specs.code.Taking.{IsFraming, Takes, TakesElement, TakesPart, TakesRest, TakesUnframed, Took, IsNext, end_of}
+use Rattle.ill_normal.specs.Next.{IsNext, TakesPart}
+use Rattle.ill_normal.specs.code.Taking.{IsFraming, Takes, TakesElement, TakesRest, TakesUnframed, Took, end_of}
 
 -- all octets of a slice of which no fewer leave more to be needed
 pub feeds_all : (f : Framer) (b xs : List ℕ) (m need : ℕ) → m ≤ length xs → length xs ≤ need → ((w : List ℕ) → length w < need → IsPart (b ++ w))

@@ -1,12 +1,12 @@
 -- An input that isn't given up at a message that is refused: what it is, what is written of it, and what is reported.
-use Rattle.std.specs.Prelude.{◌≡◌, ℕ, suc, ◌+◌, Bool, true, ◌&&◌, List, [], ◌∷◌, ◌++◌, length, take, Option, Some, None}
+use Rattle.std.specs.Prelude.{◌≡◌, ℕ, ◌+◌, Bool, true, ◌&&◌, List, [], ◌∷◌, ◌++◌, length, take, Option, Some, None}
 use Rattle.ber_leaf.specs.Profile.{Profile}
 use Rattle.ber_framing.specs.Framed.{IsFrame}
 use Rattle.ill_schema.specs.declared.refusal.Refusal.{Refusal}
 use Rattle.ill_schema.specs.Apdu.{SpellsApdu}
 use Rattle.ill_refusals.specs.Fault.{fault_of}
 use Rattle.ill_refusals.specs.Outcome.{OnlyRefuses}
-use Rattle.ill_normal.specs.Messages.{Spelling, after, one_if}
+use Rattle.ill_normal.specs.Messages.{Spelling, after, counted, one_if}
 use Rattle.ill_normal.specs.declared.messages.MessagePlace.{MessagePlace}
 use Rattle.ill_normal.specs.declared.report.RefusalReport.{RefusalReport}
 
@@ -44,14 +44,15 @@ abbrev pub written_from : (MessagePlace → Spelling → List ℕ) → MessagePl
 written_from text p [] = []
 written_from text p (x ∷ items) = written_of (text p) x ++ written_from text (after p (length (item_octets x))) items
 
-abbrev pub report : ℕ → Refusal → Bool → RefusalReport
-report i refusal ends = record { message = i; refusal = refusal; ends = ends }
+-- of the message at a position: why it is refused, and how many octets it has, where its end is known
+abbrev pub report : MessagePlace → Refusal → Option ℕ → RefusalReport
+report p refusal octets = record { message = p.number; offset = p.offset; refusal = refusal; octets = octets }
 
--- what is reported: each message that is refused
-abbrev pub reports_from : ℕ → List Item → List RefusalReport
-reports_from i [] = []
-reports_from i (good m ∷ items) = reports_from (suc i) items
-reports_from i (bad octets refusal ∷ items) = report i refusal true ∷ reports_from (suc i) items
+-- what is reported of messages from this position on: each that is refused
+abbrev pub reports_from : MessagePlace → List Item → List RefusalReport
+reports_from p [] = []
+reports_from p (good m ∷ items) = reports_from (after p (length m.octets)) items
+reports_from p (bad octets refusal ∷ items) = report p refusal (Some (counted (length octets))) ∷ reports_from (after p (length octets)) items
 
 -- whether each message that isn't refused is as it should be
 abbrev pub all_good : (Spelling → Bool) → List Item → Bool

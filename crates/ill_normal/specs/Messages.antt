@@ -1,9 +1,10 @@
 -- The messages of an input, one after another, and what is written of them.
 use Rattle.std.specs.Prelude.{◌≡◌, ℕ, ◌+◌, ◌<◌, ◌≤◌, min, Bool, true, false, List, [], ◌∷◌, ◌++◌, length, take, Option, IfSome, IsTrue}
 use Rattle.std.specs.List.{list_all}
+use Rattle.std.specs.Str.{bytes_eq}
 use Rattle.std.specs.Io.KnownBytes.{Consumes, Keeps, Appends, IsAtEnd}
 use Rattle.ber_leaf.specs.Profile.{Profile, profile_two}
-use Rattle.ill_schema.specs.Apdu.{Apdu, SpellsApdu}
+use Rattle.ill_schema.specs.Apdu.{Apdu, SpellsApdu, normal_form_in}
 use Rattle.ill_read.specs.Answers.{TakesFront, TakesNoMessageIn}
 use Rattle.ill_read.specs.declared.failure.ReadFailure.{ReadFailure}
 use Rattle.ill_refusals.specs.Fault.{fault_of}
@@ -146,3 +147,7 @@ TakesNoFurther whole left left' = TakesNoFurtherIn profile_two whole left left'
 
 abbrev pub EndsAfter : (MessagePlace → Spelling → List ℕ) → (Spelling → Bool) → Taking → Putting → StreamError → Type 0
 EndsAfter text is_good source sink stopped = EndsAfterIn profile_two text is_good source sink stopped
+
+-- the octets are the normal form in the profile
+abbrev pub is_normal : Profile → Spelling → Bool
+is_normal q m = bytes_eq m.octets (normal_form_in q m.apdu)

@@ -1,5 +1,5 @@
 -- What a call that goes on after refusals does to its source, its sink and its reports.
-use Rattle.std.specs.Prelude.{◌≡◌, ◌⊎◌, ℕ, ◌+◌, ◌<◌, ◌≤◌, Bool, false, List, [], ◌∷◌, ◌++◌, length, take, Option, IsTrue}
+use Rattle.std.specs.Prelude.{◌≡◌, ◌⊎◌, ℕ, ◌+◌, ◌<◌, ◌≤◌, Bool, nat_eq, List, [], ◌∷◌, ◌++◌, length, take, Option, None, IsTrue}
 use Rattle.std.specs.Io.KnownBytes.{Consumes, Keeps, Appends, IsAtEnd}
 use Rattle.ber_framing.specs.Framed.{IsPart, IsUnframed}
 use Rattle.ber_leaf.specs.Profile.{Profile}
@@ -9,6 +9,7 @@ use Rattle.ill_normal.specs.Messages.{Spelling, counted, first, BreaksWithinIn, 
 use Rattle.ill_normal.specs.declared.messages.MessagePlace.{MessagePlace}
 use Rattle.ill_normal.specs.Items.{Item, AreItems, IsRefusedFor, position_past, written_from, report, reports_from, good_in, all_good, Adds}
 use Rattle.ill_normal.specs.declared.report.RefusalReport.{RefusalReport}
+use Rattle.ill_normal.specs.declared.run_fault.RunFault.{RunFault}
 use Rattle.ill_normal.specs.declared.skipping.SkippingCounts.{SkippingCounts}
 use Rattle.ill_normal.specs.declared.skipping.SkippingError.{SkippingError}
 use Rattle.ill_normal.specs.declared.skipping.SkippingErrorKind.{SkippingErrorKind}
@@ -27,7 +28,7 @@ pub record Goes (q : Profile) (text : MessagePlace → Spelling → List ℕ) (l
   pub are : AreItems q octets items []
   pub taken : Consumes left left' octets
   pub written : Appends held held' (written_from text first items)
-  pub reported : Adds reports.old reports.new (reports_from 1 items)
+  pub reported : Adds reports.old reports.new (reports_from first items)
 
 -- of these octets no element begins with the first ones, of which any fewer are part of one
 pub record IsEndless (octets : List ℕ) : Type 0 where
@@ -42,14 +43,14 @@ pub record IsEndless (octets : List ℕ) : Type 0 where
 abbrev pub HasNoEnd : List ℕ → Option (List ℕ) → Type 0
 HasNoEnd octets left' = IsEndless octets ⊎ (IsPart octets × (IsAtEnd left' ⊎ (18_446_744_073_709_551_615 ≤ length octets)))
 
--- after this many messages one was refused whose end can't be known, which was reported
-pub record LosesEnd (q : Profile) (left left' : Option (List ℕ)) (reports : Reporting) (before : ℕ) : Type 0 where
+-- the message at this position was refused, its end can't be known, and it was reported
+pub record LosesEnd (q : Profile) (left left' : Option (List ℕ)) (reports : Reporting) (p : MessagePlace) : Type 0 where
   pub octets : List ℕ
   pub refusal : Refusal
   pub taken : Consumes left left' octets
   pub no_end : HasNoEnd octets left'
   pub refused : IsRefusedFor q octets refusal
-  pub reported : Adds reports.old reports.new (report (before + 1) refusal false ∷ [])
+  pub reported : Adds reports.old reports.new (report p refusal None ∷ [])
 
 -- nothing was left
 pub record IsDone (left left' : Option (List ℕ)) (reports : Reporting) : Type 0 where
@@ -60,8 +61,8 @@ pub record IsDone (left left' : Option (List ℕ)) (reports : Reporting) : Type 
 -- what came after these messages: the end of the input, or one more that was refused, whose end can't be known
 abbrev pub EndsWith : Profile → Option (List ℕ) → Option (List ℕ) → Reporting → List Item → SkippingCounts → Type 0
 EndsWith q left left' reports items gone =
-    (IsDone left left' reports × (gone.messages ≡ length items) × (gone.refused ≡ length (reports_from 1 items)))
-    ⊎ (LosesEnd q left left' reports (length items) × (gone.messages ≡ length items + 1) × (gone.refused ≡ length (reports_from 1 items) + 1))
+    (IsDone left left' reports × (gone.messages ≡ length items) × (gone.refused ≡ length (reports_from first items)))
+    ⊎ (LosesEnd q left left' reports (position_past first items) × (gone.messages ≡ length items + 1) × (gone.refused ≡ length (reports_from first items) + 1))
 
 -- the input was gone through, as far as the ends of its messages can be known
 pub record SkipsToEnd (q : Profile) (text : MessagePlace → Spelling → List ℕ) (is_good : Spelling → Bool) (source : Taking) (sink : Putting) (reports : Reporting) (gone : SkippingCounts) : Type 0 where
@@ -96,8 +97,20 @@ pub record SkipsAndStops (q : Profile) (text : MessagePlace → Spelling → Lis
   pub grown : Option (List ℕ)
   pub goes : Goes q text source.left rest sink.held grown reports items
   pub messages : halted.messages ≡ length items
-  pub refused : halted.refused ≡ length (reports_from 1 items)
+  pub refused : halted.refused ≡ length (reports_from first items)
   pub good : halted.good ≡ good_in is_good items
   pub octets : halted.octets ≡ counted (length goes.octets)
   pub written : halted.written ≡ length (written_from text first items) + part_of halted.why
   pub halts : StopsFor q text (taking rest source.left' source.broken) (putting grown sink.held' sink.broken) halted.messages (position_past first items) halted.why
+
+-- why a job went no further, where this many octets were written
+abbrev pub fault_of_kind : ℕ → SkippingErrorKind → RunFault
+fault_of_kind written SkippingErrorKind.OutOfMemory = RunFault.OutOfMemory
+fault_of_kind written SkippingErrorKind.ReadFault = RunFault.ReadFault
+fault_of_kind written (SkippingErrorKind.WriteFault n) = RunFault.WriteFault written
+fault_of_kind written SkippingErrorKind.TooMany = RunFault.TooManyMessages
+
+-- what had been gone through where a job is halted
+abbrev pub counts_before : ℕ → ℕ → ℕ → ℕ → SkippingCounts
+counts_before messages refused good octets =
+    record { messages = messages; refused = refused; good = good; octets = octets; all_good = nat_eq (refused + good) messages }

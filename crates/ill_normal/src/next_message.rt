@@ -4,7 +4,8 @@ ghost use Rattle.std.specs.Io.KnownBytes.{Consumes, IsAtEnd, Keeps};
 ghost use Rattle.ber_framing.specs.Framed.{IsPart};
 ghost use Rattle.ill_schema.specs.Profiles.{profile_of};
 ghost use Rattle.ber_framing.specs.Framer.{IsFed, Judged};
-ghost use Rattle.ill_normal.specs.code.Taking.{end_of, IsNext, Takes, TakesElement, TakesPart, TakesRest, Took};
+ghost use Rattle.ill_normal.specs.Next.{IsNext, TakesPart};
+ghost use Rattle.ill_normal.specs.code.Taking.{end_of, Takes, TakesElement, TakesRest, Took};
 
 use crate::messages::{MessagePlace, Render, RenderedMessage};
 use crate::skipping::SkippingErrorKind;
@@ -17,7 +18,7 @@ use std::alloc::{AllocError, Global};
 /// The number of octets that are asked of a source at once.
 const READ_LEN: usize = 1024;
 
-/// The next message.
+/// The next message of an input.
 #[derive(Drop)]
 pub enum NextMessage<T: Drop> {
     /// The output for it.
@@ -30,6 +31,7 @@ pub enum NextMessage<T: Drop> {
 #[derive(Clone, Copy)]
 pub enum TakeError {
     OutOfMemory,
+    /// The source is broken.
     Broken,
 }
 
@@ -47,9 +49,17 @@ impl TakeError {
     }
 }
 
-/// Reads the next message, and has made of it what is written, or says why it is refused; None at the end of the input. Its octets are
-/// kept in `kept`.
-pub fn next_message<M: Render, R: Source, L: Lookahead<R>>(
+/// Reads the next message, and has made of it what is written, or says why it is refused; None at the end of the input. It takes the octets
+/// of one element, as its framing gives it, and keeps the first 1,048,576 of them in `kept`; what was there before is forgotten.
+///
+/// ```
+/// let next = take_message::<M, R, L>(alloc, &maker, &mut reader, position, &mut source, &mut kept, buffer)?;
+/// ```
+///
+/// # Errors
+///
+/// Memory ran out, or the source is broken.
+pub fn take_message<M: Render, R: Source, L: Lookahead<R>>(
     alloc: Global,
     maker: &M,
     reader: &mut M::Reader,

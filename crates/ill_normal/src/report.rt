@@ -9,10 +9,13 @@ use ill_schema::Refusal;
 pub struct RefusalReport {
     /// Its number in the input, from 1. Messages that are refused count.
     pub message: u32,
+    /// The number of octets of the input that come before it; 18,446,744,073,709,551,615 where they are more.
+    pub offset: u64,
     /// The offset in the message, and the cause.
     pub refusal: Refusal,
-    /// True if its end is known. Where it isn't, the input is read no further.
-    pub ends: bool,
+    /// The number of its octets, or 18,446,744,073,709,551,615 where they are more; None where its end is unknown. Then the input is read no
+    /// further.
+    pub octets: Option<u64>,
 }
 
 /// A receiver of reports.
@@ -22,7 +25,8 @@ pub trait ReportRefusals {
     // What was reported, in order, where that is known.
     ghost reported: { Self → Option (List RefusalReport) };
 
-    /// Takes a report.
-    fn report(&mut self, report: RefusalReport)
+    /// Takes a report, and the octets of the message: the first 1,048,576 where it has more, and all that are left of the input where its
+    /// end is unknown. No clause says this of the octets.
+    fn report(&mut self, report: RefusalReport, octets: &[u8])
         ensures { Adds (reported self.old) (reported self.new) (report ∷ []) };
 }

@@ -1,5 +1,5 @@
 //! The loop over the messages of an input.
-ghost use Rattle.std.specs.Prelude.{◌≡◌, ℕ, ◌+◌, ◌≤◌, List, [], ◌∷◌, is_some, IfOk, IfErr, OnOk, IsTrue};
+ghost use Rattle.std.specs.Prelude.{◌≡◌, ℕ, ◌+◌, ◌≤◌, List, [], ◌∷◌, IfOk, IfErr, OnOk, IsTrue};
 ghost use Rattle.std.specs.Io.KnownBytes.{Consumes, IsAtEnd, Keeps};
 ghost use Rattle.ill_schema.specs.Profiles.{profile_of};
 ghost use Rattle.ill_normal.specs.Calls.{taking, putting};
@@ -8,7 +8,7 @@ ghost use Rattle.ill_normal.specs.Skipping.{SkipsToEnd, SkipsAndStops, reporting
 ghost use Rattle.ill_normal.specs.code.SkippingEnds.{GoesOn, counts_of, error_at};
 
 use crate::messages::{MAX_MESSAGES, MessagePlace, Render, Rendered};
-use crate::next_message::{NextMessage, next_message};
+use crate::next_message::{NextMessage, take_message};
 use crate::report::{RefusalReport, ReportRefusals};
 use ber_core::{Lookahead, Sink, Source};
 use ill_schema::Refusal;
@@ -99,7 +99,7 @@ pub fn for_each_accepted_message<M: Render, R: Source, L: Lookahead<R>, W: Sink,
             number: before + 1,
             offset,
         };
-        let next = match next_message::<M, R, L>(
+        let next = match take_message::<M, R, L>(
             alloc,
             maker,
             &mut reader,
@@ -132,7 +132,7 @@ pub fn for_each_accepted_message<M: Render, R: Source, L: Lookahead<R>, W: Sink,
             }
             NextMessage::Refused { refusal, end } => {
                 refused += 1;
-                reports.report(report(before + 1, refusal, end));
+                reports.report(report(position, refusal, end), kept.as_slice());
                 let Some(octets) = end else {
                     return Ok(counts_of(before + 1, refused, good, offset));
                 };
@@ -184,15 +184,16 @@ fn error_at(
     }
 }
 
-/// The report of a message that is refused, whose number of octets is known or not.
+/// The report of the message at a position, whose number of octets is known or not.
 #[inline(always)]
-fn report(message: u32, refusal: Refusal, end: Option<u64>) -> RefusalReport
-    ensures { result ≡ report message refusal (is_some end) }
+fn report(position: MessagePlace, refusal: Refusal, octets: Option<u64>) -> RefusalReport
+    ensures { result ≡ report position refusal octets }
 {
     RefusalReport {
-        message,
+        message: position.number,
+        offset: position.offset,
         refusal,
-        ends: end.is_some(),
+        octets,
     }
 }
 

@@ -36,7 +36,7 @@ impl Node for PostalAddress {
 
     ghost entries = { postal_address_rows };
 
-    const NODE: NodeId = NodeId::POSTAL_ADDRESS;
+    const NODE: NodeId = NodeId::PostalAddress;
 }
 
 #[tactic(auto, unfolding(crate::specs::Views::postal_address))]
@@ -107,7 +107,7 @@ impl Node for SystemAddress {
 
     ghost entries = { system_address_rows };
 
-    const NODE: NodeId = NodeId::SYSTEM_ADDRESS;
+    const NODE: NodeId = NodeId::SystemAddress;
 }
 
 #[tactic(auto, unfolding(crate::specs::Views::system_address))]
@@ -168,7 +168,7 @@ impl Node for DeliveryAddress {
 
     ghost entries = { delivery_address_rows };
 
-    const NODE: NodeId = NodeId::DELIVERY_ADDRESS;
+    const NODE: NodeId = NodeId::DeliveryAddress;
 }
 
 #[tactic(auto, unfolding(crate::specs::Views::delivery_address))]

@@ -23,7 +23,7 @@ impl Node for ClientId {
 
     ghost entries = { client_id_rows };
 
-    const NODE: NodeId = NodeId::CLIENT_ID;
+    const NODE: NodeId = NodeId::ClientId;
 }
 
 #[tactic(auto, unfolding(crate::specs::Views::client_id))]

@@ -23,7 +23,7 @@ impl Node for Amount {
 
     ghost entries = { amount_rows };
 
-    const NODE: NodeId = NodeId::AMOUNT;
+    const NODE: NodeId = NodeId::Amount;
 }
 
 #[tactic(auto, unfolding(crate::specs::Views::amount))]
@@ -89,7 +89,7 @@ impl Node for CostInfo {
 
     ghost entries = { cost_info_rows };
 
-    const NODE: NodeId = NodeId::COST_INFO;
+    const NODE: NodeId = NodeId::CostInfo;
 }
 
 #[tactic(auto, unfolding(crate::specs::Views::cost_info))]

@@ -18,7 +18,7 @@ impl Node for DeliveryService {
 
     ghost NODE = { TheNode };
 
-    const NODE: NodeId = NodeId::DELIVERY_SERVICE;
+    const NODE: NodeId = NodeId::DeliveryService;
 }
 
 #[tactic(auto, unfolding(crate::specs::Views::delivery_service))]
@@ -69,7 +69,7 @@ impl Node for ShippedVia {
 
     ghost NODE = { TheNode };
 
-    const NODE: NodeId = NodeId::SHIPPED_VIA;
+    const NODE: NodeId = NodeId::ShippedVia;
 }
 
 #[tactic(auto, unfolding(crate::specs::Views::shipped_via))]

@@ -64,7 +64,7 @@ impl Node for ItemId {
 
     ghost entries = { item_id_rows };
 
-    const NODE: NodeId = NodeId::ITEM_ID;
+    const NODE: NodeId = NodeId::ItemId;
 }
 
 #[tactic(auto, unfolding(crate::specs::Views::item_id))]

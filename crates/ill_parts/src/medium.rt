@@ -24,7 +24,7 @@ impl Node for SupplyMediumInfo {
 
     ghost entries = { supply_medium_info_rows };
 
-    const NODE: NodeId = NodeId::SUPPLY_MEDIUM_INFO;
+    const NODE: NodeId = NodeId::SupplyMediumInfo;
 }
 
 #[tactic(auto, unfolding(crate::specs::Views::supply_medium_info))]
@@ -81,7 +81,7 @@ impl Node for UnitsPerMedium {
 
     ghost entries = { units_per_medium_rows };
 
-    const NODE: NodeId = NodeId::UNITS_PER_MEDIUM;
+    const NODE: NodeId = NodeId::UnitsPerMedium;
 }
 
 #[tactic(auto, unfolding(crate::specs::Views::units_per_medium))]

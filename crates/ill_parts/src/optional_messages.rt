@@ -25,7 +25,7 @@ impl Node for RequesterOptionalMessages {
 
     ghost entries = { requester_optional_messages_rows };
 
-    const NODE: NodeId = NodeId::REQUESTER_OPTIONAL_MESSAGES;
+    const NODE: NodeId = NodeId::RequesterOptionalMessages;
 }
 
 #[tactic(auto, unfolding(crate::specs::Views::requester_optional_messages))]
@@ -90,7 +90,7 @@ impl Node for ResponderOptionalMessages {
 
     ghost entries = { responder_optional_messages_rows };
 
-    const NODE: NodeId = NodeId::RESPONDER_OPTIONAL_MESSAGES;
+    const NODE: NodeId = NodeId::ResponderOptionalMessages;
 }
 
 #[tactic(auto, unfolding(crate::specs::Views::responder_optional_messages))]

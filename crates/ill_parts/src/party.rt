@@ -20,7 +20,7 @@ impl Node for Symbol {
 
     ghost NODE = { TheNode };
 
-    const NODE: NodeId = NodeId::SYMBOL;
+    const NODE: NodeId = NodeId::Symbol;
 }
 
 #[tactic(auto, unfolding(crate::specs::Views::symbol))]
@@ -73,7 +73,7 @@ impl Node for Name {
 
     ghost NODE = { TheNode };
 
-    const NODE: NodeId = NodeId::NAME;
+    const NODE: NodeId = NodeId::Name;
 }
 
 #[tactic(auto, unfolding(crate::specs::Views::name))]
@@ -130,7 +130,7 @@ impl Node for SystemId {
 
     ghost entries = { system_id_rows };
 
-    const NODE: NodeId = NodeId::SYSTEM_ID;
+    const NODE: NodeId = NodeId::SystemId;
 }
 
 #[tactic(auto, unfolding(crate::specs::Views::system_id))]

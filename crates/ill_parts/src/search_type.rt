@@ -28,7 +28,7 @@ impl Node for SearchType {
 
     ghost entries = { search_type_rows };
 
-    const NODE: NodeId = NodeId::SEARCH_TYPE;
+    const NODE: NodeId = NodeId::SearchType;
 }
 
 #[tactic(auto, unfolding(crate::specs::Views::search_type))]

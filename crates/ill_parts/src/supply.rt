@@ -27,7 +27,7 @@ impl Node for DateDue {
 
     ghost entries = { date_due_rows };
 
-    const NODE: NodeId = NodeId::DATE_DUE;
+    const NODE: NodeId = NodeId::DateDue;
 }
 
 #[tactic(auto, unfolding(crate::specs::Views::date_due))]
@@ -97,7 +97,7 @@ impl Node for SupplyDetails {
 
     ghost entries = { supply_details_rows };
 
-    const NODE: NodeId = NodeId::SUPPLY_DETAILS;
+    const NODE: NodeId = NodeId::SupplyDetails;
 }
 
 #[tactic(auto, unfolding(crate::specs::Views::supply_details))]

@@ -27,7 +27,7 @@ impl Node for SendTo {
 
     ghost entries = { send_to_rows };
 
-    const NODE: NodeId = NodeId::SEND_TO;
+    const NODE: NodeId = NodeId::SendTo;
 }
 
 #[tactic(auto, unfolding(crate::specs::Views::send_to))]
@@ -99,7 +99,7 @@ impl Node for ThirdPartyInfo {
 
     ghost entries = { third_party_info_rows };
 
-    const NODE: NodeId = NodeId::THIRD_PARTY_INFO;
+    const NODE: NodeId = NodeId::ThirdPartyInfo;
 }
 
 #[tactic(auto, unfolding(crate::specs::Views::third_party_info))]

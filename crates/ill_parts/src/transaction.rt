@@ -28,7 +28,7 @@ impl Node for TransactionId {
 
     ghost entries = { transaction_id_rows };
 
-    const NODE: NodeId = NodeId::TRANSACTION_ID;
+    const NODE: NodeId = NodeId::TransactionId;
 }
 
 #[tactic(auto, unfolding(crate::specs::Views::transaction_id))]
@@ -91,7 +91,7 @@ impl Node for DateTime {
 
     ghost entries = { date_time_rows };
 
-    const NODE: NodeId = NodeId::DATE_TIME;
+    const NODE: NodeId = NodeId::DateTime;
 }
 
 #[tactic(auto, unfolding(crate::specs::Views::date_time))]
@@ -145,7 +145,7 @@ impl Node for ServiceDateTime {
 
     ghost entries = { service_date_time_rows };
 
-    const NODE: NodeId = NodeId::SERVICE_DATE_TIME;
+    const NODE: NodeId = NodeId::ServiceDateTime;
 }
 
 #[tactic(auto, unfolding(crate::specs::Views::service_date_time))]

@@ -24,3 +24,4 @@ pub mod ValueDrafts
 pub mod WrittenElements
 pub mod OctetDrafts
 pub mod Outlines
+pub mod MarkedValues

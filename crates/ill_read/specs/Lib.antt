@@ -5,4 +5,5 @@ pub mod Feeding
 pub mod Answers
 pub mod Outline
 pub mod Outlined
+pub mod Marks
 pub mod code

@@ -7,3 +7,4 @@ pub mod ReaderCode
 pub mod Filling
 pub mod OctetDrafts
 pub mod Outlines
+pub mod MarkedOctets

@@ -15,6 +15,7 @@ mod draft;
 mod failure;
 mod laws;
 mod mark;
+mod marks;
 mod normal;
 mod normal_form_draft;
 mod open_values;
@@ -36,6 +37,10 @@ pub use ill_refusals::{
 };
 pub use laws::decoders_are_apart;
 pub use mark::Mark;
+pub use marks::{
+    after_first, alternative, at_end, first_mark, has_default, is_octet, is_set, leading_octets,
+    number_in, passed,
+};
 pub use normal::{
     NormalForm, NormalReader, decode_normal, decode_normal_as, read_normal_as, read_normal_in,
     read_normal_peeking, read_normal_recording_peeking,

@@ -10,6 +10,7 @@ pub mod KnownLeaves
 pub mod Shorter
 pub mod Streams
 pub mod WorkedRows
+pub mod CauseNumbers
 pub mod Contents
 pub mod LeafFits
 pub mod RowFits

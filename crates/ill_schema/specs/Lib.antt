@@ -18,3 +18,5 @@ pub mod Message
 pub mod Unfit
 pub mod Worked
 pub mod code
+pub mod Numbers
+pub mod Texts

@@ -19,6 +19,7 @@ mod module_rows;
 mod names;
 mod node;
 mod node_rows;
+mod number;
 mod part;
 mod profile;
 mod refusal;
@@ -37,12 +38,13 @@ pub use laws::{
     one_value, profile_two_extends_profile_one, tables_are_well_formed,
     the_module_reads_profile_two, what_is_meant_fits, worked_messages,
 };
-pub use lookup::{kind, kind_as, row, row_as, rows, rows_as};
+pub use lookup::{kind, kind_as, row, row_as, row_name, row_node, rows, rows_as};
 pub use message::Message;
 pub use names::{
     apdu_name, apdu_name_as, apdu_node, apdu_node_as, part_name, part_name_as, row_names,
 };
 pub use node::{Kind, LeafKind, NodeId};
+pub use number::number_name;
 pub use part::{Mode, PartId, Presence, Row};
 pub use profile::Profile;
 pub use refusal::{Cause, Refusal};

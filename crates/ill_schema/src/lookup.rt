@@ -1,9 +1,10 @@
 //! Look-ups in the tables: nodes and their rows.
 ghost use Rattle.std.specs.Prelude.{◌≡◌, length, slice_get};
-ghost use Rattle.ill_schema.specs.Names.{node_in};
+ghost use Rattle.ill_schema.specs.Names.{node_in, row_name, row_node};
 ghost use Rattle.ill_schema.specs.Profiles.{profile_of};
 ghost use Rattle.ill_schema.specs.Table.{kind_of, rows_of};
 
+use crate::names::row_names;
 use crate::node::{Kind, LeafKind, NodeId};
 use crate::part::{PartId, Row};
 use crate::profile::Profile;
@@ -72,6 +73,26 @@ pub fn row(part: PartId) -> Option<Row>
     rows_of(part.node).get(part.row as usize).copied()
 }
 
+/// The name of a row; empty where the node has no such row.
+pub fn row_name(node: NodeId, i: usize) -> &'static str
+    ensures { result.now ≡ row_name node i }
+{
+    match row_names(node).get(i) {
+        Some(name) => *name,
+        None => "",
+    }
+}
+
+/// The node that is a row's type; that of what is left out where there is no such row.
+pub fn row_node(node: NodeId, i: usize) -> NodeId
+    ensures { result ≡ row_node node i }
+{
+    match rows_of(node).get(i) {
+        Some(row) => row.node,
+        None => NodeId::LeftOut,
+    }
+}
+
 /// The kind of a node in the profile. It is the same in each.
 pub fn kind_as(profile: Profile, node: NodeId) -> Kind
     ensures { result ≡ kind_of (node_in (profile_of profile) node) }
@@ -83,7 +104,7 @@ pub fn kind_as(profile: Profile, node: NodeId) -> Kind
 ///
 /// ```
 /// // Conditional has three rows in profile 2, and four in the module profile.
-/// let count = rows_as(Profile::Module, NodeId::CONDITIONAL);
+/// let count = rows_as(Profile::Module, NodeId::Conditional);
 /// ```
 pub fn rows_as(profile: Profile, node: NodeId) -> u8
     ensures { result ≡ length (rows_of (node_in (profile_of profile) node)) }

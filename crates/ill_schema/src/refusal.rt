@@ -1,5 +1,13 @@
+//! Causes of refusals, with their names, numbers and texts.
+use crate::node::NodeId;
 use crate::part::PartId;
 use ber_leaf::LeafFault;
+
+/// A part, for the causes that have one: their names and numbers are the same with each.
+const ANY_PART: PartId = PartId {
+    node: NodeId::Boolean,
+    row: 0,
+};
 
 /// The reason why a message is refused.
 #[derive(Clone, Copy, Debug, PartialEq, Eq)]
@@ -51,8 +59,9 @@ pub enum Cause {
 }
 
 impl Cause {
-    ghost use Rattle.std.specs.Prelude.{◌≡◌};
+    ghost use Rattle.std.specs.Prelude.{◌≡◌, ◌≢◌, IfNone, IfSome};
     ghost use Rattle.ill_schema.specs.Causes.{cause_name, cause_number, cause_text};
+    ghost use Rattle.ill_schema.specs.declared.refusal.Cause.{Cause as Reason};
 
     /// The name of the cause.
     ///
@@ -119,6 +128,42 @@ impl Cause {
             Cause::BadNull => 20,
             Cause::BadOid => 21,
             Cause::BadBits => 22,
+        }
+    }
+
+    /// A cause of this number, None where no cause has it. A cause of a part is given with some part.
+    ///
+    /// ```text
+    /// Cause::of_number(11) // Some(Cause::BadEnd)
+    /// ```
+    pub fn of_number(number: u32) -> Option<Cause>
+        ensures found { IfSome result (λ cause. cause_number cause ≡ number) }
+        ensures none { IfNone result ((cause : Reason) → cause_number cause ≢ number) }
+    {
+        match number {
+            1 => Some(Cause::Truncated),
+            2 => Some(Cause::BadTag),
+            3 => Some(Cause::BadLength),
+            4 => Some(Cause::TooLong),
+            5 => Some(Cause::Overrun),
+            6 => Some(Cause::TooDeep),
+            7 => Some(Cause::UnexpectedTag),
+            8 => Some(Cause::LeftOut(ANY_PART)),
+            9 => Some(Cause::WrongForm),
+            10 => Some(Cause::Missing(ANY_PART)),
+            11 => Some(Cause::BadEnd),
+            12 => Some(Cause::BadBoolean),
+            13 => Some(Cause::BadInteger),
+            14 => Some(Cause::IntegerTooLong),
+            15 => Some(Cause::BadText),
+            16 => Some(Cause::BadDate),
+            17 => Some(Cause::BadTime),
+            18 => Some(Cause::TrailingBytes),
+            19 => Some(Cause::NormalTooLong),
+            20 => Some(Cause::BadNull),
+            21 => Some(Cause::BadOid),
+            22 => Some(Cause::BadBits),
+            _ => None,
         }
     }
 

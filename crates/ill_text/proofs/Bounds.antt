@@ -33,8 +33,10 @@ use Rattle.ill_schema.specs.Table.{kind_of, rows_of}
 use Rattle.ill_schema.specs.Tagging.{Tagging, untagged, implicit, explicit, explicit_or_bare, sequence_tag, tag_tree, tagging}
 use Rattle.ill_schema.proofs.MeansFits.{means_apdu_fits}
 use Rattle.ill_schema.proofs.Tags.{at_row}
-use Rattle.ill_text.specs.Numbers.{number_name, number_names}
-use Rattle.ill_text.specs.Shown.{Place, body_place_in, content_text, entry_lines, hexadecimal, in_brackets, is_empty, item_lines, item_of, leaf_text, line, lines_of, name_or_none, part, quoted, row_name, shown_text_in, tree_text, within}
+use Rattle.ill_schema.specs.Numbers.{number_name, number_names}
+use Rattle.ill_schema.specs.Texts.{hexadecimal}
+use Rattle.ill_schema.specs.Names.{name_or_none, row_name}
+use Rattle.ill_text.specs.Shown.{Place, body_place_in, content_text, entry_lines, in_brackets, is_empty, item_lines, item_of, leaf_text, line, lines_of, part, quoted, shown_text_in, tree_text, within}
 use Rattle.ill_text.proofs.OctetBounds.{constructed_size, content_size, hexadecimal_size, oid_size, primitive_size, quoted_size, some_size, tree_text_size}
 
 -- ---- names

@@ -13,7 +13,8 @@ use Rattle.ill_schema.specs.Lift.{added_entries, lift, lift_apdu, lift_entries, 
 use Rattle.ill_schema.specs.Presence.{IsCarried}
 use Rattle.ill_schema.specs.Table.{kind_of, rows_of, twin}
 use Rattle.ill_schema.proofs.Twins.{all_stand, item_carried, stand_at, stands}
-use Rattle.ill_text.specs.Shown.{Place, entry_lines, is_empty, item_lines, item_of, line, lines_of, node_or_left_out, part, row_name, row_node, shown_text, shown_text_in, within}
+use Rattle.ill_schema.specs.Names.{node_or_left_out, row_name, row_node}
+use Rattle.ill_text.specs.Shown.{Place, entry_lines, is_empty, item_lines, item_of, line, lines_of, part, shown_text, shown_text_in, within}
 
 abbrev at_node : List ℕ → List ℕ → NodeId → Place
 at_node path name node = record { path = path; name = name; node = node }

@@ -9,7 +9,8 @@ use Rattle.ber_core.specs.Identifier.{Tag, identifier}
 use Rattle.ber_core.specs.Length.{shortest_length}
 use Rattle.ber_core.specs.Tree.{Tree, Trees, primitive, constructed, none, more}
 use Rattle.ber_leaf.specs.Profile.{is_graphic}
-use Rattle.ill_text.specs.Shown.{components, content_text, digits, escaped, hexadecimal, numbers_after, oid_text, quoted, tree_text, trees_text, with_dots}
+use Rattle.ill_schema.specs.Texts.{components, digits, hexadecimal, numbers_after, oid_text, with_dots}
+use Rattle.ill_text.specs.Shown.{content_text, escaped, quoted, tree_text, trees_text}
 use Rattle.ill_text.specs.code.ObjectIdentifiers.{are_small, dotted}
 use Rattle.ill_text.proofs.Subidentifiers.{two_and_others}
 

@@ -2,7 +2,7 @@
 use Rattle.std.proofs.Common.{◌≡◌, ℕ, ◌-◌, ◌*◌, ◌/◌, min, ◌&&◌, true, false, nat_lt, List, [], ◌∷◌, ◌++◌, codes, decimal, refl, sym, ap, ◌∙◌, arith, append_assoc, append-nil, ltb-true, IsTrue}
 use Rattle.std.specs.Prelude.{flat_map}
 use Rattle.std.proofs.lemmas.Bool.{and_parts}
-use Rattle.ill_text.specs.Shown.{components, oid_text, hexadecimal, numbers_after, with_dots}
+use Rattle.ill_schema.specs.Texts.{components, oid_text, hexadecimal, numbers_after, with_dots}
 use Rattle.ill_text.specs.code.ObjectIdentifiers.{IsFirst, are_small, dotted}
 
 dots : (n : ℕ) (numbers : List ℕ) → with_dots (n ∷ numbers) ≡ decimal n ++ flat_map dotted numbers

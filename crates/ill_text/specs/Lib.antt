@@ -1,5 +1,3 @@
-pub mod Numbers
 pub mod Shown
 pub mod TextOf
-pub mod Marks
 pub mod code

@@ -1,5 +1,5 @@
 -- The text that is shown of a message: a head line, and a line for each leaf.
-use Rattle.std.specs.Prelude.{ℕ, suc, ◌+◌, ◌-◌, ◌*◌, ◌/◌, ◌%◌, min, Bool, true, false, ◌&&◌, ◌||◌, nat_le, nat_lt, nat_eq, List, [], ◌∷◌, ◌++◌, codes, decimal, Option, Some, None, slice_get, slice_index, flat_map, if◌then◌else◌}
+use Rattle.std.specs.Prelude.{ℕ, suc, ◌+◌, ◌-◌, Bool, true, false, ◌&&◌, ◌||◌, nat_le, nat_eq, List, [], ◌∷◌, ◌++◌, codes, decimal, Option, Some, None, flat_map, if◌then◌else◌}
 use Rattle.std.specs.Fmt.{signed_decimal}
 use Rattle.std.specs.List.{list_all}
 use Rattle.ber_core.specs.Identifier.{identifier}
@@ -7,17 +7,11 @@ use Rattle.ber_core.specs.Tree.{Tree, Trees, primitive, constructed, none, more}
 use Rattle.ber_leaf.specs.Profile.{Profile, is_graphic, profile_two}
 use Rattle.ber_leaf.specs.Simple.{Simple, flag, whole, date, time, printable, general, visible, null, oid, binary, bits, descriptor}
 use Rattle.ill_schema.specs.declared.node.NodeId.{NodeId}
-use Rattle.ill_schema.specs.declared.node.NodeId.TheVariants.{LeftOut}
-use Rattle.ill_schema.specs.declared.part.Row.{Row}
 use Rattle.ill_schema.specs.Apdu.{Apdu, root}
 use Rattle.ill_schema.specs.Content.{Content, simple, sequence, list, alternative, foreign, Entries, no_entries, absent, present, Items, no_items, item}
-use Rattle.ill_schema.specs.Names.{names_of}
-use Rattle.ill_schema.specs.Table.{rows_of}
-use Rattle.ill_text.specs.Numbers.{number_name}
-
--- an octet as two hexadecimal digits
-abbrev pub digits : ℕ → List ℕ
-digits octet = slice_index (codes "0123456789abcdef") (octet / 16) ∷ slice_index (codes "0123456789abcdef") (octet % 16) ∷ []
+use Rattle.ill_schema.specs.Names.{row_name, row_node}
+use Rattle.ill_schema.specs.Numbers.{number_name}
+use Rattle.ill_schema.specs.Texts.{digits, hexadecimal, oid_text}
 
 -- `"` and `\` after a `\`, and what isn't printable ASCII as `\x` and two digits
 abbrev pub escaped : ℕ → List ℕ
@@ -33,35 +27,9 @@ abbrev pub in_brackets : Option (List ℕ) → List ℕ
 in_brackets None = []
 in_brackets (Some name) = codes " (" ++ name ++ codes ")"
 
-abbrev pub hexadecimal : List ℕ → List ℕ
-hexadecimal octets = flat_map digits octets
-
 -- octets of no known meaning: in quotes where all octets are printable ASCII, else in hexadecimal
 abbrev pub content_text : List ℕ → List ℕ
 content_text octets = if list_all is_graphic octets then quoted octets else hexadecimal octets
-
--- the numbers of the subidentifiers: seven bits of each octet, most significant first, where an octet below 80 is the last (X.690, 8.19.2)
-abbrev pub numbers_after : ℕ → List ℕ → List ℕ
-numbers_after n [] = []
-numbers_after n (a ∷ octets) =
-    if nat_lt a 0x80 then (128 * n + a) ∷ numbers_after 0 octets
-    else numbers_after (128 * n + (a - 0x80)) octets
-
--- the first number stands for two components, of which the first is 0, 1 or 2 (X.690, 8.19.4)
-abbrev pub components : List ℕ → List ℕ
-components [] = []
-components (n ∷ numbers) = min 2 (n / 40) ∷ (n - 40 * min 2 (n / 40)) ∷ numbers
-
-abbrev pub with_dots : List ℕ → List ℕ
-with_dots [] = []
-with_dots (n ∷ []) = decimal n
-with_dots (n ∷ m ∷ numbers) = decimal n ++ codes "." ++ with_dots (m ∷ numbers)
-
--- an OBJECT IDENTIFIER in decimals, unless one of its numbers takes more than 63 bits
-abbrev pub oid_text : List ℕ → List ℕ
-oid_text octets =
-    if list_all (λ n. nat_lt n 9_223_372_036_854_775_808) (numbers_after 0 octets) then with_dots (components (numbers_after 0 octets))
-    else codes "oid " ++ hexadecimal octets
 
 -- a leaf in a row of this name
 abbrev pub leaf_text : List ℕ → Simple → List ℕ
@@ -95,21 +63,6 @@ pub record Place : Type 0 where
   pub path : List ℕ
   pub name : List ℕ
   pub node : NodeId
-
-abbrev pub name_or_none : Option (List ℕ) → List ℕ
-name_or_none None = []
-name_or_none (Some name) = name
-
-abbrev pub node_or_left_out : Option Row → NodeId
-node_or_left_out None = LeftOut
-node_or_left_out (Some row) = row.node
-
--- the name and the type of a node's row
-abbrev pub row_name : NodeId → ℕ → List ℕ
-row_name node i = name_or_none (slice_get (names_of node).1 i)
-
-abbrev pub row_node : NodeId → ℕ → NodeId
-row_node node i = node_or_left_out (slice_get (rows_of node) i)
 
 -- names are joined by dots; a row without a name adds none
 abbrev pub within : List ℕ → List ℕ → List ℕ
@@ -169,3 +122,8 @@ body_place a = body_place_in profile_two a
 
 abbrev pub shown_text : ℕ → Apdu → List ℕ
 shown_text i a = shown_text_in profile_two i a
+
+-- the lines of an entry
+abbrev pub entry_text : Place → Option Content → List ℕ
+entry_text p None = []
+entry_text p (Some c) = lines_of p c

@@ -3,4 +3,3 @@ pub mod FieldPaths
 pub mod ObjectIdentifiers
 pub mod Bits
 pub mod Elements
-pub mod MarkedOctets

@@ -1,5 +1,5 @@
 //! Foreign trees as lines.
-ghost use Rattle.std.specs.Prelude.{◌≡◌, ◌≤◌, ◌<◌, ℕ, suc, ◌^◌, ◌/◌, ◌%◌, Bool, nat_eq, List, [], ◌∷◌, ◌++◌, codes, length, map, take, IsTrue};
+ghost use Rattle.std.specs.Prelude.{◌≡◌, ◌≤◌, ◌<◌, ℕ, suc, ◌^◌, ◌/◌, ◌%◌, Bool, List, [], ◌∷◌, ◌++◌, codes, length, map, take, IsTrue};
 ghost use Rattle.std.specs.Int.Digits.{number_from_digits, number_from_digits_after};
 ghost use Rattle.ber_core.specs.Der.{encoding, encodings};
 ghost use Rattle.ber_core.specs.Foreign.{are_foreign, foreign_levels, is_foreign};
@@ -8,17 +8,16 @@ ghost use Rattle.ber_core.specs.Length.{shortest_length};
 ghost use Rattle.ber_core.specs.Tree.{Tree, Trees};
 ghost use Rattle.ill_read.specs.declared.mark.Mark.{Mark};
 ghost use Rattle.ill_text.specs.Shown.{line, tree_text, trees_text};
-ghost use Rattle.ill_text.specs.Marks.{leading_octets, octets_in};
+ghost use Rattle.ill_read.specs.Marks.{leading_octets, octets_in};
 ghost use Rattle.ill_text.specs.code.Elements.{blank, is_last, up_to_last};
 ghost use Rattle.ill_text.specs.code.Sending.{Adds, counted, sending};
 ghost use Rattle.ill_text.specs.code.FieldPaths.{path_of};
 
 use crate::field_path::{FieldPath, put_path};
-use crate::leaf::leading_octets;
 use crate::module_leaf::{put_content, put_hexadecimal};
 use crate::text_sink::TextSink;
 use ber_core::Sink;
-use ill_read::Mark;
+use ill_read::{Mark, leading_octets};
 
 /// The most levels that a foreign tree may have.
 const LEVELS: u8 = 20;

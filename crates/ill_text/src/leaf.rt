@@ -1,7 +1,6 @@
 //! Leaves as lines.
-ghost use Rattle.std.specs.Prelude.{◌≡◌, ◌++◌, ◌<◌, ◌≤◌, [], length, not, nat_eq, codes, flat_map, take, ◌∷◌, IsTrue, Option};
+ghost use Rattle.std.specs.Prelude.{◌≡◌, ◌++◌, ◌<◌, ◌≤◌, [], length, codes, flat_map, take, ◌∷◌, IsTrue, Option};
 ghost use Rattle.std.specs.Fmt.{signed_decimal};
-ghost use Rattle.std.specs.List.{list_all};
 ghost use Rattle.ill_schema.specs.declared.profile.Profile.{Profile as Named};
 ghost use Rattle.ber_leaf.specs.Leaf.{integer_of, value};
 ghost use Rattle.ber_leaf.specs.Simple.{flag, whole};
@@ -11,20 +10,18 @@ ghost use Rattle.ill_schema.specs.Table.{kind_of};
 ghost use Rattle.ill_schema.specs.declared.node.NodeId.{NodeId};
 ghost use Rattle.ill_grammar.specs.LeafTypes.{IsContentIn, leaf_is};
 ghost use Rattle.ill_read.specs.Outline.{IsPassed};
-ghost use Rattle.ill_text.specs.Numbers.{number_name};
+ghost use Rattle.ill_schema.specs.Numbers.{number_name};
 ghost use Rattle.ill_text.specs.Shown.{escaped, in_brackets, leaf_text, line};
-ghost use Rattle.ill_text.specs.Marks.{entry_text, leading_octets, is_octet, is_there, octets_in};
+ghost use Rattle.ill_text.specs.Shown.{entry_text};
+ghost use Rattle.ill_read.specs.Marks.{leading_octets, is_octet, octets_in};
 ghost use Rattle.ill_text.specs.code.Sending.{Adds, sending};
 ghost use Rattle.ill_text.specs.code.FieldPaths.{path_of, place_at};
 
 use crate::field_path::{FieldPath, put_line, put_path};
-use crate::number::number_name;
 use crate::text_sink::TextSink;
-use arrayvec::ArrayVec;
 use ber_core::Sink;
-use ber_leaf::Whole;
-use ill_read::{LeafType, Mark};
-use ill_schema::{Kind, LeafKind, NodeId, PartId, Presence, kind, row};
+use ill_read::{LeafType, Mark, is_octet, is_set, leading_octets, number_in};
+use ill_schema::{Kind, LeafKind, NodeId, PartId, Presence, kind, number_name, row};
 use itoa::Buffer;
 
 pub const DIGITS: &[u8; 16] = b"0123456789abcdef";
@@ -61,37 +58,6 @@ pub fn put_leaf<W: Sink>(
         LeafType::Printable => put_quoted(path, "\"", marks, out, sink),
         LeafType::Date => put_plain(path, marks, out, sink),
         LeafType::Time => put_plain(path, marks, out, sink),
-    }
-}
-
-/// The number of marks of octets that come first.
-pub fn leading_octets(marks: &[Mark]) -> usize
-    ensures exact { result ≡ leading_octets marks.now }
-    ensures within { result ≤ length marks.now }
-{
-    let mut count = 0;
-    for mark in marks {
-        if !is_octet(*mark) {
-            return count;
-        }
-        count += 1;
-    }
-    count
-}
-
-fn is_octet(mark: Mark) -> bool
-    ensures { result ≡ is_octet mark }
-{
-    matches!(&mark, Mark::Octet(_))
-}
-
-/// Tells whether a row that was passed has a default.
-pub fn has_default(part: PartId) -> bool
-    ensures { (e : Option Content) → IsPassed part e → result ≡ is_there e }
-{
-    match row(part) {
-        Some(row) => matches!(row.presence, Presence::Default(_)),
-        None => false,
     }
 }
 
@@ -143,28 +109,6 @@ fn flag_text(is_true: bool) -> &'static [u8]
     ensures { result.now ≡ leaf_text [] (flag is_true) }
 {
     if is_true { b"TRUE" } else { b"FALSE" }
-}
-
-/// Tells whether any octet isn't 0.
-pub fn is_set(octets: &[Mark]) -> bool
-    ensures { result ≡ not (list_all (nat_eq 0) (octets_in octets.now)) }
-{
-    for mark in octets {
-        if has_set(*mark) {
-            return true;
-        }
-    }
-    false
-}
-
-/// Tells whether it is an octet that isn't 0.
-fn has_set(mark: Mark) -> bool
-    ensures { result ≡ not (list_all (nat_eq 0) (octets_in (mark ∷ []))) }
-{
-    match mark {
-        Mark::Octet(octet) => octet != 0,
-        _ => false,
-    }
 }
 
 /// Puts a line with the number that the marks begin with, and returns how many octets it has.
@@ -364,41 +308,6 @@ fn put_mark<W: Sink>(mark: Mark, out: &mut TextSink, sink: &mut W)
 {
     match mark {
         Mark::Octet(octet) => out.put_octet(sink, octet),
-        _ => {}
-    }
-}
-
-/// The number that octets are in two's complement; 0 where there are no octets or more than eight.
-pub fn number_in(octets: &[Mark]) -> i64
-    ensures { 0 < length (octets_in octets.now) → length (octets_in octets.now) ≤ 8
-        → result ≡ integer_of (octets_in octets.now) }
-{
-    let octets = first_eight(octets);
-    if octets.is_empty() {
-        return 0;
-    }
-    Whole::read(octets.as_slice())
-}
-
-/// The octets, where they are eight at most.
-fn first_eight(octets: &[Mark]) -> ArrayVec<u8, 8>
-    ensures { length (octets_in octets.now) ≤ 8 → result.items ≡ octets_in octets.now }
-{
-    let mut all = ArrayVec::new();
-    for mark in octets {
-        push_mark(&mut all, *mark);
-    }
-    all
-}
-
-fn push_mark(octets: &mut ArrayVec<u8, 8>, mark: Mark)
-    ensures { length (octets.old.items ++ octets_in (mark ∷ [])) ≤ 8
-        → octets.new.items ≡ octets.old.items ++ octets_in (mark ∷ []) }
-{
-    match mark {
-        Mark::Octet(octet) => {
-            let _ = octets.try_push(octet);
-        }
         _ => {}
     }
 }

@@ -13,17 +13,10 @@ mod laws;
 mod leaf;
 mod message;
 mod module_leaf;
-mod number;
-mod octets;
-mod part;
 mod show;
 mod text;
 mod text_sink;
 
 pub use laws::lifted_texts_are_the_same;
-pub use leaf::{is_set, leading_octets, number_in};
 pub use message::{outline_as, outline_of, show_text};
-pub use number::number_name;
-pub use part::{row_name, row_node};
-pub use show::{after_first, alternative, at_end, first_mark, passed};
 pub use text::Text;

@@ -1,5 +1,5 @@
 //! The text of a message that is at hand.
-ghost use Rattle.std.specs.Prelude.{◌≡◌, ℕ, List, IfOk};
+ghost use Rattle.std.specs.Prelude.{◌≡◌, IfOk};
 ghost use Rattle.ber_leaf.specs.Profile.{profile_two};
 ghost use Rattle.ill_schema.specs.Apdu.{Apdu, SpellsApdu};
 ghost use Rattle.ill_schema.specs.Message.{apdu_of};

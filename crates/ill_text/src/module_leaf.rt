@@ -6,19 +6,20 @@ ghost use Rattle.ber_leaf.specs.Profile.{is_graphic};
 ghost use Rattle.ill_schema.specs.declared.profile.Profile.{Profile as Named};
 ghost use Rattle.ill_grammar.specs.LeafTypes.{IsContentIn, module_leaf_is};
 ghost use Rattle.ill_read.specs.declared.mark.Mark.{Mark};
-ghost use Rattle.ill_text.specs.Shown.{components, content_text, hexadecimal, leaf_text, line, oid_text, with_dots};
-ghost use Rattle.ill_text.specs.Marks.{leading_octets, octets_in};
+ghost use Rattle.ill_schema.specs.Texts.{components, hexadecimal, oid_text, with_dots};
+ghost use Rattle.ill_text.specs.Shown.{content_text, leaf_text, line};
+ghost use Rattle.ill_read.specs.Marks.{leading_octets, octets_in};
 ghost use Rattle.ill_text.specs.code.Bits.{filled_text};
 ghost use Rattle.ill_text.specs.code.ObjectIdentifiers.{IsFirst, are_small, dotted, numbers_in};
 ghost use Rattle.ill_text.specs.code.Sending.{Adds, sending};
 ghost use Rattle.ill_text.specs.code.FieldPaths.{path_of};
 
 use crate::field_path::{FieldPath, put_line, put_path};
-use crate::leaf::{DIGITS, leading_octets, put_escaped, put_quoted};
+use crate::leaf::{DIGITS, put_escaped, put_quoted};
 use crate::text_sink::TextSink;
 use ber_core::Sink;
 use ill_grammar::ModuleLeaf;
-use ill_read::Mark;
+use ill_read::{Mark, leading_octets};
 use itoa::Buffer;
 
 /// Puts the line of a leaf whose octets the marks begin with, and returns how many octets it has.

@@ -1,26 +1,26 @@
 //! Outlines as lines.
-ghost use Rattle.std.specs.Prelude.{◌≡◌, ◌<◌, ◌≤◌, ℕ, List, [], ◌∷◌, ◌++◌, length, map, drop, not, slice_get, IsTrue, Option};
+ghost use Rattle.std.specs.Prelude.{◌≡◌, ◌<◌, ◌≤◌, ℕ, List, [], ◌∷◌, ◌++◌, length, map, not, IsTrue, Option};
 ghost use Rattle.ill_schema.specs.Content.{Content, Entries, Items, sequence, list};
 ghost use Rattle.ill_read.specs.Outline.{AreEntries, AreItems, IsMarked};
 ghost use Rattle.ill_read.specs.declared.mark.Mark.{Mark};
-ghost use Rattle.ill_text.specs.Marks.{IsEntry, alternative_in, entry_text, is_at_end, is_there, passed_in};
+ghost use Rattle.ill_text.specs.Shown.{entry_text};
+ghost use Rattle.ill_read.specs.Marks.{IsEntry, is_there};
 ghost use Rattle.ill_text.specs.code.Sending.{Adds, sending};
 ghost use Rattle.ill_text.specs.code.FieldPaths.{path_of, place_at};
 ghost use Rattle.ill_text.specs.Shown.{Place, item_of, leaf_text, line, lines_of, part};
 ghost use Rattle.ill_schema.specs.declared.profile.Profile.{Profile as Named};
-ghost use Rattle.ill_text.specs.code.MarkedOctets.{SaysOctets};
+ghost use Rattle.ill_read.specs.code.MarkedOctets.{SaysOctets};
 ghost use Rattle.ber_leaf.specs.Leaf.{value};
 ghost use Rattle.ill_grammar.specs.LeafTypes.{IsContentIn, leaf_is};
 
 use crate::field_path::{FieldPath, put_line};
 use crate::foreign::put_foreign;
-use crate::leaf::{has_default, put_default, put_leaf};
+use crate::leaf::{put_default, put_leaf};
 use crate::module_leaf::{put_bits, put_module_leaf};
-use crate::part::{row_name, row_node};
 use crate::text_sink::TextSink;
 use ber_core::Sink;
-use ill_read::{LeafType, Mark};
-use ill_schema::{NodeId, PartId};
+use ill_read::{LeafType, Mark, after_first, at_end, first_mark, has_default, passed};
+use ill_schema::{NodeId, PartId, row_name, row_node};
 
 /// Puts the lines of the value that the marks begin with, of this node in a row of this name, and returns the marks after it.
 #[cycle(show)]
@@ -285,51 +285,4 @@ fn put_item<'m, W: Sink>(
 {
     let inside = FieldPath::Item(&*path, i);
     put_value(marks, &inside, name, row_node(node, 0), out, sink)
-}
-
-/// Tells whether no mark is left, or the end comes first.
-pub fn at_end(marks: &[Mark]) -> bool
-    ensures { result ≡ is_at_end marks.now }
-{
-    match marks.first() {
-        Some(mark) => matches!(mark, Mark::End),
-        None => true,
-    }
-}
-
-/// The row that was passed, where its mark comes first.
-pub fn passed(marks: &[Mark]) -> Option<PartId>
-    ensures { result ≡ passed_in marks.now }
-{
-    match marks {
-        [Mark::Absent(part), ..] => Some(*part),
-        _ => None,
-    }
-}
-
-/// The alternative, where its mark comes first.
-pub fn alternative(marks: &[Mark]) -> Option<u8>
-    ensures { result ≡ alternative_in marks.now }
-{
-    match marks {
-        [Mark::Alternative(row), ..] => Some(*row),
-        _ => None,
-    }
-}
-
-/// The first mark, if there is one.
-pub fn first_mark(marks: &[Mark]) -> Option<Mark>
-    ensures { result ≡ slice_get marks.now 0 }
-{
-    marks.first().copied()
-}
-
-/// The marks after the first.
-pub fn after_first(marks: &[Mark]) -> &[Mark]
-    ensures { result.now ≡ drop 1 marks.now }
-{
-    match marks.split_first() {
-        Some((_, rest)) => rest,
-        None => marks,
-    }
 }

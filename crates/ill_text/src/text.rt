@@ -11,13 +11,11 @@ ghost use Rattle.ill_text.specs.code.Sending.{Adds, sending};
 ghost use Rattle.ill_text.specs.code.FieldPaths.{head_line};
 
 use crate::field_path::FieldPath;
-use crate::octets::VecSink;
-use crate::part::{row_name, row_node};
-use crate::show::{after_first, alternative, put_value};
+use crate::show::put_value;
 use crate::text_sink::TextSink;
-use ber_core::Sink;
-use ill_read::{Mark, Outline};
-use ill_schema::Profile;
+use ber_core::{Sink, VecSink};
+use ill_read::{Mark, Outline, after_first, alternative};
+use ill_schema::{Profile, row_name, row_node};
 use itoa::Buffer;
 use std::alloc::{AllocError, Global};
 

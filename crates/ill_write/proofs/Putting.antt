@@ -6,18 +6,9 @@ use Rattle.std.proofs.lemmas.List.{take-append-drop, take_at}
 use Rattle.std.specs.Prelude.{IsErr}
 use Rattle.std.specs.Prelude.{MatchResult}
 use Rattle.std.specs.Io.KnownBytes.{Appends}
+use Rattle.std.proofs.KnownBytes.{Appends-trans}
 use Rattle.ber_core.specs.declared.source.Broken.{Broken}
 use Rattle.ill_write.specs.declared.buffered_sink.BufferedSink.{BufferedSink}
-
-pub appends_nothing : (a : Option (List ℕ)) → Appends a a []
-appends_nothing None = tt
-appends_nothing (Some xs) = sym (append-nil xs)
-
-pub appends_then : (a b c : Option (List ℕ)) (xs ys : List ℕ) → Appends a b xs → Appends b c ys → Appends a c (xs ++ ys)
-appends_then None b c xs ys h k = tt
-appends_then (Some as') None c xs ys h k = absurd h
-appends_then (Some as') (Some bs) None xs ys h k = absurd k
-appends_then (Some as') (Some bs) (Some cs) xs ys h k = k ∙ ap (λ z. z ++ ys) h ∙ append_assoc as' xs ys
 
 counted_then : (m n k : ℕ) → k ≡ counted m → counted (k + n) ≡ counted (m + n)
 counted_then m n k e = omega arith
@@ -54,7 +45,7 @@ pub sent_all : (start a b : Option (List ℕ)) (given xs : List ℕ) (p q : Buff
     → Stands start (given ++ xs) b q
 sent_all start a b given xs p q h e k w f = record {
   sent = h.sent ++ xs;
-  in_sink = appends_then start a b h.sent xs h.in_sink k;
+  in_sink = Appends-trans start a b h.sent xs h.in_sink k;
   all = ap (λ z. z ++ xs) (h.all ∙ ap (λ (n : ℕ). h.sent ++ take n p.waiting) e ∙ append-nil h.sent) ∙ sym (append-nil (h.sent ++ xs)) ∙ ap (λ (n : ℕ). (h.sent ++ xs) ++ take n q.waiting) (sym f);
   count = w ∙ counted_then (length h.sent) (length xs) p.written h.count ∙ ap counted (sym (length-append h.sent xs));
 }
@@ -67,14 +58,14 @@ pub flushed : (r : Result (Unit {0}) Broken) (a b : Option (List ℕ)) (p q : Bu
 unfolding Puts
 flushed (Ok x) a b p q s e = λ start given h. record {
   sent = given;
-  in_sink = subst (λ z. Appends start b z) (sym h.all) (appends_then start a b h.sent _ h.in_sink s.0);
+  in_sink = subst (λ z. Appends start b z) (sym h.all) (Appends-trans start a b h.sent _ h.in_sink s.0);
   all = ap (λ z. given ++ z) (sym (ap (λ (n : ℕ). take n q.waiting) (e refl)));
   count = s.1 ∙ counted_then (length h.sent) (length (take p.len p.waiting)) p.written h.count ∙ ap counted (sym (length-append h.sent _)) ∙ ap (λ z. counted (length z)) (sym h.all);
 }
 flushed (Err x) a b p q s e = λ start given h. record {
   sent = h.sent ++ s.sent;
   rest = s.rest;
-  in_sink = appends_then start a b h.sent s.sent h.in_sink s.in_sink;
+  in_sink = Appends-trans start a b h.sent s.sent h.in_sink s.in_sink;
   begins = append-nil given ∙ h.all ∙ ap (λ z. h.sent ++ z) s.begins ∙ sym (append_assoc h.sent s.sent s.rest);
   not_all = longer given [] h.sent s.sent (take p.len p.waiting) h.all s.not_all;
   count = s.count ∙ counted_then (length h.sent) (length s.sent) p.written h.count ∙ ap counted (sym (length-append h.sent s.sent));
@@ -89,7 +80,7 @@ sent_on (Err x) xs a b p q e s f = λ start given h.
     record {
       sent = h.sent ++ s.sent;
       rest = s.rest;
-      in_sink = appends_then start a b h.sent s.sent h.in_sink s.in_sink;
+      in_sink = Appends-trans start a b h.sent s.sent h.in_sink s.in_sink;
       begins = ap (λ z. z ++ xs) all ∙ ap (λ z. h.sent ++ z) s.begins ∙ sym (append_assoc h.sent s.sent s.rest);
       not_all = omega (arith, s.not_all, ap length all, length-append given xs, length-append h.sent s.sent);
       count = s.count ∙ counted_then (length h.sent) (length s.sent) p.written h.count ∙ ap counted (sym (length-append h.sent s.sent));

@@ -81,7 +81,7 @@ pub fn apdu_row(message: &Message) -> Row
     // What is said of the body says that there is the row.
     let _body = message.body();
     row(PartId {
-        node: NodeId::ILL_APDU,
+        node: NodeId::IllApdu,
         row: message.apdu() - 1,
     })
     .unwrap()

@@ -7,7 +7,6 @@
 #![tactic(auto)]
 
 mod buffered_sink;
-mod bytes;
 mod element;
 mod failure;
 mod laws;

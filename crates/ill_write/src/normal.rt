@@ -10,12 +10,11 @@ ghost use Rattle.ill_write.specs.code.Puts.{Puts};
 ghost use Rattle.ill_write.specs.Written.{IfPartWritten};
 
 use crate::buffered_sink::BufferedSink;
-use crate::bytes::VecSink;
 use crate::element::apdu_row;
 use crate::failure::WriteFailure;
 use crate::sizes::Sizes;
 use crate::write::write_row;
-use ber_core::{Broken, Sink};
+use ber_core::{Broken, Sink, VecSink};
 use ill_schema::Message;
 use std::alloc::{AllocError, Global};
 

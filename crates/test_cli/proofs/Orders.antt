@@ -1,7 +1,8 @@
 -- What was found is one command, with one list of rows; so are its files, its flags and whether they are the same word.
-use Rattle.std.proofs.Common.{◌≡◌, ℕ, IfOk, List, [], ◌∷◌, Option, Some, None, Result, Ok, Err, IfErr, unwrap_or, option_map, codes, length, slice_index, slice_index_or, ◌≢◌, arith, refl, sym, ap, ap₂, subst, ◌∙◌}
-use Rattle.clap.specs.Walk.{Row, Text, first_of}
-use Rattle.ill_args.specs.Orders.{files_in, is_set, profile_name, HasFiles, HasSameWord, IsOrderOf, NamesProfile, verb, verb_name}
+use Rattle.std.proofs.Common.{◌≡◌, ℕ, IfOk, List, [], ◌∷◌, Option, Some, None, Result, Ok, Err, IfErr, unwrap_or, option_map, codes, length, slice_index, slice_index_or, ◌≢◌, ◌<◌, ◌^◌, arith, refl, sym, ap, ap₂, subst, ◌∙◌}
+use Rattle.std.specs.Str.Parse.{IsNumeral, digits_value, without_leading_plus}
+use Rattle.clap.specs.Walk.{Row, Text, first_of, one_of}
+use Rattle.ill_args.specs.Orders.{files_in, is_set, profile_name, HasFiles, HasSameWord, IsNumber, IsOrderOf, NamesProfile, verb, verb_name}
 use Rattle.ill_args.specs.Refused.{IsFaultOf}
 use Rattle.ill_schema.specs.declared.profile.Profile.{Profile}
 use Rattle.ill_args.specs.declared.fault.LineFault.{LineFault}
@@ -59,6 +60,22 @@ profile_is Profile.Module Profile.Module e = refl
 pub one_profile : (rows more : List Row) (p q : Profile) → rows ≡ more → NamesProfile rows p → NamesProfile more q → p ≡ q
 one_profile rows more p q e h k =
     profile_is p q (ap (λ (o : Option Text). unwrap_or o []) (sym h ∙ ap (first_of (codes "profile")) e ∙ k))
+
+-- a word is of one number
+one_number : (word again : Option Text) (m n : Option ℕ) → word ≡ again → IsNumber word m → IsNumber again n → m ≡ n
+one_number None None m n e h k = h ∙ sym k
+one_number None (Some again) m n e h k = absurd cc
+one_number (Some word) None m n e h k = absurd cc
+one_number (Some word) (Some again) (Some m) (Some n) e h k =
+    let same : word ≡ again = ap (λ (o : Option Text). unwrap_or o []) e in
+    ap Some (h.1 ∙ ap (λ (w : Text). digits_value 10 (without_leading_plus w)) same ∙ sym k.1)
+one_number (Some word) (Some again) (Some m) None e h k =
+    let same : word ≡ again = ap (λ (o : Option Text). unwrap_or o []) e in
+    absurd (k (subst (λ (w : Text). IsNumeral 10 (without_leading_plus w) × (digits_value 10 (without_leading_plus w) < 2 ^ 32)) same h.0))
+one_number (Some word) (Some again) None (Some n) e h k =
+    let same : word ≡ again = ap (λ (o : Option Text). unwrap_or o []) e in
+    absurd (h (subst (λ (w : Text). IsNumeral 10 (without_leading_plus w) × (digits_value 10 (without_leading_plus w) < 2 ^ 32)) (sym same) k.0))
+one_number (Some word) (Some again) None None e h k = refl
 
 abbrev Named : Type 0
 Named = List Text × (Option Text × Option Text)
@@ -118,6 +135,8 @@ same_flags found one other h k =
       h.summary ∙ flag (codes "summary") ∙ sym k.summary,
       h.json ∙ flag (codes "json") ∙ sym k.json,
       h.whole ∙ flag (codes "whole") ∙ sym k.whole,
+      one_number _ _ one.message other.message (ap (one_of (codes "message")) rows) h.message k.message,
+      h.html ∙ flag (codes "html") ∙ sym k.html,
     )
 
 -- ---- the same word

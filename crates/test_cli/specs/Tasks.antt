@@ -16,4 +16,6 @@ abbrev pub IsSameTask : Task → Task → Type 0
 IsSameTask t u = (verb t ≡ verb u) × (named t ≡ named u)
 
 abbrev pub HasSameFlags : Order → Order → Type 0
-HasSameFlags o p = (o.profile ≡ p.profile) × (o.hex ≡ p.hex) × (o.lines ≡ p.lines) × (o.keep_going ≡ p.keep_going) × (o.summary ≡ p.summary) × (o.json ≡ p.json) × (o.whole ≡ p.whole)
+HasSameFlags o p =
+    (o.profile ≡ p.profile) × (o.hex ≡ p.hex) × (o.lines ≡ p.lines) × (o.keep_going ≡ p.keep_going) × (o.summary ≡ p.summary) × (o.json ≡ p.json) × (o.whole ≡ p.whole)
+    × (o.message ≡ p.message) × (o.html ≡ p.html)

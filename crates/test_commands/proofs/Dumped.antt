@@ -1,5 +1,5 @@
 -- What a dump of a known input says.
-use Rattle.std.proofs.Common.{◌≡◌, ◌<◌, ◌≤◌, ℕ, Bool, false, List, [], ◌∷◌, ◌++◌, Option, Some, Result, Ok, Err, length, sym, ap, subst, ◌∙◌, inl, inr, arith, append-nil, length-append, refl}
+use Rattle.std.proofs.Common.{◌≡◌, ◌<◌, ◌≤◌, ℕ, Bool, false, List, [], ◌∷◌, ◌++◌, Option, Some, None, Result, Ok, Err, length, sym, ap, subst, ◌∙◌, inl, inr, arith, append-nil, length-append, refl}
 use Rattle.std.proofs.lemmas.Bool.{cases_lt}
 use Rattle.ber_leaf.specs.Profile.{Profile}
 use Rattle.ill_schema.specs.Apdu.{Apdu, IsStream}
@@ -7,11 +7,11 @@ use Rattle.ill_schema.specs.Profiles.{profile_of}
 use Rattle.ill_schema.proofs.Streams.{parts_accept, spells_some, stream_fewer}
 use Rattle.ill_refusals.specs.Fault.{Fault, fault_of}
 use Rattle.ill_refusals.specs.Outcome.{OnlyRefuses}
-use Rattle.ill_commands.specs.Runs.{IsFault}
-use Rattle.ill_commands.specs.declared.fault.RunFault.{RunFault}
-use Rattle.std.specs.Prelude.{IfErr, OnOk}
+use Rattle.ill_normal.specs.Inputs.{IsFault}
+use Rattle.ill_normal.specs.declared.run_fault.RunFault.{RunFault}
+use Rattle.std.specs.Prelude.{IfErr, IfOk}
 use Rattle.ill_dump.specs.declared.run.DumpOptions.{DumpOptions}
-use Rattle.ill_dump.specs.Dumped.{AreDumped, DumpDone, DumpFails, DumpsUpTo, StopsIn}
+use Rattle.ill_dump.specs.Dumped.{AreDumped, DumpDone, DumpFails, DumpsUpTo, IsLast, StopsIn}
 
 front_none : (b t : List ℕ) → [] ≡ b ++ t → b ≡ []
 front_none [] t e = cc
@@ -37,27 +37,32 @@ none_refused p s rest xs ys f h k some only = elim (cases_lt (length xs) (length
   | inr ge ↦ (let m = stream_fewer p s rest [] ys xs k h (omega (arith, ge)) in not_refused p m.0 rest f m.2 some only)
 ]
 
-pub whole : (dump : DumpOptions) (s t : List ℕ) (held held' : Option (List ℕ)) (d : AreDumped dump (Some s) (Some t) held held') → IsStream (profile_of dump.profile) s d.apdus []
-whole dump s t held held' d =
-    let e : s ≡ d.octets = d.taken ∙ ap (λ l. d.octets ++ l) d.end ∙ append-nil d.octets in
+-- where no one message is asked for, the last one is at the end
+at_end : (dump : DumpOptions) (n : ℕ) (t : List ℕ) → dump.only ≡ None → IsLast dump n (Some t) → t ≡ []
+at_end dump n t e (inl h) = h
+at_end dump n t e (inr h) = absurd (let no : None ≡ Some n = sym e ∙ h in cc)
+
+pub whole : (dump : DumpOptions) (s t : List ℕ) (held held' : Option (List ℕ)) (n : ℕ) → dump.only ≡ None → (d : AreDumped dump (Some s) (Some t) held held' n) → IsStream (profile_of dump.profile) s d.apdus []
+whole dump s t held held' n all d =
+    let e : s ≡ d.octets = d.taken ∙ ap (λ l. d.octets ++ l) (at_end dump n t all d.last) ∙ append-nil d.octets in
     subst (λ l. IsStream (profile_of dump.profile) l d.apdus []) (sym e) d.stream
 
-pub ends : (dump : DumpOptions) (s t : List ℕ) (held held' : Option (List ℕ)) → AreDumped dump (Some s) (Some t) held held' → (e : RunFault) → StopsIn (profile_of dump.profile) s e → IsFault e
-ends dump s t held held' d (RunFault.Refused message refusal) h = absurd (none_refused (profile_of dump.profile) s h.1 d.apdus h.0 (fault_of refusal) (whole dump s t held held' d) h.2 h.4 h.5)
-ends dump s t held held' d RunFault.TooManyMessages h = absurd (no_more (profile_of dump.profile) s h.1 d.apdus h.0 (whole dump s t held held' d) h.2 h.4 (omega (arith, d.few, h.3)))
-ends dump s t held held' d (RunFault.RefusedSide side refusal) h = h
-ends dump s t held held' d RunFault.OddHex h = h
-ends dump s t held held' d (RunFault.BadHex n) h = h
-ends dump s t held held' d RunFault.HexTooLong h = h
-ends dump s t held held' d RunFault.OutOfMemory h = h
-ends dump s t held held' d RunFault.ReadFault h = h
-ends dump s t held held' d (RunFault.WriteFault n) h = h
+pub ends : (dump : DumpOptions) (s t : List ℕ) (held held' : Option (List ℕ)) (n : ℕ) → dump.only ≡ None → AreDumped dump (Some s) (Some t) held held' n → (e : RunFault) → StopsIn (profile_of dump.profile) s e → IsFault e
+ends dump s t held held' n all d (RunFault.Refused message refusal) h = absurd (none_refused (profile_of dump.profile) s h.1 d.apdus h.0 (fault_of refusal) (whole dump s t held held' n all d) h.2 h.4 h.5)
+ends dump s t held held' n all d RunFault.TooManyMessages h = absurd (no_more (profile_of dump.profile) s h.1 d.apdus h.0 (whole dump s t held held' n all d) h.2 h.4 (omega (arith, d.few, d.counted, h.3)))
+ends dump s t held held' n all d (RunFault.RefusedSide side refusal) h = h
+ends dump s t held held' n all d RunFault.OddHex h = h
+ends dump s t held held' n all d (RunFault.BadHex place) h = h
+ends dump s t held held' n all d RunFault.HexTooLong h = h
+ends dump s t held held' n all d RunFault.OutOfMemory h = h
+ends dump s t held held' n all d RunFault.ReadFault h = h
+ends dump s t held held' n all d (RunFault.WriteFault count) h = h
 
 module _ (dump : DumpOptions) (s t : List ℕ) (held held' : Option (List ℕ)) where
-  pub done : (r : Result Unit RunFault) → dump.hex ≡ false → r ≡ Ok tt → OnOk r (DumpDone dump.hex dump (Some s) (Some t) held held') → AreDumped dump (Some s) (Some t) held held'
-  done r p e h = subst (λ b. DumpDone b dump (Some s) (Some t) held held') p (subst (λ r. OnOk r (DumpDone dump.hex dump (Some s) (Some t) held held')) e h)
+  pub done : (r : Result ℕ RunFault) (n : ℕ) → dump.hex ≡ false → r ≡ Ok n → IfOk r (DumpDone dump.hex dump (Some s) (Some t) held held') → AreDumped dump (Some s) (Some t) held held' n
+  done r n p e h = subst (λ b. DumpDone b dump (Some s) (Some t) held held' n) p (subst (λ r. IfOk r (DumpDone dump.hex dump (Some s) (Some t) held held')) e h)
 
-  pub fails : (r : Result Unit RunFault) (broken : Bool) (e : RunFault) → dump.hex ≡ false → r ≡ Err e → IfErr r (DumpFails dump.hex dump (Some s) (Some t) broken held held')
+  pub fails : (r : Result ℕ RunFault) (broken : Bool) (e : RunFault) → dump.hex ≡ false → r ≡ Err e → IfErr r (DumpFails dump.hex dump (Some s) (Some t) broken held held')
       → StopsIn (profile_of dump.profile) s e × DumpsUpTo dump e held held'
   fails r broken e p f h = subst (λ b. DumpFails b dump (Some s) (Some t) broken held held' e) p (subst (λ r. IfErr r (DumpFails dump.hex dump (Some s) (Some t) broken held held')) f h)
 

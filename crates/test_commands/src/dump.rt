@@ -1,10 +1,11 @@
 //! Dumps out of sources and into sinks that break, and without memory.
 
 mod contracts;
+mod going;
 
 use ber_core::{Pieces, Room, Unbuffered};
 use ill_commands::RunFault;
-use ill_dump::{DumpOptions, run_dump};
+use ill_dump::{DumpFormat, DumpOptions, run_dump};
 use ill_schema::Profile;
 use std::alloc::{AllocError, Global};
 use std::test::Fail;
@@ -65,6 +66,8 @@ const PLAIN: DumpOptions<'static> = DumpOptions {
     hex: false,
     name: "-",
     names_input: false,
+    only: None,
+    format: DumpFormat::Text,
 };
 
 /// The pieces in which octets come from a source, and go into a sink.
@@ -90,7 +93,7 @@ fn dumped(
     octets: &[u8],
     text: &str,
     how: How,
-) -> (Result<(), RunFault>, Option<usize>) {
+) -> (Result<u32, RunFault>, Option<usize>) {
     let mut source = Pieces::new(octets, how.per_call.0.max(1), how.source_breaks);
     let mut sink: Room<2048> = Room::new(how.per_call.1.max(1), how.sink_breaks);
     let result = run_dump::<Pieces<'_>, Unbuffered, Room<2048>>(
@@ -108,7 +111,7 @@ fn dumped(
 }
 
 /// Tells whether the second message is refused at 7.
-fn is_refused(done: &Result<(), RunFault>) -> bool {
+fn is_refused(done: &Result<u32, RunFault>) -> bool {
     match done {
         Err(RunFault::Refused { message, refusal }) => *message == 2 && refusal.at == 7,
         _ => false,
@@ -135,6 +138,8 @@ const NAMED: DumpOptions<'static> = DumpOptions {
     hex: true,
     name: "a b",
     names_input: true,
+    only: None,
+    format: DumpFormat::Text,
 };
 
 #[test]
@@ -155,7 +160,7 @@ fn a_dump_of_a_named_file_names_it(rt: HostRuntime) {
 fn what_is_not_normal_is_noted(rt: HostRuntime) -> Result<(), Fail> {
     let octets = octets_of(rt.alloc(), SPELLED)?;
     let found = dumped(rt.alloc(), PLAIN, &octets, NOTED, SOUND);
-    assert!(rt; found == (Ok(()), Some(NOTED.len())));
+    assert!(rt; found == (Ok(1), Some(NOTED.len())));
     Ok(())
 }
 
@@ -258,12 +263,21 @@ const ITEM_LINES: &str = "     52      b0 0e  item-id
      65            82 01  encoding.arbitrary = bits 0
 ";
 
-/// The lines of a dump in profile 2 for the extension, which it doesn't read.
+/// The lines of a dump in profile 2 for the extension, which it doesn't read, and whose elements are listed by their framing.
 const HINT: &str = "refused at 33: LeftOut Expired.expired-extensions
     this part is not read
     path Expired.expired-extensions
     found [49] constructed: bf 31
     --profile module reads this part
+     33      bf 31 12  [49]  (not judged)
+     36        30 10  [UNIVERSAL 16]  (not judged)
+     38          80 01  [0] = 01  (not judged)
+     41          81 01  [1] = 00  (not judged)
+     44          a2 80  [2]  (not judged)
+     46            30 80  [UNIVERSAL 16]  (not judged)
+     48              05 00  [UNIVERSAL 5] = \"\"  (not judged)
+     50            00 00  end mark  (not judged)
+     52          00 00  end mark  (not judged)
 ";
 
 /// Tells whether the dump of a message in a profile ends with these lines.

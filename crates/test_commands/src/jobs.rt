@@ -4,6 +4,7 @@ mod contracts;
 mod going;
 mod json;
 mod profiles;
+mod refused;
 mod runs;
 mod sames;
 mod shows;

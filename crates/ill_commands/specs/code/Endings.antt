@@ -2,11 +2,11 @@
 use Rattle.std.specs.Prelude.{ℕ, ◌+◌, Bool}
 use Rattle.ill_normal.specs.declared.messages.StreamError.{StreamError}
 use Rattle.ill_normal.specs.declared.messages.StreamErrorKind.{StreamErrorKind}
-use Rattle.ill_commands.specs.declared.fault.RunFault.{RunFault}
+use Rattle.ill_normal.specs.declared.run_fault.RunFault.{RunFault}
 use Rattle.ill_commands.specs.declared.job.Counts.{Counts}
 use Rattle.ill_commands.specs.declared.job.Job.{Job}
-use Rattle.ill_commands.specs.declared.job.Verdict.{Verdict}
-use Rattle.ill_commands.specs.Output.{verdict_if}
+use Rattle.ill_normal.specs.declared.verdict.Verdict.{Verdict}
+use Rattle.ill_normal.specs.Inputs.{verdict_if}
 use Rattle.ill_commands.specs.Runs.{fault_at}
 
 -- after this many messages, and this many octets that were written
@@ -18,6 +18,7 @@ fault_after whole written StreamErrorKind.TooMany = RunFault.TooManyMessages
 -- the verdict where all messages that were counted are good, or not
 abbrev pub verdict_by : Job → Bool → Verdict
 verdict_by Job.Check all_good = verdict_if all_good
+verdict_by Job.CheckJson all_good = verdict_if all_good
 verdict_by _ all_good = Verdict.Good
 
 abbrev pub counts_with : ℕ → ℕ → ℕ → Counts

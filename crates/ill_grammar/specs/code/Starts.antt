@@ -3,7 +3,8 @@ use Rattle.std.specs.Prelude.{◌≡◌, ℕ, List, Option, Some, None, IsTrue}
 use Rattle.ber_core.specs.Identifier.{Tag}
 use Rattle.ill_schema.specs.declared.node.NodeId.{NodeId}
 use Rattle.ill_refusals.specs.Element.{Element, Start}
-use Rattle.ill_grammar.specs.Cells.{element_in, element_with, IsAlternative}
+use Rattle.ill_grammar.specs.Elements.{element_with}
+use Rattle.ill_grammar.specs.Cells.{element_in, IsAlternative}
 use Rattle.ill_grammar.specs.code.Meant.{opens_in}
 use Rattle.ill_grammar.specs.declared.cell.Cell.{Cell}
 

@@ -1,10 +1,11 @@
 -- Tokens that are put one after another.
-use Rattle.std.specs.Prelude.{◌≡◌, ℕ, false, List, [], ◌∷◌, ◌++◌, Option, Some, None, codes, decimal}
+use Rattle.std.specs.Prelude.{◌≡◌, ℕ, false, List, [], ◌∷◌, ◌++◌, Option, Some, None, option_map, codes, decimal}
 use Rattle.json.specs.Token.{Token, key, string, number, boolean}
 use Rattle.json.specs.Tree.{json_tokens}
 use Rattle.ill_schema.specs.Content.{Content}
 use Rattle.ill_schema.specs.declared.node.NodeId.{NodeId}
-use Rattle.ill_text.specs.Shown.{row_name, row_node}
+use Rattle.ill_schema.specs.Names.{row_name, row_node}
+use Rattle.ill_schema.specs.Texts.{hexadecimal}
 use Rattle.ill_json.specs.Json.{value_json}
 use Rattle.ill_json.specs.declared.line.LineHead.{LineHead}
 use Rattle.ill_json.specs.declared.writing.LineWriter.{LineWriter}
@@ -31,6 +32,19 @@ value_tokens row node (Some c) = json_tokens (value_json row node c)
 abbrev pub file_tokens : Option (List ℕ) → List Token
 file_tokens None = []
 file_tokens (Some name) = key (codes "file") ∷ string name ∷ []
+
+-- the member that has a text of this name, and one that has a number
+abbrev pub text_tokens : List ℕ → Option (List ℕ) → List Token
+text_tokens name None = []
+text_tokens name (Some text) = key name ∷ string text ∷ []
+
+abbrev pub count_tokens : List ℕ → Option ℕ → List Token
+count_tokens name None = []
+count_tokens name (Some n) = key name ∷ number (decimal n) ∷ []
+
+-- the member of a digest
+abbrev pub digest_tokens : Option (List ℕ) → List Token
+digest_tokens digest = text_tokens (codes "digest") (option_map hexadecimal digest)
 
 -- the members beside the value, with this name of the APDU
 abbrev pub head_tokens : LineHead → List ℕ → List Token

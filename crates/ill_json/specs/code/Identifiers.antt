@@ -2,7 +2,7 @@
 use Rattle.std.specs.Prelude.{◌≡◌, ℕ, ◌+◌, ◌-◌, ◌*◌, min, Bool, false, nat_lt, List, ◌∷◌, ◌++◌, codes, decimal, if◌then◌else◌}
 use Rattle.ill_read.specs.declared.mark.Mark.{Mark}
 use Rattle.ill_read.specs.declared.mark.Mark.TheVariants as mark
-use Rattle.ill_text.specs.Shown.{numbers_after}
+use Rattle.ill_schema.specs.Texts.{numbers_after}
 
 -- the number takes 63 bits at most
 abbrev pub is_short : ℕ → Bool

@@ -1,21 +1,12 @@
 -- The octets of an element that are taken from a source and kept.
 use Rattle.std.specs.Prelude.{◌≡◌, ◌⊎◌, ℕ, ◌-◌, ◌<◌, ◌≤◌, Bool, List, ◌++◌, length, take, Option, Some, None}
 use Rattle.std.specs.Io.KnownBytes.{Consumes, IsAtEnd}
-use Rattle.std.specs.Prelude.{MatchOption}
-use Rattle.ber_leaf.specs.Profile.{Profile}
-use Rattle.ill_read.specs.Answers.{IsUnfinishedIn}
-use Rattle.ill_schema.specs.Profiles.{profile_of}
-use Rattle.ill_schema.specs.declared.profile.Profile.{Profile as Named}
-use Rattle.ill_normal.specs.Messages.{Spelling, counted, MakesIn}
+use Rattle.ill_normal.specs.Messages.{counted}
 use Rattle.ber_framing.specs.declared.framer.Framing.{Framing}
 use Rattle.ber_framing.specs.declared.framer.Framing.TheVariants as frame
 use Rattle.ber_framing.specs.declared.framer.Framer.{Framer}
-use Rattle.ber_framing.specs.Framed.{IsFrame, IsPart, IsUnframed}
+use Rattle.ber_framing.specs.Framed.{IsPart, IsUnframed}
 use Rattle.ber_framing.specs.Framer.{Judged, IsFed}
-use Rattle.ill_normal.specs.Items.{IsRefusedFor}
-use Rattle.ill_normal.specs.Skipping.{HasNoEnd}
-use Rattle.ill_normal.specs.declared.next_message.NextMessage.{NextMessage}
-use Rattle.ill_normal.specs.declared.next_message.NextMessage.TheVariants.{Read, Refused}
 
 -- a framer was fed the octets that were taken, and the first 1,048,576 of them were kept
 pub record IsFraming (left left' : Option (List ℕ)) (framer : Framer) (kept : List ℕ) (least size : ℕ) : Type 0 where
@@ -68,19 +59,7 @@ pub record TakesRest (left left' : Option (List ℕ)) (kept kept' : List ℕ) : 
   pub taken : Consumes left left' more
   pub keeps : (octets : List ℕ) → kept ≡ take 1_048_576 octets → kept' ≡ take 1_048_576 (octets ++ more)
 
--- a part of an element was taken, and no message of any profile is at its front
-pub record TakesPart (left left' : Option (List ℕ)) : Type 0 where
-  pub octets : List ℕ
-  pub taken : Consumes left left' octets
-  pub unfinished : (q : Named) → IsUnfinishedIn (profile_of q) octets
-
 -- how many octets an element has whose end was found
 abbrev pub end_of : Framing → ℕ → Option ℕ
 end_of frame.Whole size = Some size
 end_of _ size = None
-
--- the next message was read, or refused
-abbrev pub IsNext : Profile → {T : Type 0} → (T → List ℕ → Type 0) → (Spelling → List ℕ) → (Spelling → Bool) → Option (List ℕ) → Option (List ℕ) → NextMessage T → Type 0
-IsNext q is text is_good left left' (Read piece) = (b : List ℕ) × Consumes left left' b × MakesIn q is text is_good piece b
-IsNext q is text is_good left left' (Refused refusal end) =
-    (b : List ℕ) × Consumes left left' b × IsRefusedFor q b refusal × MatchOption end (HasNoEnd b left') (λ n. IsFrame b × (n ≡ counted (length b)))

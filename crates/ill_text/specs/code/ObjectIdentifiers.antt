@@ -2,8 +2,8 @@
 use Rattle.std.specs.Prelude.{◌≡◌, ℕ, ◌-◌, ◌^◌, min, Bool, List, ◌∷◌, ◌++◌, codes, decimal, nat_lt}
 use Rattle.std.specs.List.{list_all}
 use Rattle.ill_read.specs.declared.mark.Mark.{Mark}
-use Rattle.ill_text.specs.Marks.{octets_in}
-use Rattle.ill_text.specs.Shown.{numbers_after}
+use Rattle.ill_read.specs.Marks.{octets_in}
+use Rattle.ill_schema.specs.Texts.{numbers_after}
 
 abbrev pub numbers_in : List Mark → List ℕ
 numbers_in marks = numbers_after 0 (octets_in marks)

@@ -119,7 +119,7 @@ static ROWS: [Row; 33] = [
         output: Text(
             b"B: message 1: Expired, 47 octets, not normal, normal form 33 octets\nA: message 1: Expired, 33 octets, normal\n",
         ),
-        errors: "illcanon: cannot open O\nillcanon: D: refused at 7 in message 1: UnexpectedTag\n",
+        errors: "illcanon: cannot open O: no such file\nillcanon: D: refused at 7 in message 1: UnexpectedTag\n",
         ..QUIET
     },
     Row {

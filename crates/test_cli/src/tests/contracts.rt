@@ -57,9 +57,10 @@ fn canonicalise_makes_normal_forms(order: Order<'_>, input: &str, output: &str) 
     }
 }
 
-/// `check` checks each message, or each line.
+/// `check` checks each message, and says so in words or as JSON, or each line.
 fn check_checks(order: Order<'_>, inputs: Inputs<'_>) {
     let lines = order.lines;
+    let json = order.json;
     let reading = ReadOptions {
         profile: order.profile,
         hex: order.hex,
@@ -78,6 +79,9 @@ fn check_checks(order: Order<'_>, inputs: Inputs<'_>) {
     match Plan::new(Order { task, ..order }) {
         Plan::Print { action, .. } if lines => {
             prove!(action == Action::Lines(results));
+        }
+        Plan::Print { action, .. } if json => {
+            prove!(action == Action::Messages(Job::CheckJson, reading));
         }
         Plan::Print { action, .. } => prove!(action == Action::Messages(Job::Check, reading)),
         _ => unreachable!(),

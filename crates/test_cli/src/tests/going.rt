@@ -1,10 +1,10 @@
 //! Work that goes on after a message that is refused.
-use super::runs::Octets::Text;
+use super::runs::Octets::{Begins, Text};
 use super::runs::{EXPIRED, QUIET, Row, first_wrong};
 use std::test::Fail;
 
 /// Files with messages that are refused, and others.
-static ROWS: [Row; 19] = [
+static ROWS: [Row; 23] = [
     Row {
         words: "check --keep-going middle",
         status: 1,
@@ -54,7 +54,7 @@ static ROWS: [Row; 19] = [
         output: Text(
             b"41b0dca84b6db1db587880995cae8f2ae640c5af026d4d9745a5bc56ba11a782  endless:1\n41b0dca84b6db1db587880995cae8f2ae640c5af026d4d9745a5bc56ba11a782  middle:1\n41b0dca84b6db1db587880995cae8f2ae640c5af026d4d9745a5bc56ba11a782  middle:3\n41b0dca84b6db1db587880995cae8f2ae640c5af026d4d9745a5bc56ba11a782  A:1\n",
         ),
-        errors: "illcanon: endless: refused at 7 in message 2: Missing Expired.transaction-id; its end is unknown\nillcanon: cannot open O\nillcanon: middle: refused at 2 in message 2: Missing Expired.protocol-version-num\nillcanon: D: refused at 7 in message 1: UnexpectedTag; its end is unknown\n",
+        errors: "illcanon: endless: refused at 7 in message 2: Missing Expired.transaction-id; its end is unknown\nillcanon: cannot open O: no such file\nillcanon: middle: refused at 2 in message 2: Missing Expired.protocol-version-num\nillcanon: D: refused at 7 in message 1: UnexpectedTag; its end is unknown\n",
         ..QUIET
     },
     Row {
@@ -123,14 +123,14 @@ static ROWS: [Row; 19] = [
         output: Text(
             b"first: message 2: Expired, 33 octets, normal\nfirst: message 3: Expired, 47 octets, not normal, normal form 33 octets\nendless: message 1: Expired, 33 octets, normal\n",
         ),
-        errors: "illcanon: first: refused at 2 in message 1: Missing Expired.protocol-version-num\nillcanon: cannot open O\nillcanon: endless: refused at 7 in message 2: Missing Expired.transaction-id; its end is unknown\nillcanon: 2 files, 5 messages, 2 normal, 1 not normal, 2 refused, 115 octets\n",
+        errors: "illcanon: first: refused at 2 in message 1: Missing Expired.protocol-version-num\nillcanon: cannot open O: no such file\nillcanon: endless: refused at 7 in message 2: Missing Expired.transaction-id; its end is unknown\nillcanon: endless: left at message 2, which begins at octet 33\nillcanon: 2 files, 5 messages, 2 normal, 1 not normal, 2 refused, 115 octets, 1 not opened, 1 left before the end\n",
         ..QUIET
     },
     Row {
         words: "canonicalise --summary middle -",
         status: 1,
         output: Text(EXPIRED),
-        errors: "illcanon: refused at 2 in message 2: Missing Expired.protocol-version-num\nillcanon: 1 file, 2 messages, 1 normal, 0 not normal, 1 refused, 33 octets\n",
+        errors: "illcanon: refused at 2 in message 2: Missing Expired.protocol-version-num\nillcanon: left at message 2, which begins at octet 33\nillcanon: 1 file, 2 messages, 1 normal, 0 not normal, 1 refused, 33 octets, 1 left before the end\n",
         ..QUIET
     },
     Row {
@@ -140,6 +140,37 @@ static ROWS: [Row; 19] = [
             b"{\"number\":2,\"offset\":2,\"octets\":33,\"apdu\":\"Expired\",\"normal\":true,\"value\":{\"protocol-version-num\":2,\"transaction-id\":{\"transaction-group-qualifier\":{\"general\":\"G\"},\"transaction-qualifier\":{\"general\":\"Q\"}},\"service-date-time\":{\"date-time-of-this-service\":{\"date\":\"20240229\"}}}}\n{\"number\":3,\"offset\":35,\"octets\":47,\"apdu\":\"Expired\",\"normal\":false,\"value\":{\"protocol-version-num\":2,\"transaction-id\":{\"transaction-group-qualifier\":{\"general\":\"G\"},\"transaction-qualifier\":{\"general\":\"Q\"}},\"service-date-time\":{\"date-time-of-this-service\":{\"date\":\"20240229\"}}}}\n",
         ),
         errors: "illcanon: refused at 2 in message 1: Missing Expired.protocol-version-num\n",
+        ..QUIET
+    },
+    Row {
+        words: "dump --keep-going --message 2 first",
+        status: 1,
+        output: Text(
+            b"message 2: Expired, 33 octets, normal\n      0  74 1f  Expired\n      2    30 1d  SEQUENCE\n      4      80 01  protocol-version-num = 2\n      7      a1 0a  transaction-id\n      9        a1 03  transaction-group-qualifier\n     11          1b 01  GeneralString = \"G\"\n     14        a2 03  transaction-qualifier\n     16          1b 01  GeneralString = \"Q\"\n     19      a2 0c  service-date-time\n     21        a0 0a  date-time-of-this-service\n     23          80 08  date = 20240229\n",
+        ),
+        errors: "illcanon: refused at 2 in message 1: Missing Expired.protocol-version-num\n",
+        ..QUIET
+    },
+    Row {
+        words: "dump --keep-going first",
+        status: 1,
+        output: Begins(
+            b"message 1: refused\n      0  74 00  Expired\nrefused at 2: Missing Expired.protocol-version-num\n",
+        ),
+        errors: "illcanon: refused at 2 in message 1: Missing Expired.protocol-version-num\n",
+        ..QUIET
+    },
+    Row {
+        words: "dump --html --keep-going A first",
+        status: 1,
+        output: Begins(b"<!DOCTYPE html>\n<html lang=\"en\">\n"),
+        errors: "illcanon: first: refused at 2 in message 1: Missing Expired.protocol-version-num\n",
+        ..QUIET
+    },
+    Row {
+        words: "dump --message 2 A",
+        status: 1,
+        errors: "illcanon: no message 2: the input has 1 message\n",
         ..QUIET
     },
     Row {

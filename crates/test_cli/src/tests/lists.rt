@@ -30,28 +30,28 @@ static ROWS: [Row; 15] = [
         words: "check --files-from absent-name",
         status: 3,
         output: Text(b"A: message 1: Expired, 33 octets, normal\n"),
-        errors: "illcanon: cannot open O\n",
+        errors: "illcanon: cannot open O: no such file\n",
         ..QUIET
     },
     Row {
         words: "check --files-from empty-name",
         status: 3,
         output: Text(b"A: message 1: Expired, 33 octets, normal\n"),
-        errors: "illcanon: cannot open \n",
+        errors: "illcanon: cannot open : no such file\n",
         ..QUIET
     },
     Row {
         words: "check --files-from absent-line-end",
         status: 3,
         output: Text(b"A: message 1: Expired, 33 octets, normal\n"),
-        errors: "illcanon: cannot open $'x\\ny'\n",
+        errors: "illcanon: cannot open $'x\\ny': no such file\n",
         ..QUIET
     },
     Row {
         words: "check --files-from no-text",
         status: 3,
         output: Text(b"A: message 1: Expired, 33 octets, normal\n"),
-        errors: "illcanon: cannot open $'caf\\351'\n",
+        errors: "illcanon: cannot open $'caf\\351': name is not UTF-8 text\n",
         ..QUIET
     },
     Row {

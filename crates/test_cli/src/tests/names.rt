@@ -84,7 +84,14 @@ fn ends_with(rt: &HostRuntime, words: &[&[u8]], status: u8, errors: &[u8]) -> bo
 #[test]
 fn words_that_are_no_text_stop_no_other(rt: HostRuntime) -> Result<(), Fail> {
     let words: [&[u8]; 3] = [b"check", b"M\xfc.ber", b"/dev/null"];
-    assert!(rt; ends_with(&rt, &words, 3, b"illcanon: cannot open $'M\\374.ber'\n"));
+    assert!(rt;
+        ends_with(
+            &rt,
+            &words,
+            3,
+            b"illcanon: cannot open $'M\\374.ber': name is not UTF-8 text\n"
+        )
+    );
     let words: [&[u8]; 3] = [b"canonicalise", b"/dev/null", b"M\xfc.der"];
     assert!(rt; ends_with(&rt, &words, 3, b"illcanon: cannot open $'M\\374.der'\n"));
     Ok(())

@@ -109,7 +109,7 @@ static ROWS: [Row; 55] = [
     Row {
         words: "canonicalise --whole -o OUT A O",
         status: 3,
-        errors: "illcanon: cannot open O\n",
+        errors: "illcanon: cannot open O: no such file\n",
         ..QUIET
     },
     Row {
@@ -296,7 +296,7 @@ static ROWS: [Row; 55] = [
     Row {
         words: "canonicalise -o OUT middle O A",
         status: 3,
-        errors: "illcanon: middle: refused at 2 in message 2: Missing Expired.protocol-version-num\nillcanon: cannot open O\n",
+        errors: "illcanon: middle: refused at 2 in message 2: Missing Expired.protocol-version-num\nillcanon: cannot open O: no such file\n",
         out: Repeated(EXPIRED, 66),
         ..QUIET
     },
@@ -328,7 +328,7 @@ static ROWS: [Row; 55] = [
     Row {
         words: "canonicalise -o OUT O none/O",
         status: 3,
-        errors: "illcanon: cannot open O\nillcanon: cannot open none/O\n",
+        errors: "illcanon: cannot open O: no such file\nillcanon: cannot open none/O: not a directory\n",
         ..QUIET
     },
     Row {

@@ -4,7 +4,7 @@ use super::runs::{QUIET, Row, first_wrong};
 use std::test::Fail;
 
 /// Each file is read twice, its octets and then its end. A second goes by between two readings of the clock, so the first line is due
-/// at the second reading after the work begins. A has 33 octets, `first` 82.
+/// at the second reading after the work begins. A has 33 octets, `first` 82. Shares, rates and times are rounded down.
 static ROWS: [Row; 5] = [
     Row {
         words: "check --summary --keep-going A first",
@@ -13,16 +13,16 @@ static ROWS: [Row; 5] = [
         output: Text(
             b"A: message 1: Expired, 33 octets, normal\nfirst: message 2: Expired, 33 octets, normal\nfirst: message 3: Expired, 47 octets, not normal, normal form 33 octets\n",
         ),
-        errors: "\r\x1b[Killcanon: 1 file, 33 octets\r\x1b[Killcanon: 2 files, 33 octets\r\x1b[Killcanon: first: refused at 2 in message 1: Missing Expired.protocol-version-num\n\r\x1b[Killcanon: 2 files, 115 octets\r\x1b[Killcanon: 2 files, 4 messages, 2 normal, 1 not normal, 1 refused, 115 octets\n",
+        errors: "\r\x1b[Killcanon: 1 file, 33 octets, 28 %, 16 octets/s, 4 s left\r\x1b[Killcanon: 2 files, 33 octets, 28 %, 8 octets/s, 9 s left\r\x1b[Killcanon: first: refused at 2 in message 1: Missing Expired.protocol-version-num\n\r\x1b[Killcanon: 2 files, 115 octets, 100 %, 19 octets/s, 0 s left\r\x1b[Killcanon: 2 files, 4 messages, 2 normal, 1 not normal, 1 refused, 115 octets\n",
         ..QUIET
     },
-    // A fault has its own line.
+    // A fault has its own line. The size of all files isn't known.
     Row {
         words: "check --summary A O",
         terminal: Some(1000),
         status: 3,
         output: Text(b"A: message 1: Expired, 33 octets, normal\n"),
-        errors: "\r\x1b[Killcanon: 1 file, 33 octets\r\x1b[Killcanon: cannot open O\nillcanon: 1 file, 1 message, 1 normal, 0 not normal, 0 refused, 33 octets\n",
+        errors: "\r\x1b[Killcanon: 1 file, 33 octets\r\x1b[Killcanon: cannot open O: no such file\nillcanon: 1 file, 1 message, 1 normal, 0 not normal, 0 refused, 33 octets, 1 not opened\n",
         ..QUIET
     },
     // Work of less than two seconds has no line.
@@ -38,7 +38,7 @@ static ROWS: [Row; 5] = [
         words: "check --summary A A A A A A",
         terminal: Some(199),
         output: Repeated(b"A: message 1: Expired, 33 octets, normal\n", 246),
-        errors: "\r\x1b[Killcanon: 6 files, 165 octets\r\x1b[Killcanon: 6 files, 6 messages, 6 normal, 0 not normal, 0 refused, 198 octets\n",
+        errors: "\r\x1b[Killcanon: 6 files, 165 octets, 83 %, 75 octets/s, 0 s left\r\x1b[Killcanon: 6 files, 6 messages, 6 normal, 0 not normal, 0 refused, 198 octets\n",
         ..QUIET
     },
     // Only with --summary.

@@ -28,11 +28,13 @@ pub const BEFORE: &[u8] = b"what was there before";
 #[derive(Clone, Copy)]
 pub enum Octets {
     Text(&'static [u8]),
+    /// A text that begins so.
+    Begins(&'static [u8]),
     /// The first of a text over and over, this number.
     Repeated(&'static [u8], usize),
 }
 
-use Octets::{Repeated, Text};
+use Octets::{Begins, Repeated, Text};
 
 /// A run of the program in the folder, and how it must end.
 pub struct Row {
@@ -193,6 +195,7 @@ fn are_repeated(octets: &[u8], text: &[u8]) -> bool {
 fn are(octets: &[u8], wanted: Octets) -> bool {
     match wanted {
         Text(text) => octets == text,
+        Begins(text) => octets.starts_with(text),
         Repeated(text, count) => octets.len() == count && are_repeated(octets, text),
     }
 }

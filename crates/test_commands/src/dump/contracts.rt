@@ -1,11 +1,11 @@
 //! Contracts that leave one result: what the calls return is proved of their contracts alone. So a body that returns anything else
 //! doesn't meet its contract.
-ghost use Rattle.std.specs.Prelude.{◌≡◌, ℕ, List, [], length, false, Ok, Err, Some};
+ghost use Rattle.std.specs.Prelude.{◌≡◌, ℕ, List, [], length, false, Ok, Err, Some, None};
 ghost use Rattle.ill_schema.specs.Apdu.{Apdu, IsStream};
 ghost use Rattle.ill_schema.specs.Profiles.{profile_of};
 ghost use Rattle.ill_dump.specs.Dumped.{Dumps};
-ghost use Rattle.ill_commands.specs.Runs.{IsFault};
-ghost use Rattle.ill_commands.specs.declared.fault.RunFault.{RunFault};
+ghost use Rattle.ill_normal.specs.Inputs.{IsFault};
+ghost use Rattle.ill_normal.specs.declared.run_fault.RunFault.{RunFault};
 
 use ber_core::{Pieces, Room, Sink, Source, Unbuffered};
 use ill_commands::RunFault;
@@ -21,10 +21,11 @@ fn inputs_end_in_one_way(
     other: &mut Pieces,
     other_sink: &mut Room<64>,
     alloc: Global,
-) -> (Result<(), RunFault>, Result<(), RunFault>)
+) -> (Result<u32, RunFault>, Result<u32, RunFault>)
     requires plain { dump.hex ≡ false }
+    requires all { dump.only ≡ None }
     requires same { source.old.octets ≡ other.old.octets }
-    ensures { (e : RunFault) → result.0 ≡ Ok tt → result.1 ≡ Err e → IsFault e }
+    ensures { (n : ℕ) (e : RunFault) → result.0 ≡ Ok n → result.1 ≡ Err e → IsFault e }
 {
     (
         run_dump::<Pieces, Unbuffered, Room<64>>(alloc, dump, source, sink),
@@ -38,10 +39,11 @@ fn each_message_is_dumped(
     source: &mut Pieces,
     sink: &mut Room<64>,
     alloc: Global,
-) -> Result<(), RunFault>
-    requires { dump.hex ≡ false }
-    ensures whole { (as' : List Apdu)
-        → IsStream (profile_of dump.entry.profile) source.old.octets as' [] → result ≡ Ok tt
+) -> Result<u32, RunFault>
+    requires plain { dump.hex ≡ false }
+    requires all { dump.only ≡ None }
+    ensures whole { (n : ℕ) (as' : List Apdu)
+        → IsStream (profile_of dump.entry.profile) source.old.octets as' [] → result ≡ Ok n
         → Dumps dump.entry (length as') (Some sink.old.octets) (Some sink.new.octets) }
     ensures refused { (i : ℕ) (refusal : Refusal) → result ≡ Err (RunFault.Refused i refusal)
         → Dumps dump.entry i (Some sink.old.octets) (Some sink.new.octets) }

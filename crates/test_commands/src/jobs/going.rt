@@ -19,8 +19,9 @@ impl ReportRefusals for Reported {
 
     ghost reported = { λ _. None };
 
-    fn report(&mut self, report: RefusalReport) {
+    fn report(&mut self, report: RefusalReport, octets: &[u8]) {
         let _ = self.reports.push(report);
+        let _ = octets;
     }
 }
 
@@ -39,7 +40,7 @@ struct Row {
 const BETWEEN: &str =
     "741f301d800102a10aa1031b0147a2031b0151a20ca00a80083230323430323239050074803080800102a180a1801b01470000a2801b015100000000a280a080800832303234303232390000000000000000";
 
-static ROWS: [Row; 6] = [
+static ROWS: [Row; 8] = [
     Row {
         name: "check",
         job: Job::Check,
@@ -97,6 +98,34 @@ static ROWS: [Row; 6] = [
         }),
     },
     Row {
+        name: "check-json",
+        job: Job::CheckJson,
+        hex: false,
+        input: BETWEEN,
+        output: "{\"number\":1,\"offset\":0,\"octets\":33,\"apdu\":\"Expired\",\"normal\":true}\n{\"number\":3,\"offset\":35,\"octets\":47,\"apdu\":\"Expired\",\"normal\":false}\n",
+        answer: Ok(SkippingCounts {
+            messages: 3,
+            refused: 1,
+            good: 1,
+            octets: 82,
+            all_good: false,
+        }),
+    },
+    Row {
+        name: "digest-json-text",
+        job: Job::DigestJson,
+        hex: true,
+        input: BETWEEN,
+        output: "{\"number\":1,\"offset\":0,\"octets\":33,\"apdu\":\"Expired\",\"normal\":true,\"digest\":\"41b0dca84b6db1db587880995cae8f2ae640c5af026d4d9745a5bc56ba11a782\"}\n{\"number\":3,\"offset\":35,\"octets\":47,\"apdu\":\"Expired\",\"normal\":false,\"digest\":\"41b0dca84b6db1db587880995cae8f2ae640c5af026d4d9745a5bc56ba11a782\"}\n",
+        answer: Ok(SkippingCounts {
+            messages: 3,
+            refused: 1,
+            good: 1,
+            octets: 82,
+            all_good: false,
+        }),
+    },
+    Row {
         name: "odd-text",
         job: Job::Check,
         hex: true,
@@ -117,11 +146,12 @@ static ROWS: [Row; 6] = [
 /// The report of the second message.
 const NULL: RefusalReport = RefusalReport {
     message: 2,
+    offset: 33,
     refusal: Refusal {
         at: 0,
         cause: Cause::UnexpectedTag,
     },
-    ends: true,
+    octets: Some(2),
 };
 
 /// Tells whether a row comes true of these octets. The second message is reported, if all are gone through.

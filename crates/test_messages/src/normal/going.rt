@@ -10,10 +10,11 @@ use std::alloc::Global;
 use std::test::Fail;
 use test_support::octets_of;
 
-/// The report that came.
+/// The reports that came, and the octets of the messages whose ends are known.
 #[derive(Drop)]
 struct Reported {
     reports: Vec<RefusalReport>,
+    octets: Vec<u8>,
 }
 
 impl ReportRefusals for Reported {
@@ -21,8 +22,11 @@ impl ReportRefusals for Reported {
 
     ghost reported = { λ _. None };
 
-    fn report(&mut self, report: RefusalReport) {
+    fn report(&mut self, report: RefusalReport, octets: &[u8]) {
         let _ = self.reports.push(report);
+        if report.octets.is_some() {
+            let _ = self.octets.extend_from_slice(octets);
+        }
     }
 }
 
@@ -37,25 +41,41 @@ struct Row {
     octets: u64,
 }
 
-/// A refused message: its number, the offset, the cause, and whether its end is known.
-type Refused = (u32, u32, Cause, bool);
+/// A refused message: its number, how many octets come before it, the offset in it, the cause, and how many octets it has, where its end is known.
+type Refused = (u32, u64, u32, Cause, Option<u64>);
 
-/// Tells whether these were reported.
-fn are_reported(reports: &[RefusalReport], wanted: &[Refused]) -> bool {
-    if reports.len() != wanted.len() {
+/// Tells whether these were reported of an input.
+fn are_reported(reported: &Reported, input: &[u8], wanted: &[Refused]) -> bool {
+    if reported.reports.len() != wanted.len() {
         return false;
     }
-    for (report, want) in reports.iter().zip(wanted) {
+    let mut left = reported.octets.as_slice();
+    for (report, want) in reported.reports.iter().zip(wanted) {
         let RefusalReport {
             message,
+            offset,
             refusal: Refusal { at, cause },
-            ends,
+            octets,
         } = *report;
-        if (message, at, cause, ends) != *want {
+        if (message, offset, at, cause, octets) != *want {
             return false;
         }
+        let message = octets_in(input, offset, octets);
+        match left.strip_prefix(message) {
+            Some(rest) => left = rest,
+            None => return false,
+        }
     }
-    true
+    left.is_empty()
+}
+
+/// The octets of a message whose end is known, at most 1,048,576.
+fn octets_in(input: &[u8], offset: u64, octets: Option<u64>) -> &[u8] {
+    let Some(size) = octets else {
+        return &[];
+    };
+    let rest = input.get(offset as usize..).unwrap_or(&[]);
+    rest.get(..size.min(1_048_576) as usize).unwrap_or(&[])
 }
 
 const MISSING_TIME: Cause = Cause::Missing(PartId {
@@ -84,7 +104,7 @@ static ROWS: [Row; 12] = [
         name: "a NULL between",
         input: &[EXPIRED_HEX, "0500", INDEFINITE_HEX],
         written: 2,
-        reports: &[(2, 0, Cause::UnexpectedTag, true)],
+        reports: &[(2, 33, 0, Cause::UnexpectedTag, Some(2))],
         messages: 3,
         octets: 82,
     },
@@ -98,8 +118,8 @@ static ROWS: [Row; 12] = [
         ],
         written: 2,
         reports: &[
-            (1, 19, MISSING_TIME, true),
-            (3, 0, Cause::UnexpectedTag, true),
+            (1, 0, 19, MISSING_TIME, Some(19)),
+            (3, 52, 0, Cause::UnexpectedTag, Some(14)),
         ],
         messages: 4,
         octets: 99,
@@ -108,7 +128,7 @@ static ROWS: [Row; 12] = [
         name: "refused within, where its end mark is far off",
         input: &["74803080050000000401000000", EXPIRED_HEX],
         written: 1,
-        reports: &[(1, 4, Cause::UnexpectedTag, true)],
+        reports: &[(1, 0, 4, Cause::UnexpectedTag, Some(13))],
         messages: 2,
         octets: 46,
     },
@@ -116,7 +136,7 @@ static ROWS: [Row; 12] = [
         name: "an element passes the end of the one round it",
         input: &["740430038001", EXPIRED_HEX],
         written: 1,
-        reports: &[(1, 2, Cause::Overrun, true)],
+        reports: &[(1, 0, 2, Cause::Overrun, Some(6))],
         messages: 2,
         octets: 39,
     },
@@ -124,7 +144,7 @@ static ROWS: [Row; 12] = [
         name: "an end mark where a message is due",
         input: &[EXPIRED_HEX, "0000", EXPIRED_HEX],
         written: 1,
-        reports: &[(2, 0, Cause::BadTag, false)],
+        reports: &[(2, 33, 0, Cause::BadTag, None)],
         messages: 2,
         octets: 33,
     },
@@ -132,7 +152,7 @@ static ROWS: [Row; 12] = [
         name: "a reserved length octet",
         input: &["74ff", EXPIRED_HEX],
         written: 0,
-        reports: &[(1, 0, Cause::BadLength, false)],
+        reports: &[(1, 0, 0, Cause::BadLength, None)],
         messages: 1,
         octets: 0,
     },
@@ -140,7 +160,7 @@ static ROWS: [Row; 12] = [
         name: "a length of 4,294,967,296 in five octets",
         input: &["74850100000000", EXPIRED_HEX],
         written: 0,
-        reports: &[(1, 0, Cause::TooLong, false)],
+        reports: &[(1, 0, 0, Cause::TooLong, None)],
         messages: 1,
         octets: 0,
     },
@@ -148,7 +168,7 @@ static ROWS: [Row; 12] = [
         name: "cut short in a length that is too great",
         input: &[EXPIRED_HEX, "7489010000"],
         written: 1,
-        reports: &[(2, 5, Cause::Truncated, false)],
+        reports: &[(2, 33, 5, Cause::Truncated, None)],
         messages: 2,
         octets: 33,
     },
@@ -156,7 +176,7 @@ static ROWS: [Row; 12] = [
         name: "half an end mark",
         input: &["74800001", EXPIRED_HEX],
         written: 0,
-        reports: &[(1, 2, Cause::BadEnd, false)],
+        reports: &[(1, 0, 2, Cause::BadEnd, None)],
         messages: 1,
         octets: 0,
     },
@@ -164,7 +184,7 @@ static ROWS: [Row; 12] = [
         name: "cut short",
         input: &[EXPIRED_HEX, "741f301d8001"],
         written: 1,
-        reports: &[(2, 6, Cause::Truncated, false)],
+        reports: &[(2, 33, 6, Cause::Truncated, None)],
         messages: 2,
         octets: 33,
     },
@@ -197,6 +217,7 @@ struct Want<'a> {
     result: Result<SkippingCounts, SkippingError>,
     /// The number of times that EXPIRED is written.
     written: usize,
+    input: &'a [u8],
     reports: &'a [Refused],
 }
 
@@ -215,6 +236,7 @@ fn comes_of<R: Source, L: Lookahead<R>>(alloc: Global, source: &mut R, want: &Wa
     let mut octets = Vec::new(alloc);
     let mut reported = Reported {
         reports: Vec::new(alloc),
+        octets: Vec::new(alloc),
     };
     let result = pass_over::<R, L, ToWrite<&mut Vec<u8>>, Reported>(
         alloc,
@@ -224,7 +246,7 @@ fn comes_of<R: Source, L: Lookahead<R>>(alloc: Global, source: &mut R, want: &Wa
     );
     result == want.result
         && are_expireds(&octets, want.written)
-        && are_reported(&reported.reports, want.reports)
+        && are_reported(&reported, want.input, want.reports)
 }
 
 /// Tells whether a call that stops at the first message that is refused stops at the first of these.
@@ -234,7 +256,7 @@ fn stops_at_the_first(alloc: Global, octets: &[u8], refused: &[Refused]) -> bool
     let result = normalise_stream(alloc, &mut source, &mut sink);
     match (result, refused) {
         (Ok(_), []) => true,
-        (Err(failure), [(message, at, cause, _), ..]) => {
+        (Err(failure), [(message, _, at, cause, _), ..]) => {
             let refusal = Refusal {
                 at: *at,
                 cause: *cause,
@@ -257,6 +279,7 @@ fn comes_true(alloc: Global, row: &Row, octets: &[u8]) -> bool {
             all_good: true,
         }),
         written: row.written,
+        input: octets,
         reports: row.reports,
     };
     for per_call in [1, 5, 64] {
@@ -286,7 +309,7 @@ fn refused_messages_are_passed_over(rt: HostRuntime) -> Result<(), Fail> {
 const BETWEEN: &[&str] = &[EXPIRED_HEX, "0500", EXPIRED_HEX];
 
 /// The reports of these.
-const REFUSED: &[Refused] = &[(2, 0, Cause::UnexpectedTag, true)];
+const REFUSED: &[Refused] = &[(2, 33, 0, Cause::UnexpectedTag, Some(2))];
 
 /// Tells whether a sink that breaks after n octets, of the 66 that are to be written, has these.
 fn has_the_first(alloc: Global, octets: &[u8], n: usize) -> bool {
@@ -294,6 +317,7 @@ fn has_the_first(alloc: Global, octets: &[u8], n: usize) -> bool {
     let mut sink: Room<128> = Room::new(64, Some(n));
     let mut reported = Reported {
         reports: Vec::new(alloc),
+        octets: Vec::new(alloc),
     };
     let result = pass_over::<FromSlice<'_>, Buffered, Room<128>, Reported>(
         alloc,
@@ -319,7 +343,7 @@ fn has_the_first(alloc: Global, octets: &[u8], n: usize) -> bool {
         && sink.octets().len() == n
         && EXPIRED.starts_with(first)
         && EXPIRED.starts_with(second)
-        && are_reported(&reported.reports, reports)
+        && are_reported(&reported, octets, reports)
 }
 
 #[test]
@@ -350,6 +374,7 @@ fn leaves_what_was_whole(alloc: Global, octets: &[u8], n: usize) -> bool {
     let want = Want {
         result: Err(halted),
         written,
+        input: octets,
         reports,
     };
     let mut source = Pieces::new(octets, 64, Some(n));
@@ -380,7 +405,8 @@ fn a_message_past_the_limit_is_passed_over(rt: HostRuntime) -> Result<(), Fail> 
             all_good: true,
         }),
         written: 1,
-        reports: &[(1, 0, Cause::TooLong, true)],
+        input: &octets,
+        reports: &[(1, 0, 0, Cause::TooLong, Some(2_097_158))],
     };
     let mut source = FromSlice::new(&octets);
     assert!(rt; comes_of::<FromSlice<'_>, Buffered>(rt.alloc(), &mut source, &want));
@@ -425,8 +451,9 @@ impl ReportRefusals for Count {
 
     ghost reported = { λ _. None };
 
-    fn report(&mut self, report: RefusalReport) {
+    fn report(&mut self, report: RefusalReport, octets: &[u8]) {
         let _ = report;
+        let _ = octets;
         self.reports = self.reports.saturating_add(1);
     }
 }

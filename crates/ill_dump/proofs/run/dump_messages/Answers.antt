@@ -1,6 +1,4 @@
-use Rattle.std.proofs.Common.{◌+◌, ◌++◌, refl, arith, subst}
-use Rattle.ill_dump.specs.Dumped.{head}
-use Rattle.ill_dump.specs.code.Putting.{BeginsWith, IfRefused}
+use Rattle.std.proofs.Common.{◌+◌, refl, arith}
 use Rattle.ill_dump.proofs.DumpedMessages.{dumps_next, reached_more, reached_none, stops_full, stops_next}
 use Rattle.ill_dump.proofs.run.dump_messages.Goals as goal
 
@@ -9,14 +7,12 @@ returns-in-Err-clause-stops g c = stops_next _ _ _ _ _ _ _ c.in-Err.failure c.pu
 
 pub returns-in-Err-clause-dumps : goal.returns-in-Err-clause-dumps
 returns-in-Err-clause-dumps g c =
-    let begins = subst (λ l. IfRefused c.put_failure.result (BeginsWith (g.W.Sink.contents c.loop-before.sink) (g.W.Sink.contents c.put_failure.new.sink) (l ++ head c.args.dump (c.loop-before.before + 1))))
-    c.loop-before.invariant.none c.put_failure.ensures.begins in
-    dumps_next _ _ _ _ _ _ c.in-Err.failure c.put_failure.result c.loop-before.invariant.reached.dumps refl c.put_failure.ensures.follows begins
+    dumps_next _ _ _ _ _ _ c.in-Err.failure c.put_failure.result c.loop-before.invariant.reached.dumps refl c.put_failure.ensures.follows c.put_failure.ensures.begins
 
 pub loop-before-init : goal.loop-before-init
 loop-before-init g c = record {
   reached = reached_none _ _ _;
-  none = c.new.ensures;
+  none = c.new-out.ensures;
   source_stays = λ t. t;
   sink_stays = λ t. t;
 }
@@ -24,10 +20,8 @@ loop-before-init g c = record {
 pub loop-before-preserved : goal.loop-before-preserved
 loop-before-preserved g c =
     let message = rw c.in-Ok-Some.field-0-is at c.in-Ok-Some.ensures.next.message in
-    let begins = subst (λ l. BeginsWith (g.W.Sink.contents c.loop-before.sink) (g.W.Sink.contents c.put_message.new.sink) (l ++ head c.args.dump (c.loop-before.before + 1)))
-    c.loop-before.invariant.none c.in_ok-put_message-in-Ok-Some.ensures.begins in
     record {
-      reached = reached_more _ _ _ _ _ _ _ _ _ _ c.loop-before.invariant.reached message.1 message.2.0.1 begins;
+      reached = reached_more _ _ _ _ _ _ _ _ _ _ c.loop-before.invariant.reached message.1 message.2.0.1 c.in_ok-put_message-in-Ok-Some.ensures.begins;
       none = c.in_ok-put_message-in-Ok-Some.ensures.none;
       source_stays = λ t. c.read_recording_as-read.ensures.next.stays (c.loop-before.invariant.source_stays t);
       sink_stays = λ t. c.put_message.ensures.stays (c.loop-before.invariant.sink_stays t);

@@ -1,7 +1,8 @@
 use Rattle.std.proofs.Common.{◌≡◌, ℕ, ◌+◌, suc, drop, option_map, sym, ap, subst, ◌∙◌, arith}
 use Rattle.ber_core.specs.Id.{tag_of_id}
 use Rattle.ill_schema.proofs.Tags.{at_row}
-use Rattle.ill_grammar.specs.Cells.{element_with, is_two_cell, node_choice}
+use Rattle.ill_grammar.specs.Elements.{element_with}
+use Rattle.ill_grammar.specs.Cells.{is_two_cell, node_choice}
 use Rattle.ill_grammar.specs.code.Meant.{cell_start}
 use Rattle.ill_grammar.specs.code.Starts.{BeginsIn}
 use Rattle.ill_grammar.proofs.Alternatives.{begins-nested, drop-at, element_with-found, element_with-other, open-at, starts-nested, starts_from}

@@ -1,6 +1,6 @@
 use Rattle.std.proofs.Common.{◌≡◌, drop}
 use Rattle.ber_core.specs.Id.{tag_of_id}
-use Rattle.ill_grammar.specs.Cells.{element_with}
+use Rattle.ill_grammar.specs.Elements.{element_with}
 use Rattle.ill_grammar.specs.code.Meant.{node_starts}
 use Rattle.ill_grammar.proofs.Alternatives.{starts_from}
 use Rattle.ill_grammar.proofs.place.nested_start.Given as goal

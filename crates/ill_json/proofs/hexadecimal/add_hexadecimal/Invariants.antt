@@ -1,7 +1,7 @@
 use Rattle.std.proofs.Common.{◌≡◌, ◌++◌, take}
 use Rattle.std.specs.Prelude.{string_bytes}
-use Rattle.ill_text.specs.Marks.{octets_in}
-use Rattle.ill_text.specs.Shown.{hexadecimal}
+use Rattle.ill_read.specs.Marks.{octets_in}
+use Rattle.ill_schema.specs.Texts.{hexadecimal}
 use Rattle.ill_json.proofs.hexadecimal.add_hexadecimal.Given as goal
 
 abbrev pub invariant-loop-mark : goal.invariant-loop-mark

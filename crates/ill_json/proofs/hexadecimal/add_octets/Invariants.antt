@@ -1,6 +1,6 @@
 use Rattle.std.proofs.Common.{◌≡◌, ◌++◌, take}
 use Rattle.std.specs.Prelude.{string_bytes}
-use Rattle.ill_text.specs.Shown.{hexadecimal}
+use Rattle.ill_schema.specs.Texts.{hexadecimal}
 use Rattle.ill_json.proofs.hexadecimal.add_octets.Given as goal
 
 abbrev pub invariant-loop-octet : goal.invariant-loop-octet

@@ -1,4 +1,4 @@
-use Rattle.ill_text.specs.Marks.{octets_in}
+use Rattle.ill_read.specs.Marks.{octets_in}
 use Rattle.ill_json.proofs.Identifiers.{exact_next, first_text, last_text, next_text}
 use Rattle.ill_json.proofs.identifier.add_components.Goals as goal
 

@@ -1,8 +1,8 @@
 use Rattle.std.proofs.Common.{◌≡◌, ◌++◌, IsTrue, flat_map, length}
 use Rattle.std.specs.Prelude.{string_bytes}
 use Rattle.std.specs.List.{list_all}
-use Rattle.ill_text.specs.Marks.{octets_in}
-use Rattle.ill_text.specs.Shown.{components, numbers_after, with_dots}
+use Rattle.ill_read.specs.Marks.{octets_in}
+use Rattle.ill_schema.specs.Texts.{components, numbers_after, with_dots}
 use Rattle.ill_json.specs.code.Identifiers.{dotted, is_short}
 use Rattle.ill_json.proofs.identifier.add_components.Given as goal
 

@@ -1,7 +1,7 @@
 use Rattle.std.proofs.Common.{◌≡◌, length}
 use Rattle.std.specs.List.{list_all}
-use Rattle.ill_text.specs.Marks.{octets_in}
-use Rattle.ill_text.specs.Shown.{numbers_after}
+use Rattle.ill_read.specs.Marks.{octets_in}
+use Rattle.ill_schema.specs.Texts.{numbers_after}
 use Rattle.ill_json.specs.code.Identifiers.{is_short}
 use Rattle.ill_json.proofs.identifier.are_short.Given as goal
 

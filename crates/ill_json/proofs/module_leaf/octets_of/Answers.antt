@@ -1,5 +1,5 @@
 use Rattle.std.proofs.Common.{[]}
-use Rattle.ill_text.proofs.Lines.{mark_step}
+use Rattle.ill_read.proofs.MarkedValues.{mark_step}
 use Rattle.ill_json.proofs.Tokens.{one_more}
 use Rattle.ill_json.proofs.module_leaf.octets_of.Goals as goal
 

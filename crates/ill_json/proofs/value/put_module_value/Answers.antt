@@ -1,6 +1,6 @@
 use Rattle.std.proofs.Common.{◌≡◌, ◌+◌, ◌-◌, ◌∙◌, ap, sym, subst, ℕ, length, take, drop, arith}
-use Rattle.ill_text.specs.code.MarkedOctets.{SaysOctets}
-use Rattle.ill_text.proofs.Lines.{leaf_parts, whole_rest}
+use Rattle.ill_read.specs.code.MarkedOctets.{SaysOctets}
+use Rattle.ill_read.proofs.MarkedValues.{leaf_parts, whole_rest}
 use Rattle.ill_json.proofs.value.put_module_value.Goals as goal
 
 pub returns-clause-adds : goal.returns-clause-adds

@@ -4,7 +4,7 @@ use Rattle.std.proofs.lemmas.Bool.Decides.{Decides-eqb}
 use Rattle.std.proofs.lemmas.Slice.Eq.{slice_eq-Decides}
 use Rattle.ill_schema.specs.Apdu.{normal_form_in}
 use Rattle.ill_schema.specs.Profiles.{profile_of}
-use Rattle.ill_commands.proofs.NormalTest.{tests_equality}
+use Rattle.ill_normal.proofs.NormalTest.{tests_equality}
 use Rattle.ill_lines.specs.Words.{check_words}
 use Rattle.ill_lines.proofs.result.check_result.Goals as goal
 

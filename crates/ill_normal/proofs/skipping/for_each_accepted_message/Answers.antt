@@ -1,4 +1,4 @@
-use Rattle.std.proofs.Common.{◌≡◌, ◌+◌, ℕ, [], ◌∷◌, length, Option, is_some, IsTrue, refl, subst, ap, ◌∙◌, arith}
+use Rattle.std.proofs.Common.{◌≡◌, ◌+◌, ℕ, [], ◌∷◌, length, Option, IsTrue, refl, subst, ap, ◌∙◌, arith}
 use Rattle.std.specs.Prelude.{MatchOption}
 use Rattle.ber_framing.specs.Framed.{IsFrame}
 use Rattle.ill_schema.specs.Profiles.{profile_of}
@@ -6,7 +6,7 @@ use Rattle.ill_normal.specs.Messages.{counted, position}
 use Rattle.ill_normal.proofs.WrittenMessages.{one_bound}
 use Rattle.ill_normal.specs.Items.{report, Adds}
 use Rattle.ill_normal.specs.Skipping.{HasNoEnd}
-use Rattle.ill_normal.specs.code.Taking.{IsNext}
+use Rattle.ill_normal.specs.Next.{IsNext}
 use Rattle.ill_normal.proofs.SkippedMessages.{reached_none, reached_good, reached_bad, through_end, through_lost, halts_unread, halts_writing, halts_at_last}
 use Rattle.ill_normal.proofs.skipping.for_each_accepted_message.Goals as goal
 use Rattle.ill_normal.proofs.skipping.for_each_accepted_message.Goals.{in-Read+in-Ok, in-Refused+in-Some}
@@ -39,7 +39,7 @@ returns-in-Err-put-clause-halts g c =
     let is_good = g.M.Render.is_good c.args.maker.now in
     let here = position (c.loop-before.before + 1) c.loop-before.offset in
     let n = rw c.in-Ok-Some.field-0-is at c.in-Ok-Some.ensures.next in
-    let made = subst (IsNext (profile_of (g.M.Render.profile c.args.maker.now)) g.M.Out.Rendered.is (text here) is_good (g.R.Source.left c.loop-before.source) (g.R.Source.left c.next_message.new.source)) c.in-Read.is n in
+    let made = subst (IsNext (profile_of (g.M.Render.profile c.args.maker.now)) g.M.Out.Rendered.is (text here) is_good (g.R.Source.left c.loop-before.source) (g.R.Source.left c.take_message.new.source)) c.in-Read.is n in
     let some = c.in-Err-put.ensures.some _ made.2.text in
     let fewer = c.in-Err-put.ensures.fewer _ made.2.text in
     let broken = c.in-Err-put.ensures.breaks _ made.2.text refl in
@@ -52,14 +52,14 @@ returns-in_default-clause-through g c =
     let text = g.M.Render.text c.args.maker.now in
     let is_good = g.M.Render.is_good c.args.maker.now in
     let left = g.R.Source.left c.loop-before.source in
-    let left' = g.R.Source.left c.next_message.new.source in
+    let left' = g.R.Source.left c.take_message.new.source in
     let reported = g.T.ReportRefusals.reported c.loop-before.reports in
     let reported' = g.T.ReportRefusals.reported c.report-in-Refused.new.self in
     let here = position (c.loop-before.before + 1) c.loop-before.offset in
     let n = rw c.in-Ok-Some.field-0-is at c.in-Ok-Some.ensures.next in
     let bad = subst (IsNext (profile_of (g.M.Render.profile c.args.maker.now)) g.M.Out.Rendered.is (text here) is_good left left') c.in-Refused.is n in
     let no_end = subst (λ (e : Option ℕ). MatchOption e (HasNoEnd bad.0 left') (λ n. IsFrame bad.0 × (n ≡ counted (length bad.0)))) c.in_default.is bad.3 in
-    let is_report = c.report.ensures ∙ ap (λ (e : Option ℕ). report (c.loop-before.before + 1) c.in-Refused.refusal (is_some e)) c.in_default.is in
+    let is_report = c.report.ensures ∙ ap (λ (e : Option ℕ). report here c.in-Refused.refusal e) c.in_default.is in
     let adds = subst (λ r. Adds reported reported' (r ∷ [])) is_report c.report-in-Refused.ensures in
     rw c.counts_of-in_default.ensures
     (through_lost _ _ _ _ _ _ _ (g.W.Sink.contents c.loop-before.sink) _ _ _ reported' _ _ _ _ _ c.loop-before.invariant.reached _ _ bad.0 c.in-Refused.refusal c.loop-before-test.true bad.1 bad.2 no_end refl adds)
@@ -69,12 +69,12 @@ loop-before-preserved g c =
     let text = g.M.Render.text c.args.maker.now in
     let is_good = g.M.Render.is_good c.args.maker.now in
     let left = g.R.Source.left c.loop-before.source in
-    let left' = g.R.Source.left c.next_message.new.source in
+    let left' = g.R.Source.left c.take_message.new.source in
     let reported = g.T.ReportRefusals.reported c.loop-before.reports in
     let here = position (c.loop-before.before + 1) c.loop-before.offset in
     let n = rw c.in-Ok-Some.field-0-is at c.in-Ok-Some.ensures.next in
     let is = c.loop-before.invariant in
-    let stays : IsTrue (g.R.Source.is_broken c.args.source.now) → IsTrue (g.R.Source.is_broken c.next_message.new.source) = λ h. c.in-Ok-Some.ensures.stays (is.source_stays h) in
+    let stays : IsTrue (g.R.Source.is_broken c.args.source.now) → IsTrue (g.R.Source.is_broken c.take_message.new.source) = λ h. c.in-Ok-Some.ensures.stays (is.source_stays h) in
     elim c.match-next.branch [
       | in-Read+in-Ok w ↦
           let made = subst (IsNext (profile_of (g.M.Render.profile c.args.maker.now)) g.M.Out.Rendered.is (text here) is_good left left') w.in-Read.is n in
@@ -91,7 +91,7 @@ loop-before-preserved g c =
       | in-Refused+in-Some w ↦
           let bad = subst (IsNext (profile_of (g.M.Render.profile c.args.maker.now)) g.M.Out.Rendered.is (text here) is_good left left') w.in-Refused.is n in
           let end = subst (λ (e : Option ℕ). MatchOption e (HasNoEnd bad.0 left') (λ n. IsFrame bad.0 × (n ≡ counted (length bad.0)))) w.in-Some.is bad.3 in
-          let is_report = w.report.ensures ∙ ap (λ (e : Option ℕ). report (c.loop-before.before + 1) w.in-Refused.refusal (is_some e)) w.in-Some.is in
+          let is_report = w.report.ensures ∙ ap (λ (e : Option ℕ). report here w.in-Refused.refusal e) w.in-Some.is in
           let adds = subst (λ r. Adds reported (g.T.ReportRefusals.reported w.report-in-Refused.new.self) (r ∷ [])) is_report w.report-in-Refused.ensures in
           let more = reached_bad _ _ _ _ _ _ _ (g.W.Sink.contents c.loop-before.sink) _ _ _ _ _ _ _ _ _ is.reached bad.0 w.in-Refused.refusal w.in-Some.octets end.1 bad.1 bad.2 end.0 refl adds in
           record {

@@ -2,9 +2,9 @@ use Rattle.std.proofs.Common.{◌∙◌, ap, sym, Option}
 use Rattle.ill_schema.specs.Content.{Content}
 use Rattle.ill_grammar.specs.Contents.{absent_content}
 use Rattle.ill_read.specs.Outline.{IsPassed}
-use Rattle.ill_text.specs.Marks.{entry_text}
+use Rattle.ill_text.specs.Shown.{entry_text}
 use Rattle.ill_text.specs.code.FieldPaths.{place_at}
-use Rattle.ill_text.proofs.Lines.{no_default, same_row}
+use Rattle.ill_read.proofs.MarkedValues.{no_default, same_row}
 use Rattle.ill_text.proofs.Sent.{adds_as, adds_nothing}
 use Rattle.ill_text.proofs.leaf.put_default.Goals as goal
 

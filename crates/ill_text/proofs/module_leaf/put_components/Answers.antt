@@ -1,5 +1,5 @@
 use Rattle.std.proofs.Common.{◌≡◌, ◌∙◌, ap, sym, []}
-use Rattle.ill_text.specs.Shown.{components, with_dots}
+use Rattle.ill_schema.specs.Texts.{components, with_dots}
 use Rattle.ill_text.specs.code.ObjectIdentifiers.{numbers_in}
 use Rattle.ill_text.proofs.Sent.{adds_as, adds_nothing, adds_then}
 use Rattle.ill_text.proofs.Subidentifiers.{held_small, two_and_others}

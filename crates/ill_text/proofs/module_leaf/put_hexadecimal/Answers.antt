@@ -1,5 +1,5 @@
 use Rattle.std.proofs.Common.{sym}
-use Rattle.ill_text.specs.Shown.{digits}
+use Rattle.ill_schema.specs.Texts.{digits}
 use Rattle.ill_text.proofs.OctetMarks.{octets_step}
 use Rattle.ill_text.proofs.Sent.{adds_as, adds_nothing, adds_then}
 use Rattle.ill_text.proofs.module_leaf.put_hexadecimal.Goals as goal

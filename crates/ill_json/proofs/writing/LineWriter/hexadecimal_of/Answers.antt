@@ -1,6 +1,6 @@
 use Rattle.std.proofs.Common.{◌∙◌, ◌++◌, ap, refl}
 use Rattle.std.proofs.lemmas.Result.{on_ok_weaker}
-use Rattle.ill_text.specs.Shown.{hexadecimal}
+use Rattle.ill_schema.specs.Texts.{hexadecimal}
 use Rattle.ill_json.proofs.Added.{adds_from}
 use Rattle.ill_json.proofs.writing.LineWriter.hexadecimal_of.Goals as goal
 

@@ -1,0 +1,69 @@
+-- The lines of JSON of results: of a message without its value, and of one that is refused.
+use Rattle.std.specs.Prelude.{ℕ, List, ◌++◌, codes, decimal, Option, Some, None, option_map}
+use Rattle.json.specs.Json.{Json, number, string, object, Members, no_members, member}
+use Rattle.ill_schema.specs.Causes.{cause_name}
+use Rattle.ill_schema.specs.Names.{part_name_of}
+use Rattle.ill_schema.specs.declared.part.PartId.{PartId}
+use Rattle.ill_schema.specs.declared.refusal.Cause.{Cause}
+use Rattle.ill_schema.specs.declared.refusal.Refusal.{Refusal}
+use Rattle.ill_schema.specs.Texts.{hexadecimal}
+use Rattle.ill_json.specs.Json.{head_members, line_of, with_file}
+use Rattle.ill_json.specs.declared.line.LineHead.{LineHead}
+use Rattle.ill_json.specs.declared.result.RefusalKind.{RefusalKind}
+use Rattle.ill_json.specs.declared.result.RefusedHead.{RefusedHead}
+
+-- a member that has a text, where there is one
+abbrev pub with_text : List ℕ → Option (List ℕ) → Members → Members
+with_text name None ms = ms
+with_text name (Some text) ms = member name (string text) ms
+
+-- a member that has a number, where there is one
+abbrev pub with_count : List ℕ → Option ℕ → Members → Members
+with_count name None ms = ms
+with_count name (Some n) ms = member name (number (decimal n)) ms
+
+-- a message without its value, with this name of its APDU; and a digest, where there is one
+abbrev pub result_json : Option (List ℕ) → LineHead → List ℕ → Option (List ℕ) → Json
+result_json file head apdu digest =
+    object (with_file file (head_members head apdu (with_text (codes "digest") (option_map hexadecimal digest) no_members)))
+
+-- the name of a node, and that of its row
+abbrev pub dotted : List ℕ × List ℕ → List ℕ
+dotted names = names.0 ++ codes "." ++ names.1
+
+-- the part that a cause is about, and its name
+abbrev pub part_of_cause : Cause → Option PartId
+part_of_cause (Cause.LeftOut part) = Some part
+part_of_cause (Cause.Missing part) = Some part
+part_of_cause _ = None
+
+abbrev pub part_text : Option PartId → Option (List ℕ)
+part_text None = None
+part_text (Some part) = option_map dotted (part_name_of part)
+
+abbrev pub kind_name : RefusalKind → List ℕ
+kind_name RefusalKind.NotRead = codes "not read"
+kind_name RefusalKind.Invalid = codes "invalid"
+
+-- why a message is refused: the cause, its offset in the message, its kind, and its part
+abbrev pub why_json : Refusal → RefusalKind → Json
+why_json refusal kind = object
+    (member (codes "cause") (string (cause_name refusal.cause))
+    (member (codes "offset") (number (decimal refusal.at))
+    (member (codes "kind") (string (kind_name kind))
+    (with_text (codes "part") (part_text (part_of_cause refusal.cause)) no_members))))
+
+-- a message that is refused, with the name of its APDU, where that is known
+abbrev pub refused_json : Option (List ℕ) → RefusedHead → Option (List ℕ) → Json
+refused_json file head apdu = object (with_file file
+    (member (codes "number") (number (decimal head.number))
+    (member (codes "offset") (number (decimal head.offset))
+    (with_count (codes "octets") head.octets
+    (with_text (codes "apdu") apdu
+    (member (codes "refused") (why_json head.refusal head.kind) no_members))))))
+
+abbrev pub result_line_of : Option (List ℕ) → LineHead → List ℕ → Option (List ℕ) → List ℕ
+result_line_of file head apdu digest = line_of (result_json file head apdu digest)
+
+abbrev pub refused_line_of : Option (List ℕ) → RefusedHead → Option (List ℕ) → List ℕ
+refused_line_of file head apdu = line_of (refused_json file head apdu)

@@ -1,0 +1,151 @@
+//! Results as lines of JSON.
+use super::runs::Octets::Text;
+use super::runs::{QUIET, Row, first_wrong};
+use std::test::Fail;
+
+/// Results of messages, refused ones among them.
+static ROWS: [Row; 18] = [
+    Row {
+        words: "check --json A",
+        output: Text(
+            b"{\"number\":1,\"offset\":0,\"octets\":33,\"apdu\":\"Expired\",\"normal\":true}\n",
+        ),
+        ..QUIET
+    },
+    Row {
+        words: "check --json A B",
+        status: 1,
+        output: Text(
+            b"{\"file\":\"A\",\"number\":1,\"offset\":0,\"octets\":33,\"apdu\":\"Expired\",\"normal\":true}\n{\"file\":\"B\",\"number\":1,\"offset\":0,\"octets\":47,\"apdu\":\"Expired\",\"normal\":false}\n",
+        ),
+        ..QUIET
+    },
+    Row {
+        words: "check --json -H A",
+        output: Text(
+            b"{\"file\":\"A\",\"number\":1,\"offset\":0,\"octets\":33,\"apdu\":\"Expired\",\"normal\":true}\n",
+        ),
+        ..QUIET
+    },
+    Row {
+        words: "digest --json B",
+        output: Text(
+            b"{\"number\":1,\"offset\":0,\"octets\":47,\"apdu\":\"Expired\",\"normal\":false,\"digest\":\"41b0dca84b6db1db587880995cae8f2ae640c5af026d4d9745a5bc56ba11a782\"}\n",
+        ),
+        ..QUIET
+    },
+    Row {
+        words: "check --json middle",
+        status: 1,
+        output: Text(
+            b"{\"number\":1,\"offset\":0,\"octets\":33,\"apdu\":\"Expired\",\"normal\":true}\n{\"number\":2,\"offset\":33,\"octets\":2,\"apdu\":\"Expired\",\"refused\":{\"cause\":\"Missing\",\"offset\":2,\"kind\":\"invalid\",\"part\":\"Expired.protocol-version-num\"}}\n",
+        ),
+        ..QUIET
+    },
+    Row {
+        words: "check --json --keep-going middle",
+        status: 1,
+        output: Text(
+            b"{\"number\":1,\"offset\":0,\"octets\":33,\"apdu\":\"Expired\",\"normal\":true}\n{\"number\":2,\"offset\":33,\"octets\":2,\"apdu\":\"Expired\",\"refused\":{\"cause\":\"Missing\",\"offset\":2,\"kind\":\"invalid\",\"part\":\"Expired.protocol-version-num\"}}\n{\"number\":3,\"offset\":35,\"octets\":33,\"apdu\":\"Expired\",\"normal\":true}\n",
+        ),
+        ..QUIET
+    },
+    Row {
+        words: "check --keep-going --json endless",
+        status: 1,
+        output: Text(
+            b"{\"number\":1,\"offset\":0,\"octets\":33,\"apdu\":\"Expired\",\"normal\":true}\n{\"number\":2,\"offset\":33,\"apdu\":\"Expired\",\"refused\":{\"cause\":\"Missing\",\"offset\":7,\"kind\":\"invalid\",\"part\":\"Expired.transaction-id\"}}\n",
+        ),
+        ..QUIET
+    },
+    Row {
+        words: "check --json endless",
+        status: 1,
+        output: Text(
+            b"{\"number\":1,\"offset\":0,\"octets\":33,\"apdu\":\"Expired\",\"normal\":true}\n{\"number\":2,\"offset\":33,\"apdu\":\"Expired\",\"refused\":{\"cause\":\"Missing\",\"offset\":7,\"kind\":\"invalid\",\"part\":\"Expired.transaction-id\"}}\n",
+        ),
+        ..QUIET
+    },
+    Row {
+        words: "digest --json O middle A",
+        status: 3,
+        output: Text(
+            b"{\"file\":\"middle\",\"number\":1,\"offset\":0,\"octets\":33,\"apdu\":\"Expired\",\"normal\":true,\"digest\":\"41b0dca84b6db1db587880995cae8f2ae640c5af026d4d9745a5bc56ba11a782\"}\n{\"file\":\"middle\",\"number\":2,\"offset\":33,\"octets\":2,\"apdu\":\"Expired\",\"refused\":{\"cause\":\"Missing\",\"offset\":2,\"kind\":\"invalid\",\"part\":\"Expired.protocol-version-num\"}}\n{\"file\":\"A\",\"number\":1,\"offset\":0,\"octets\":33,\"apdu\":\"Expired\",\"normal\":true,\"digest\":\"41b0dca84b6db1db587880995cae8f2ae640c5af026d4d9745a5bc56ba11a782\"}\n",
+        ),
+        errors: "illcanon: cannot open O: no such file\n",
+        ..QUIET
+    },
+    Row {
+        words: "check --json --summary E middle",
+        status: 1,
+        output: Text(
+            b"{\"file\":\"E\",\"number\":1,\"offset\":0,\"octets\":47,\"apdu\":\"Expired\",\"refused\":{\"cause\":\"LeftOut\",\"offset\":33,\"kind\":\"not read\",\"part\":\"Expired.expired-extensions\"}}\n{\"file\":\"middle\",\"number\":1,\"offset\":0,\"octets\":33,\"apdu\":\"Expired\",\"normal\":true}\n{\"file\":\"middle\",\"number\":2,\"offset\":33,\"octets\":2,\"apdu\":\"Expired\",\"refused\":{\"cause\":\"Missing\",\"offset\":2,\"kind\":\"invalid\",\"part\":\"Expired.protocol-version-num\"}}\n{\"summary\":{\"files\":2,\"messages\":3,\"normal\":1,\"not_normal\":0,\"refused\":2,\"not_read\":1,\"invalid\":1,\"octets\":82,\"not_opened\":0,\"left\":2}}\n",
+        ),
+        errors: "illcanon: E: left at message 1, which begins at octet 0\nillcanon: middle: left at message 2, which begins at octet 33\n",
+        ..QUIET
+    },
+    Row {
+        words: "check --json --summary --keep-going B first",
+        status: 1,
+        output: Text(
+            b"{\"file\":\"B\",\"number\":1,\"offset\":0,\"octets\":47,\"apdu\":\"Expired\",\"normal\":false}\n{\"file\":\"first\",\"number\":1,\"offset\":0,\"octets\":2,\"apdu\":\"Expired\",\"refused\":{\"cause\":\"Missing\",\"offset\":2,\"kind\":\"invalid\",\"part\":\"Expired.protocol-version-num\"}}\n{\"file\":\"first\",\"number\":2,\"offset\":2,\"octets\":33,\"apdu\":\"Expired\",\"normal\":true}\n{\"file\":\"first\",\"number\":3,\"offset\":35,\"octets\":47,\"apdu\":\"Expired\",\"normal\":false}\n{\"summary\":{\"files\":2,\"messages\":4,\"normal\":1,\"not_normal\":2,\"refused\":1,\"not_read\":0,\"invalid\":1,\"octets\":129,\"not_opened\":0,\"left\":0}}\n",
+        ),
+        ..QUIET
+    },
+    Row {
+        words: "check --json --summary none",
+        output: Text(
+            b"{\"summary\":{\"files\":1,\"messages\":0,\"normal\":0,\"not_normal\":0,\"refused\":0,\"not_read\":0,\"invalid\":0,\"octets\":0,\"not_opened\":0,\"left\":0}}\n",
+        ),
+        ..QUIET
+    },
+    Row {
+        words: "check --json --profile module E",
+        output: Text(
+            b"{\"number\":1,\"offset\":0,\"octets\":47,\"apdu\":\"Expired\",\"normal\":true}\n",
+        ),
+        ..QUIET
+    },
+    Row {
+        words: "check --json --hex hex",
+        status: 1,
+        output: Text(
+            b"{\"number\":1,\"offset\":0,\"octets\":33,\"apdu\":\"Expired\",\"normal\":true}\n{\"number\":2,\"offset\":33,\"octets\":2,\"apdu\":\"Expired\",\"refused\":{\"cause\":\"Missing\",\"offset\":2,\"kind\":\"invalid\",\"part\":\"Expired.protocol-version-num\"}}\n",
+        ),
+        ..QUIET
+    },
+    Row {
+        words: "check --json --hex --keep-going hex",
+        status: 1,
+        output: Text(
+            b"{\"number\":1,\"offset\":0,\"octets\":33,\"apdu\":\"Expired\",\"normal\":true}\n{\"number\":2,\"offset\":33,\"octets\":2,\"apdu\":\"Expired\",\"refused\":{\"cause\":\"Missing\",\"offset\":2,\"kind\":\"invalid\",\"part\":\"Expired.protocol-version-num\"}}\n{\"number\":3,\"offset\":35,\"octets\":33,\"apdu\":\"Expired\",\"normal\":true}\n",
+        ),
+        ..QUIET
+    },
+    Row {
+        words: "check --json --hex A",
+        status: 1,
+        errors: "illcanon: hex: odd number of digits\n",
+        ..QUIET
+    },
+    Row {
+        words: "check --json --files-from line-end",
+        output: Text(
+            b"{\"file\":\"A\",\"number\":1,\"offset\":0,\"octets\":33,\"apdu\":\"Expired\",\"normal\":true}\n{\"file\":\"n\\nm\",\"number\":1,\"offset\":0,\"octets\":33,\"apdu\":\"Expired\",\"normal\":true}\n",
+        ),
+        ..QUIET
+    },
+    Row {
+        words: "check --json --lines A",
+        status: 2,
+        errors: "illcanon: --lines excludes --json\n",
+        ..QUIET
+    },
+];
+
+#[test]
+fn results_are_lines_of_json(rt: HostRuntime) -> Result<(), Fail> {
+    let wrong = first_wrong(&rt, &ROWS)?;
+    assert!(rt; wrong.is_none(), "{wrong:?}");
+    Ok(())
+}

@@ -1,0 +1,167 @@
+//! The file of refused messages.
+use super::runs::Octets::Text;
+use super::runs::{BEFORE, EXPIRED, Octets, QUIET, Row, comes_true, enter, holds, leave};
+use std::fs;
+use std::test::Fail;
+
+/// The content of R before each run.
+const OLD: &[u8] = b"old";
+
+/// A run of the program, and what R holds after it.
+struct Kept {
+    row: Row,
+    kept: &'static [u8],
+}
+
+/// An EXPIRED with nothing in it.
+const EMPTY: &[u8] = b"\x74\x00";
+
+static ROWS: [Kept; 12] = [
+    Kept {
+        row: Row {
+            words: "check --keep-going --refused R middle",
+            status: 1,
+            output: Text(
+                b"message 1: Expired, 33 octets, normal\nmessage 3: Expired, 33 octets, normal\n",
+            ),
+            errors: "illcanon: refused at 2 in message 2: Missing Expired.protocol-version-num\n",
+            ..QUIET
+        },
+        kept: EMPTY,
+    },
+    // one after the other, of several files; an end that isn't known has its line
+    Kept {
+        row: Row {
+            words: "digest --keep-going --refused R first endless last",
+            status: 1,
+            output: Text(
+                b"41b0dca84b6db1db587880995cae8f2ae640c5af026d4d9745a5bc56ba11a782  first:2\n41b0dca84b6db1db587880995cae8f2ae640c5af026d4d9745a5bc56ba11a782  first:3\n41b0dca84b6db1db587880995cae8f2ae640c5af026d4d9745a5bc56ba11a782  endless:1\n41b0dca84b6db1db587880995cae8f2ae640c5af026d4d9745a5bc56ba11a782  last:1\n41b0dca84b6db1db587880995cae8f2ae640c5af026d4d9745a5bc56ba11a782  last:2\n",
+            ),
+            errors: "illcanon: first: refused at 2 in message 1: Missing Expired.protocol-version-num\nillcanon: endless: refused at 7 in message 2: Missing Expired.transaction-id; its end is unknown\nillcanon: last: refused at 2 in message 3: Missing Expired.protocol-version-num\nillcanon: R is without 1 refused message: too long, or of an unknown end\n",
+            ..QUIET
+        },
+        kept: b"\x74\x00\x74\x00",
+    },
+    // octets, also of hexadecimal text
+    Kept {
+        row: Row {
+            words: "canonicalise --keep-going --hex --refused R hex OUT",
+            status: 1,
+            errors: "illcanon: refused at 2 in message 2: Missing Expired.protocol-version-num\n",
+            out: Text(
+                b"741f301d800102a10aa1031b0147a2031b0151a20ca00a80083230323430323239\n741f301d800102a10aa1031b0147a2031b0151a20ca00a80083230323430323239\n",
+            ),
+            ..QUIET
+        },
+        kept: EMPTY,
+    },
+    Kept {
+        row: Row {
+            words: "canonicalise --keep-going --refused R -o OUT middle last",
+            status: 1,
+            errors: "illcanon: middle: refused at 2 in message 2: Missing Expired.protocol-version-num\nillcanon: last: refused at 2 in message 3: Missing Expired.protocol-version-num\n",
+            out: Octets::Repeated(EXPIRED, 132),
+            ..QUIET
+        },
+        kept: b"\x74\x00\x74\x00",
+    },
+    Kept {
+        row: Row {
+            words: "check --json --keep-going --refused R E",
+            status: 1,
+            output: Text(
+                b"{\"number\":1,\"offset\":0,\"octets\":47,\"apdu\":\"Expired\",\"refused\":{\"cause\":\"LeftOut\",\"offset\":33,\"kind\":\"not read\",\"part\":\"Expired.expired-extensions\"}}\n",
+            ),
+            ..QUIET
+        },
+        kept: b"\x74\x2d\x30\x2b\x80\x01\x02\xa1\x0a\xa1\x03\x1b\x01\x47\xa2\x03\x1b\x01\x51\xa2\x0c\xa0\x0a\x80\x0820240229\xbf\x31\x0b\x30\x09\x80\x01\x01\xa2\x04\x30\x02\x05\x00",
+    },
+    // nothing is refused
+    Kept {
+        row: Row {
+            words: "show --json --keep-going --refused R none",
+            ..QUIET
+        },
+        kept: b"",
+    },
+    // R stays as it was
+    Kept {
+        row: Row {
+            words: "check --keep-going --refused R O",
+            status: 3,
+            errors: "illcanon: cannot open O\n",
+            ..QUIET
+        },
+        kept: OLD,
+    },
+    Kept {
+        row: Row {
+            words: "check --refused R middle",
+            status: 2,
+            errors: "illcanon: --refused needs --keep-going\n",
+            ..QUIET
+        },
+        kept: OLD,
+    },
+    Kept {
+        row: Row {
+            words: "check --keep-going --refused R A R",
+            status: 2,
+            errors: "illcanon: --refused needs a file of its own\n",
+            ..QUIET
+        },
+        kept: OLD,
+    },
+    Kept {
+        row: Row {
+            words: "check --keep-going --refused - A",
+            status: 2,
+            errors: "illcanon: --refused needs a file of its own\n",
+            ..QUIET
+        },
+        kept: OLD,
+    },
+    // two words for one file
+    Kept {
+        row: Row {
+            words: "check --keep-going --refused ./R A R",
+            status: 2,
+            errors: "illcanon: --refused needs a file of its own\n",
+            ..QUIET
+        },
+        kept: OLD,
+    },
+    Kept {
+        row: Row {
+            words: "canonicalise --keep-going --refused ./new A new",
+            status: 2,
+            errors: "illcanon: --refused needs a file of its own\n",
+            out: Text(BEFORE),
+            ..QUIET
+        },
+        kept: OLD,
+    },
+];
+
+/// The words of the first row that doesn't come true, in the folder where this is.
+fn first_wrong_here(rt: &HostRuntime) -> Result<Option<&'static str>, Fail> {
+    for kept in &ROWS {
+        fs::write(rt, "R", OLD)?;
+        if !comes_true(rt, &kept.row)? || !holds(rt, "R", Text(kept.kept))? {
+            return Ok(Some(kept.row.words));
+        }
+        if fs::exists(rt, "R.part")? {
+            return Ok(Some(kept.row.words));
+        }
+    }
+    Ok(None)
+}
+
+#[test]
+fn refused_messages_go_to_their_file(rt: HostRuntime) -> Result<(), Fail> {
+    let folder = enter(&rt)?;
+    let wrong = first_wrong_here(&rt)?;
+    leave(&rt, folder.as_str())?;
+    assert!(rt; wrong.is_none(), "{wrong:?}");
+    Ok(())
+}

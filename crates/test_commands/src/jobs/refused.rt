@@ -1,0 +1,129 @@
+//! Lines of `refused_json`, row by row.
+use ill_commands::{Job, JobOptions, RefusalReport, refused_json};
+use ill_normal::{Failure, Refusal, decode_normal_as};
+use ill_schema::Profile;
+use std::alloc::Global;
+use std::test::Fail;
+use test_support::octets_of;
+
+/// The octets of a message that is refused, its profile, the name of its file, how many octets it has, where that is known, and the line of it
+/// as message 7 after 100 octets.
+const ROWS: [(&str, Profile, Option<&str>, Option<u64>, &str); 11] = [
+    // nothing in it
+    (
+        "7400",
+        Profile::Two,
+        None,
+        Some(2),
+        "{\"number\":7,\"offset\":100,\"octets\":2,\"apdu\":\"Expired\",\"refused\":{\"cause\":\"Missing\",\"offset\":2,\"kind\":\"invalid\",\"part\":\"Expired.protocol-version-num\"}}\n",
+    ),
+    // an end that isn't known, and a name with a line end and a letter beyond ASCII
+    (
+        "7401",
+        Profile::Two,
+        Some("a\n\u{e9}"),
+        None,
+        "{\"file\":\"a\\n\\u00e9\",\"number\":7,\"offset\":100,\"apdu\":\"Expired\",\"refused\":{\"cause\":\"Truncated\",\"offset\":2,\"kind\":\"invalid\"}}\n",
+    ),
+    // an extension, which the module has
+    (
+        "742d302b800102a10aa1031b0147a2031b0151a20ca00a80083230323430323239bf310b3009800101a20430020500",
+        Profile::Two,
+        None,
+        Some(47),
+        "{\"number\":7,\"offset\":100,\"octets\":47,\"apdu\":\"Expired\",\"refused\":{\"cause\":\"LeftOut\",\"offset\":33,\"kind\":\"not read\",\"part\":\"Expired.expired-extensions\"}}\n",
+    ),
+    // the extension is primitive, which it isn't in the module
+    (
+        "7422 3020 800102 a10aa1031b0147a2031b0151 a20ca00a80083230323430323239 9f3100",
+        Profile::Two,
+        None,
+        Some(36),
+        "{\"number\":7,\"offset\":100,\"octets\":36,\"apdu\":\"Expired\",\"refused\":{\"cause\":\"LeftOut\",\"offset\":33,\"kind\":\"invalid\",\"part\":\"Expired.expired-extensions\"}}\n",
+    ),
+    // an APDU that the module has, with nothing in it
+    (
+        "6200",
+        Profile::Two,
+        None,
+        Some(2),
+        "{\"number\":7,\"offset\":100,\"octets\":2,\"apdu\":\"Forward-Notification\",\"refused\":{\"cause\":\"LeftOut\",\"offset\":0,\"kind\":\"not read\",\"part\":\"ILL-APDU.Forward-Notification\"}}\n",
+    ),
+    // the same in the module profile
+    (
+        "6200",
+        Profile::Module,
+        None,
+        Some(2),
+        "{\"number\":7,\"offset\":100,\"octets\":2,\"apdu\":\"Forward-Notification\",\"refused\":{\"cause\":\"Missing\",\"offset\":2,\"kind\":\"invalid\",\"part\":\"Forward-Notification.protocol-version-num\"}}\n",
+    ),
+    // a number of nine octets, which neither profile reads
+    (
+        "740d300b8009010000000000000000",
+        Profile::Two,
+        None,
+        Some(15),
+        "{\"number\":7,\"offset\":100,\"octets\":15,\"apdu\":\"Expired\",\"refused\":{\"cause\":\"IntegerTooLong\",\"offset\":4,\"kind\":\"not read\"}}\n",
+    ),
+    (
+        "740d300b8009010000000000000000",
+        Profile::Module,
+        None,
+        Some(15),
+        "{\"number\":7,\"offset\":100,\"octets\":15,\"apdu\":\"Expired\",\"refused\":{\"cause\":\"IntegerTooLong\",\"offset\":4,\"kind\":\"not read\"}}\n",
+    ),
+    // an escape sequence in a GeneralString
+    (
+        "7420 301e 800102 a10ba1041b021b47a2031b0151 a20ca00a80083230323430323239",
+        Profile::Two,
+        None,
+        Some(34),
+        "{\"number\":7,\"offset\":100,\"octets\":34,\"apdu\":\"Expired\",\"refused\":{\"cause\":\"BadText\",\"offset\":11,\"kind\":\"not read\"}}\n",
+    ),
+    // a tag that is due nowhere, and one of no APDU
+    (
+        "0500",
+        Profile::Two,
+        None,
+        Some(2),
+        "{\"number\":7,\"offset\":100,\"octets\":2,\"refused\":{\"cause\":\"UnexpectedTag\",\"offset\":0,\"kind\":\"invalid\"}}\n",
+    ),
+    (
+        "7f1f00",
+        Profile::Two,
+        None,
+        Some(3),
+        "{\"number\":7,\"offset\":100,\"octets\":3,\"refused\":{\"cause\":\"UnexpectedTag\",\"offset\":0,\"kind\":\"invalid\"}}\n",
+    ),
+];
+
+/// The refusal of the message that the octets are.
+fn refusal_of(alloc: Global, profile: Profile, octets: &[u8]) -> Result<Refusal, Fail> {
+    match decode_normal_as(alloc, profile, octets) {
+        Err(Failure::Refused(refusal)) => Ok(refusal),
+        _ => Err(Fail::from("not refused")),
+    }
+}
+
+#[test]
+fn each_line_of_a_refused_message(rt: HostRuntime) -> Result<(), Fail> {
+    let alloc = rt.alloc();
+    for (input, profile, file, count, wanted) in &ROWS {
+        let octets = octets_of(alloc, input)?;
+        let report = RefusalReport {
+            message: 7,
+            offset: 100,
+            refusal: refusal_of(alloc, *profile, &octets)?,
+            octets: *count,
+        };
+        let work = JobOptions {
+            profile: *profile,
+            name: file.unwrap_or("-"),
+            names_input: file.is_some(),
+            ..JobOptions::new(Job::CheckJson, false)
+        };
+        let refused = refused_json(alloc, work, report, &octets, Vec::new(alloc))?;
+        assert!(rt; refused.line.as_slice() == wanted.as_bytes(), "{input}");
+    }
+    Ok(())
+}
