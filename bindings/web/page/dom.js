@@ -15,6 +15,9 @@ export const grouped = (number) => number.toLocaleString("en-GB");
 
 export const counted = (number, one, more = `${one}s`) => `${grouped(number)} ${number === 1 ? one : more}`;
 
+/** A text, which is cut where it has more than this many characters. */
+export const shortened = (text, most) => (text.length > most ? `${text.slice(0, most)} … cut here` : text);
+
 /** Says something to a screen reader. */
 export function say(text) {
   $("said").textContent = text;

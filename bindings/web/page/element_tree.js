@@ -28,9 +28,14 @@ export class ElementTree {
     return this.elements.shown.length + (this.found.refusal ? 1 : 0);
   }
 
-  /** Brings the line into sight on which a message is refused. */
+  /** Brings the line into sight on which a message is refused: it is before the elements that are not judged. */
   bringRefusal() {
-    this.lines.centre(this.#lineCount() - 1);
+    this.lines.centre(this.elements.judgedShown);
+  }
+
+  /** The line of the element that is shown at a place. */
+  #lineOf(place) {
+    return place < this.elements.judgedShown ? place : place + 1;
   }
 
   /** Selects an element, and opens those round it. */
@@ -39,7 +44,7 @@ export class ElementTree {
     if (!elements || i < 0 || i >= elements.count) return;
     this.#openTo(i);
     this.selected = i;
-    if (moves) this.lines.bring(elements.placeOf(i));
+    if (moves) this.lines.bring(this.#lineOf(elements.placeOf(i)));
     for (const line of this.lines.drawn.values()) if (line.id) line.setAttribute("aria-selected", String(line.id === `e${i}`));
     this.box.setAttribute("aria-activedescendant", `e${i}`);
     this.chosen(i, moves);
@@ -77,29 +82,43 @@ export class ElementTree {
   }
 
   #fill(line, at) {
-    if (at >= this.elements.shown.length) return this.#fillRefusal(line);
-    const { elements } = this, i = elements.shown[at], element = elements.element(i), hasChildren = elements.hasChildren(i);
+    const { elements } = this, { judgedShown } = elements;
+    if (at === judgedShown) this.#fillRefusal(line);
+    else this.#fillElement(line, elements.shown[at < judgedShown ? at : at - 1]);
+  }
+
+  #fillElement(line, i) {
+    const { elements } = this, element = elements.element(i), hasChildren = elements.hasChildren(i);
     const places = { "aria-level": element.depth + 1, "aria-setsize": elements.siblings[i], "aria-posinset": elements.numbers[i] };
     for (const [name, value] of Object.entries({ role: "treeitem", ...places })) line.setAttribute(name, String(value));
     line.id = `e${i}`;
     line.setAttribute("aria-selected", String(i === this.selected));
     if (hasChildren) line.setAttribute("aria-expanded", String(!elements.isClosed[i]));
+    if (!element.isJudged) line.classList.add("unjudged");
     const fold = make("span", "fold", hasChildren ? (elements.isClosed[i] ? "▸" : "▾") : "", { "aria-hidden": "true" });
     line.append(make("span", "offset", String(element.offset)), headerOf(element), rails(element.depth), fold);
     line.append(make("span", `name${element.isType ? " type" : ""}${element.isMark ? " mark" : ""}`, element.name));
     if (element.value !== null) line.append(make("span", "equals", "="), valueOf(element));
-    for (const note of element.notes) line.append(make("span", "note", note, { title: note }));
+    for (const note of element.notes) line.append(make("span", `note${note === "not judged" ? " plain" : ""}`, note, { title: note }));
   }
 
   /** The line of the place where the message is refused. */
   #fillRefusal(line) {
-    const { elements, found } = this, { refusal, octets } = found, last = elements.count - 1, octet = make("span", "octets");
+    const { elements, found } = this, { refusal, octets } = found, octet = make("span", "octets");
     if (refusal.offset < octets.length) octet.append(make("span", "stop", toHex(octets.subarray(refusal.offset, refusal.offset + 1))));
-    const isInside = last >= 0 && elements.element(last).isConstructed && elements.end(last, octets.length) > refusal.offset;
-    const depth = last < 0 ? 0 : elements.depths[last] + (isInside ? 1 : 0);
     line.setAttribute("role", "presentation");
-    line.append(make("span", "offset", String(refusal.offset)), octet, rails(depth), make("span", "fold"));
+    line.append(make("span", "offset", String(refusal.offset)), octet, rails(this.#depthOfRefusal()), make("span", "fold"));
     line.append(make("span", "stop", `✕ ${refusal.cause}${refusal.part ? ` ${refusal.part}` : ""}`));
+    if (elements.judged < elements.count) line.append(make("span", "after", "What follows is not judged."));
+  }
+
+  /** The depth of what is refused: that of the first element that is not judged, unless a part is missing before it. */
+  #depthOfRefusal() {
+    const { elements, found } = this, { refusal, octets } = found, last = elements.judged - 1;
+    if (elements.judged < elements.count && refusal.cause !== "Missing") return elements.depths[elements.judged];
+    if (last < 0) return 0;
+    const isInside = elements.element(last).isConstructed && elements.end(last, octets.length) > refusal.offset;
+    return elements.depths[last] + (isInside ? 1 : 0);
   }
 
   #click(event) {

@@ -17,8 +17,12 @@ const NOTES = [
   [/^TRUE as/, "Any octet but 00 is TRUE. The normal form has ff."],
   [/^default written$/, "The value is the default, which the normal form leaves out."],
   [/^unused bits are not 0$/, "Bits after the last one of the string are set. In the normal form they are 0."],
-  [/^cut short$/, "The octets end, or the place of the refusal comes, before the content does."],
+  [/^cut short$/, "The octets, or those of an element round it, end before the content does."],
+  [/^not judged$/, "It comes after the place where the message is refused. It is read by its identifier and its length alone."],
 ];
+
+/** How a line ends whose octets begin no element. */
+const OCTETS_END = "  octets  (not judged)";
 
 /** What a note means. */
 export function meaningOfNote(note) {
@@ -26,16 +30,22 @@ export function meaningOfNote(note) {
   return found ? found[1] : "";
 }
 
+/** What is said of an element by a note. */
+export function titleOfNote(note) {
+  return { "cut short": "Cut short", "not judged": "Not judged" }[note] || "Not normal";
+}
+
 export class Elements {
   constructor(text) {
     this.text = text;
-    this.refusal = null; // the lines after the elements
+    this.refusal = null; // the lines of the refusal, after which the elements are not judged
     const starts = [], offsets = [], depths = [];
-    let at = text.indexOf("\n") + 1;
-    for (; at < text.length; at = text.indexOf("\n", at) + 1) {
-      if (text.startsWith("refused at ", at)) {
-        this.refusal = text.slice(at).trimEnd().split("\n");
-        break;
+    for (let at = text.indexOf("\n") + 1; at < text.length; at = text.indexOf("\n", at) + 1) {
+      if (!isOfElement(text, at)) {
+        this.refusal ||= [];
+        this.refusal.push(text.slice(at, text.indexOf("\n", at)));
+        this.judged = starts.length;
+        continue;
       }
       const { offset, depth } = beginningOf(text, at);
       starts.push(at);
@@ -43,6 +53,7 @@ export class Elements {
       depths.push(depth);
     }
     this.count = starts.length;
+    this.judged ??= this.count; // the number of elements before the place where the message is refused
     this.starts = Uint32Array.from(starts);
     this.offsets = Uint32Array.from(offsets);
     this.depths = Uint8Array.from(depths);
@@ -79,11 +90,15 @@ export class Elements {
     return i + 1 < this.count && this.depths[i + 1] > this.depths[i];
   }
 
-  /** Finds the lines that no closed element hides. */
+  /** Finds the lines that no closed element hides, and how many of them are of elements that are judged. */
   show() {
     const shown = new Uint32Array(this.count);
     let count = 0;
-    for (let i = 0; i < this.count; i = this.isClosed[i] && this.hasChildren(i) ? this.after[i] : i + 1) shown[count++] = i;
+    this.judgedShown = 0;
+    for (let i = 0; i < this.count; i = this.isClosed[i] && this.hasChildren(i) ? this.after[i] : i + 1) {
+      shown[count++] = i;
+      if (i < this.judged) this.judgedShown = count;
+    }
     this.shown = shown.subarray(0, count);
   }
 
@@ -104,13 +119,13 @@ export class Elements {
 
   /** An element, as its line says it. */
   element(i) {
-    const [, hex, rest] = /^ *\d+ +((?:[0-9a-f]{2} )*[0-9a-f]{2})(?: {2}(.*))?$/.exec(this.line(i));
+    const place = { offset: this.offsets[i], depth: this.depths[i], isJudged: i < this.judged }, line = this.line(i);
+    if (!place.isJudged && line.endsWith(OCTETS_END)) return octetsAt(place, line.slice(0, -OCTETS_END.length));
+    const [, hex, rest] = /^ *\d+ +((?:[0-9a-f]{2} )*[0-9a-f]{2})(?: {2}(.*))?$/.exec(line);
     const header = hex.split(" ").map((octet) => parseInt(octet, 16));
-    const place = { offset: this.offsets[i], depth: this.depths[i] };
     const element = { ...place, header, ...partsOf(header), value: null, kind: "", notes: [], isMark: false };
     element.name = /^(.*?)(?= = | {2}\(|$)/.exec(rest)[1];
     element.isType = TYPES.has(element.name) || element.name.startsWith("[");
-    if (element.name === "end mark") return { ...element, isMark: true, isConstructed: false, size: 0 };
     let tail = rest.slice(element.name.length);
     if (tail.startsWith(" = ")) {
       tail = tail.slice(3);
@@ -120,18 +135,29 @@ export class Elements {
     }
     const notes = /^ {2}\((.*)\)$/.exec(tail);
     if (notes) element.notes = notes[1].split(", ");
+    if (element.name === "end mark") return { ...element, isMark: true, isConstructed: false, size: 0 };
     return element;
   }
 
   /** Where an element ends, in octets of this number. One of the indefinite form ends with the end mark that is at its depth. */
   end(i, count) {
-    const element = this.element(i), begin = element.offset + element.header.length;
+    const element = this.element(i), begin = element.offset + element.header.length, bound = this.#bound(i, count);
     if (element.isMark) return begin;
-    if (element.size !== null) return Math.min(count, begin + element.size);
+    if (element.size !== null) return Math.min(bound, begin + element.size);
     const mark = this.hasChildren(i) ? this.after[i] : i + 1;
     const isClosed = mark < this.count && this.depths[mark] === element.depth && this.element(mark).isMark;
     if (isClosed) return this.offsets[mark] + 2;
-    return this.hasChildren(i) ? count : begin;
+    return this.hasChildren(i) || element.value !== null ? bound : begin;
+  }
+
+  /** Where the octets, of this number, or those of an element round this one end. */
+  #bound(i, count) {
+    let bound = count;
+    for (let at = this.parents[i]; at >= 0; at = this.parents[at]) {
+      const { offset, header, size } = this.element(at);
+      if (size !== null) bound = Math.min(bound, offset + header.length + size);
+    }
+    return bound;
   }
 
   /** The names of the parts round an element, and its own. */
@@ -139,10 +165,17 @@ export class Elements {
     const names = [];
     for (let at = i; at >= 0; at = this.parents[at]) {
       const element = this.element(at);
-      if (!element.isType || at === i) names.unshift(element.name);
+      if (!element.isType || !element.isJudged || at === i) names.unshift(element.name);
     }
     return names;
   }
+}
+
+/** Whether the line there is of an element, which begins with its offset. A line of a refusal begins with a word. */
+function isOfElement(text, at) {
+  let i = at;
+  while (text.charCodeAt(i) === 32) i++;
+  return text.charCodeAt(i) >= 48 && text.charCodeAt(i) <= 57;
 }
 
 /** The offset and the depth that a line begins with. */
@@ -153,6 +186,13 @@ function beginningOf(text, at) {
   const blanks = i;
   while (text.charCodeAt(i) === 32) i++;
   return { offset, depth: (i - blanks - 2) / 2 };
+}
+
+/** What a line says of octets that begin no element: `text` is the offset and the octets. */
+function octetsAt(place, text) {
+  const value = text.slice(/^ *\d+ +/.exec(text)[0].length), size = (value.length + 1) / 3;
+  const none = { header: [], idSize: 0, tag: "", tagClass: 0, isConstructed: false, isMark: false };
+  return { ...place, ...none, name: "octets", isType: true, isOctets: true, size, value, kind: "other", notes: ["not judged"] };
 }
 
 /** The last index in ascending numbers at which one is at most `limit`; 0 where none is. */

@@ -1,8 +1,8 @@
 /* One message: its elements, its text, its normal form, and what it is compared with. */
 
 import { LIMIT } from "../illcanon.js";
-import { $, counted, grouped, make, say } from "./dom.js";
-import { Elements, meaningOfNote } from "./elements.js";
+import { $, counted, grouped, make, say, shortened } from "./dom.js";
+import { Elements, meaningOfNote, titleOfNote } from "./elements.js";
 import { ElementTree } from "./element_tree.js";
 import { LineList } from "./line_list.js";
 import { MOST_LINKED } from "./links.js";
@@ -74,10 +74,11 @@ export class MessageView {
     $("copy-link").title = size > MOST_LINKED ? `Only for messages of up to ${grouped(MOST_LINKED)} octets` : "A link that carries this message";
   }
 
-  /** Shows where a message is refused. */
+  /** Shows where a message is refused: at the element there, or after the last one that is judged. */
   #showPlace() {
-    const { message, elements } = this, last = Math.max(0, message.size - 1);
-    if (elements.count) this.tree.select(elements.count - 1, false);
+    const { message, elements } = this, last = Math.max(0, message.size - 1), { cause } = message.refusal;
+    const isThere = elements.judged < elements.count && (cause !== "Missing" || elements.judged === 0);
+    if (elements.count) this.tree.select(isThere ? elements.judged : elements.judged - 1, false);
     else {
       $("detail").replaceChildren(make("p", "path", "No element was read."));
       this.hex.mark(null);
@@ -106,9 +107,9 @@ export class MessageView {
   /** Selects the innermost element that has an octet. */
   #pick(offset) {
     if (!this.elements.count) return;
-    const i = this.elements.at(offset);
+    const i = this.elements.at(offset), names = this.elements.path(i);
     this.tree.select(i);
-    say(this.elements.path(i).join(", "));
+    say(i < this.elements.judged ? names.join(", ") : `${names.join(", ")}, not judged`);
   }
 
   #selected(i, moves) {
@@ -131,10 +132,21 @@ export class MessageView {
     if (names.length > 1) path.append(`${names.slice(0, -1).join(" › ")} › `);
     path.append(make("b", "", names[names.length - 1]));
     if (element.isMark) add("Octets", `00 00 at ${element.offset}, the end of the element before it at this depth`);
+    else if (element.isOctets) this.#addOctets(element, add);
     else this.#addHeader(element, add);
-    for (const note of element.notes) add("Not normal", `${note}. ${meaningOfNote(note)}`, "words");
+    for (const note of element.notes) {
+      const title = titleOfNote(note), meaning = meaningOfNote(note);
+      add(title, title === "Not normal" ? `${note}. ${meaning}` : meaning, "words");
+    }
     $("detail").replaceChildren(path, pairs);
     $("detail").scrollTop = 0;
+  }
+
+  /** Adds octets that begin no element. */
+  #addOctets({ size, value }, add) {
+    const { begin, end } = this.range;
+    add("Place", `${begin} to ${end}`, "", counted(size, "octet"));
+    add("Octets", shortened(value, MOST_IN_DETAIL));
   }
 
   #addHeader(element, add) {
@@ -142,8 +154,7 @@ export class MessageView {
     add("Identifier", toHex(header.slice(0, idSize), " "), "", `${element.tag} ${element.isConstructed ? "constructed" : "primitive"}`);
     add("Length", toHex(header.slice(idSize), " "), "", size === null ? "indefinite" : counted(size, "octet"));
     add("Place", `${begin} to ${end}`, "", `content from ${content}`);
-    if (value === null) return;
-    add("Value", value.length > MOST_IN_DETAIL ? `${value.slice(0, MOST_IN_DETAIL)} … cut here` : value, element.kind);
+    if (value !== null) add("Value", shortened(value, MOST_IN_DETAIL), element.kind);
   }
 
   #showText() {

@@ -129,11 +129,11 @@ class Page {
     if (this.messages.length) this.choose(Math.min(Math.max(0, at), this.messages.length - 1));
   }
 
-  /** The name of a message's APDU, of which `dump` writes the first element, or the path of a refusal. */
+  /** The name of a message's APDU, which `dump` writes on its second line, or in the path of a refusal. */
   nameOf(message) {
     if (!message.name) {
       const { text } = this.calls.dump(message.octets.subarray(0, FRONT), this.options);
-      const found = /^ +0 {2}[0-9a-f ]+ {2}([A-Za-z-]+)/m.exec(text) || /^ +path (?!none$)([A-Za-z-]+)/m.exec(text);
+      const found = /^.*\n +0 {2}[0-9a-f ]+ {2}([A-Za-z-]+)/.exec(text) || /^ +path (?!none$)([A-Za-z-]+)/m.exec(text);
       message.name = found ? found[1] : "Not a message";
     }
     return message.name;
