@@ -333,6 +333,9 @@ class Dumper(Judge):
                 ends.pop()
             bound = min([len(octets), *(end for end in ends if end is not None)])
             start = octets[place : min(bound, place + MOST_HEADER)]
+            if not start:
+                # An end mark is missing, where an element round this one ends.
+                return
             if ends and ends[-1] is None and start[:2] == b"\0\0":
                 ends.pop()
                 yield f"{place:>7}  {'  ' * len(ends)}00 00  end mark  (not judged)\n"
