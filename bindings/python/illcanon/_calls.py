@@ -5,7 +5,7 @@ import ctypes
 import enum
 import json
 import mmap
-from typing import Callable, Dict, Iterator, Literal, NoReturn, Optional, Tuple, Union
+from typing import Any, Callable, Dict, Iterator, Literal, NoReturn, Optional, Tuple, Union
 
 from ._library import CAUSES, Refusal, library
 
@@ -193,7 +193,7 @@ def show(octets: Octets, number: int = 1, *, profile: Profile = "2") -> str:
     return text.decode("ascii")
 
 
-def parse(octets: Octets, number: int = 1, offset: int = 0, *, profile: Profile = "2") -> Dict[str, object]:
+def parse(octets: Octets, number: int = 1, offset: int = 0, *, profile: Profile = "2") -> Dict[str, Any]:
     """The message in the profile that the octets are as a dict of its parts, as docs/show.schema.json describes it.
 
     `apdu` is the name of the APDU, `value` its value, `normal` whether the octets are its normal form, `octets` how many they are, and
@@ -209,14 +209,15 @@ def parse(octets: Octets, number: int = 1, offset: int = 0, *, profile: Profile 
         raise ValueError("offset")
     numbers = number, offset
     line = _written(lambda *memory: library.illcanon_json_as(profile_number, octets, len(octets), *numbers, *memory), _room(octets, 16))
-    found: Dict[str, object] = json.loads(line)
+    found: Dict[str, Any] = json.loads(line)
     return found
 
 
 def dump(octets: Octets, number: int = 1, *, profile: Profile = "2") -> Tuple[str, Optional[Refused]]:
     """The message in the profile that the octets are as it is spelled, under a number: a line for each element. And None.
 
-    Of octets that are not exactly one message: the elements before the place, the refusal in words, and the refusal.
+    Of octets that are not exactly one message: the elements before the place, the refusal in words, the elements from there on by their
+    identifiers and lengths alone, each marked as not judged; and the refusal.
     """
     profile_number, octets = _number_of(profile), _bytes(octets)
     if not 0 <= number < 2**32:

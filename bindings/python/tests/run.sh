@@ -1,7 +1,7 @@
 #!/bin/sh
 # Tests the package with the shared object that `make` builds in bindings/c: installs it by pip, without a network, into a folder, and runs
-# its tests from there, and then over an archive of RESULTS (200,000) messages. Where mypy is installed, its types are judged. Needs Python 3
-# with pip, `cc`, and the program built: (cd crates/illcanon && rt run -- --version).
+# its tests from there, and then over an archive of RESULTS (200,000) messages. Where mypy is installed, its types are judged, and those of
+# the examples in the documents. Needs Python 3 with pip, `cc`, and the program built: (cd crates/illcanon && rt run -- --version).
 here=$(cd "$(dirname "$0")/.." && pwd) || exit 2
 folder=$(mktemp -d) || exit 2
 trap 'rm -rf "$folder"' EXIT
@@ -10,7 +10,10 @@ cd "$folder" || exit 2
 export PYTHONPATH="$folder" PYTHONDONTWRITEBYTECODE=1
 status=0
 if command -v mypy >/dev/null; then
-    mypy --strict --cache-dir=/dev/null "$here/illcanon" || status=1
+    sed -n '/^```python$/,/^```$/{/^```/!p}' "$here/../../README.md" "$here/../../docs/GUIDE.md" >examples.py
+    for files in "$here/illcanon" "$here/backend/wheel_of_illcanon.py" examples.py; do
+        mypy --strict --cache-dir=/dev/null "$files" || status=1
+    done
 else
     echo "run.sh: no mypy, so the types are not judged"
 fi

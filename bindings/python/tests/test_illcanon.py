@@ -2,6 +2,7 @@
 random messages, some changed, beside the encoder and the judge of tests/. COUNT (2,000) messages of each profile are made. What the
 package does with a library that breaks its header is tried on one that `cc` makes here.
 """
+import collections
 import functools
 import glob
 import hashlib
@@ -29,6 +30,7 @@ sys.path[:0] = [os.path.join(TOP, "tests"), os.path.join(TOP, "tests", "program"
 from model.encoder import Speller, Writer
 from model.judge import Judge, Refused as Judged
 from model.tables import ROOTS, random_value
+from dump import dump as dump_of_model, framed
 from refusals import misspelled
 
 EXPIRED = bytes.fromhex("741f301d800102a10aa1031b0147a2031b0151a20ca00a80083230323430323239")
@@ -45,6 +47,17 @@ def octets_of(name):
         return file.read()
 
 
+# The elements of an EXPIRED that has a NULL where its version is due.
+WRONG_TAG_TEXT = """message 3: refused
+      0  74 04  Expired
+      2    30 02  SEQUENCE
+refused at 4: UnexpectedTag
+    the tag is not due there
+    path Expired
+    found [UNIVERSAL 5] primitive: 05
+    due [0] protocol-version-num
+      4      05 00  [UNIVERSAL 5] = ""  (not judged)
+"""
 # Each file, and the normal forms of its messages, which an encoder in Python wrote.
 FILES = [
     ("every-part.ber", octets_of("every-part.der")),
@@ -104,6 +117,27 @@ class Messages(unittest.TestCase):
             self.assertEqual("".join(text for text, _ in found), wanted.stdout.decode("ascii"))
         for number in (-1, 2**32):
             self.assertRaises(ValueError, illcanon.dump, EXPIRED, number)
+
+    def test_elements_are_those_of_the_model(self):
+        for profile, root in ROOTS.items():
+            chance, counts = random.Random(9), collections.Counter()
+            for _ in range(COUNT // 4):
+                octets = b""
+                while not octets:
+                    octets = misspelled(chance, root, profile)
+                    octets = octets[: framed(octets)]
+                text, refusal = illcanon.dump(octets, profile=profile)
+                self.assertEqual(text, dump_of_model(octets, profile)[0], octets.hex())
+                counts.update({"refused": refusal is not None, "unjudged": "not judged" in text, "due": "\n    due " in text})
+            self.assertGreater(min(counts.values()), COUNT // 20, counts)
+
+    def test_the_rest_of_a_refused_message_is_not_judged(self):
+        text, refusal = illcanon.dump(bytes.fromhex("740430020500"), 3)
+        self.assertEqual((text, str(refusal)), (WRONG_TAG_TEXT, "refused at 4 in message 1: UnexpectedTag"))
+        text, refusal = illcanon.dump(EXPIRED + bytes.fromhex("740005"))
+        self.assertEqual(refusal.cause, "TrailingBytes")
+        rest = text.partition("\nrefused at 33: TrailingBytes\n")[2].splitlines()
+        self.assertEqual(rest[-2:], ["     33  74 00  [APPLICATION 20]  (not judged)", "     35  05  octets  (not judged)"])
 
     def test_a_message_is_a_dict(self):
         value = {

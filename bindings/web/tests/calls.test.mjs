@@ -21,6 +21,18 @@ transaction-id.transaction-group-qualifier = general "G"
 transaction-id.transaction-qualifier = general "Q"
 service-date-time.date-time-of-this-service.date = 20240229
 `;
+const REFUSED_TEXT = `message 7: refused
+      0  74 80  Expired  (indefinite)
+      2    30 80  SEQUENCE  (indefinite)
+      4      80 01  protocol-version-num = 2
+refused at 7: Missing Expired.transaction-id
+    the element ends before a mandatory part
+    path Expired
+    found the end of the element
+    due [1] transaction-id
+      7    00 00  end mark  (not judged)
+`;
+const WRONG_FORM = '      2    10 00  [UNIVERSAL 16] = ""  (not judged)';
 
 const calls = await load();
 
@@ -52,11 +64,14 @@ test("a message is written element by element", () => {
   assert.match(lines[3], /^ +4 +80 01  protocol-version-num = 2$/);
 });
 
-test("a refused message is written up to its place, with the refusal", () => {
-  const { text, refusal } = calls.dump(MISSING);
+test("a refused message is written with the refusal at its place, and the rest as not judged", () => {
+  const { text, refusal } = calls.dump(MISSING, { number: 7 });
   assert.deepEqual([refusal.offset, refusal.cause, refusal.part], [7, "Missing", "Expired.transaction-id"]);
-  assert.match(text, /^message 1: refused\n/);
-  assert.match(text, /\nrefused at 7: Missing Expired\.transaction-id\n/);
+  assert.equal(text, REFUSED_TEXT);
+  const { text: short } = calls.dump(of("74021000"));
+  assert.deepEqual(short.trimEnd().split("\n").slice(5), ["    found [UNIVERSAL 16] primitive: 10", "    due [UNIVERSAL 16] constructed: 30", WRONG_FORM]);
+  const { text: trailed } = calls.dump(Uint8Array.from([...EXPIRED, 5, 1]));
+  assert.match(trailed, /\nrefused at 33: TrailingBytes\n(    .*\n)+ {5}33  05 01  \[UNIVERSAL 5\] = ""  \(cut short, not judged\)\n$/);
 });
 
 test("each call refuses alike", () => {

@@ -3,7 +3,7 @@ import assert from "node:assert/strict";
 import { readFileSync, readdirSync } from "node:fs";
 import test from "node:test";
 import { load } from "../illcanon.js";
-import { Elements, meaningOfNote } from "../page/elements.js";
+import { Elements, meaningOfNote, titleOfNote } from "../page/elements.js";
 import { fromBase64, kindOfFile, octetsOfText, toBase64, toHex } from "../page/octet_text.js";
 
 const VECTORS = new URL("../../../vectors/", import.meta.url), LARGEST = 20000;
@@ -21,30 +21,79 @@ function* vectors() {
 /** Compares a tree with the octets that it is of. */
 function checkTree(elements, octets, vector) {
   for (let i = 0; i < elements.count; i++) {
-    const { offset, header, isMark, notes, name } = elements.element(i), end = elements.end(i, octets.length), parent = elements.parents[i];
+    const { offset, header, isMark, isOctets, value, notes, name } = elements.element(i), end = elements.end(i, octets.length), parent = elements.parents[i];
     assert.deepEqual(header, [...octets.subarray(offset, offset + header.length)], `${vector.id}: header ${i}`);
+    if (isOctets) assert.equal(value, toHex(octets.subarray(offset, end), " "), `${vector.id}: octets ${i}`);
+    assert.equal(notes.includes("not judged"), i >= elements.judged, `${vector.id}: whether ${i} is judged`);
     assert.ok(name, `${vector.id}: name ${i}`);
     assert.ok(end >= offset + (isMark ? 2 : 0) && end <= octets.length, `${vector.id}: end ${i}`);
     for (const note of notes) assert.ok(meaningOfNote(note), `${vector.id}: the note ${note} has no meaning`);
     if (parent >= 0) assert.ok(parent < i && elements.depths[parent] === elements.depths[i] - 1 && elements.offsets[parent] < offset, `${vector.id}: parent ${i}`);
-    if (vector.result === "valid" && parent >= 0) assert.ok(end <= elements.end(parent, octets.length), `${vector.id}: ${i} ends in its parent`);
+    if (parent >= 0) assert.ok(end <= elements.end(parent, octets.length), `${vector.id}: ${i} ends in its parent`);
   }
 }
 
+/** Compares the elements from the place of a refusal on with the octets there, of which each is in one of them. Returns how many they are. */
+function checkRest(elements, octets, vector) {
+  const [, place, cause] = /^refused at (\d+): (\w+)/.exec(elements.refusal[0]);
+  assert.deepEqual([Number(place), cause], [vector.offset, vector.cause], vector.id);
+  let at = vector.offset, isIndefinite = false;
+  for (let i = elements.judged; i < elements.count; i++) {
+    const { offset, header, size, value, isMark } = elements.element(i);
+    assert.equal(offset, at, `${vector.id}: ${i} follows the one before it`);
+    isIndefinite ||= size === null;
+    at = value === null && !isMark ? offset + header.length : elements.end(i, octets.length);
+  }
+  // The end mark of an element may be missing, and nothing that follows it is listed.
+  const open = Array.from({ length: elements.judged }, (_, i) => elements.element(i).size);
+  if (!isIndefinite && !open.includes(null)) assert.equal(at, octets.length, `${vector.id}: the last octet`);
+  return elements.count - elements.judged;
+}
+
 test("each header of the tree is what the octets are there", () => {
-  let count = 0, valid = 0;
+  let count = 0, valid = 0, unjudged = 0;
   for (const vector of vectors()) {
     const { text, refusal } = calls.dump(vector.octets, { profile: vector.profile }), elements = new Elements(text);
     checkTree(elements, vector.octets, vector);
     assert.equal(elements.refusal !== null, refusal !== null);
-    if (vector.result === "valid") {
+    assert.equal(refusal !== null, vector.result === "refused");
+    if (refusal) unjudged += checkRest(elements, vector.octets, vector);
+    else {
       assert.equal(elements.count, text.split("\n").length - 2, vector.id);
       assert.equal(elements.end(0, vector.octets.length), vector.octets.length, vector.id);
       valid++;
     }
     count++;
   }
-  assert.ok(count > 5000 && valid > 2000, `${count} ${valid}`);
+  assert.ok(count > 5000 && valid > 2000 && unjudged > 10000, `${count} ${valid} ${unjudged}`);
+});
+
+/** An EXPIRED with an extension, whose octets profile 2 does not judge. */
+const EXTENDED = "74343032800102a10aa1031b0147a2031b0151a20ca00a80083230323430323239bf31123010800101810100a2803080050000000000";
+
+test("what follows the place of a refusal is in the tree, and is not judged", () => {
+  const octets = Uint8Array.from(Buffer.from(EXTENDED, "hex")), elements = new Elements(calls.dump(octets).text);
+  assert.deepEqual([elements.judged, elements.count, elements.judgedShown], [11, 20, 11]);
+  assert.equal(elements.refusal[0], "refused at 33: LeftOut Expired.expired-extensions");
+  assert.deepEqual(elements.path(17), ["Expired", "[49]", "[UNIVERSAL 16]", "[2]", "[UNIVERSAL 16]", "[UNIVERSAL 5]"]);
+  const { name, value, notes, isJudged } = elements.element(13);
+  assert.deepEqual([name, value, notes, isJudged], ["[0]", "01", ["not judged"], false]);
+  assert.deepEqual(notes.map(titleOfNote), ["Not judged"]);
+  assert.deepEqual([11, 12, 15, 16, 17, 18, 19].map((i) => elements.end(i, octets.length)), [54, 54, 54, 52, 50, 52, 54]);
+  elements.isClosed[1] = 1;
+  elements.show();
+  assert.deepEqual([[...elements.shown], elements.judgedShown], [[0, 1], 2]);
+  elements.isClosed[1] = 0;
+  elements.isClosed[3] = elements.isClosed[11] = 1;
+  elements.show();
+  assert.deepEqual([[...elements.shown], elements.judgedShown], [[0, 1, 2, 3, 8, 9, 10, 11], 7]);
+});
+
+test("octets that begin no element are one line", () => {
+  const octets = Uint8Array.from({ length: 1048577 }), elements = new Elements(calls.dump(octets).text), { name, value, size, notes } = elements.element(0);
+  assert.deepEqual([elements.judged, elements.count], [0, 1]);
+  assert.deepEqual([name, size, value.length, notes], ["octets", 1048577, 3145730, ["not judged"]]);
+  assert.deepEqual([elements.end(0, 1048577), elements.at(500), elements.path(0)], [1048577, 0, ["octets"]]);
 });
 
 test("an element of the indefinite form ends with its end mark", () => {
