@@ -64,7 +64,7 @@ static struct octets written(writing *call, struct octets message) {
     return exact;
 }
 
-/* The elements of octets that are refused are written up to the place, and the refusal after them. */
+/* The elements of octets that are refused are written, with the refusal at its place. */
 static void refused_dump_is(struct octets octets, uint32_t at, uint32_t cause, const char *part) {
     static const char head[] = "message 1: refused\n";
     static uint8_t text[1 << 20], other[1 << 20];
@@ -77,6 +77,26 @@ static void refused_dump_is(struct octets octets, uint32_t at, uint32_t cause, c
     EXPECT(needed == size && is_untouched(&none) && all_are(other, size, UNTOUCHED));
     EXPECT(dump_first(octets.at, octets.count, other, size, &needed, &none) == ILLCANON_REFUSED);
     EXPECT(needed == size && refuses(&none, at, cause, part) && memcmp(text, other, size) == 0);
+}
+
+/* The lines of an EXPIRED that ends after its version: those from the place on are not judged. */
+static void refused_lines_are(struct octets missing) {
+    static const char wanted[] =
+        "message 1: refused\n"
+        "      0  74 80  Expired  (indefinite)\n"
+        "      2    30 80  SEQUENCE  (indefinite)\n"
+        "      4      80 01  protocol-version-num = 2\n"
+        "refused at 7: Missing Expired.transaction-id\n"
+        "    the element ends before a mandatory part\n"
+        "    path Expired\n"
+        "    found the end of the element\n"
+        "    due [1] transaction-id\n"
+        "      7    00 00  end mark  (not judged)\n";
+    struct illcanon_refusal refusal = untouched();
+    uint8_t text[sizeof wanted];
+    size_t size = 77;
+    EXPECT(dump_first(missing.at, missing.count, text, sizeof text, &size, &refusal) == ILLCANON_REFUSED);
+    EXPECT(size == sizeof wanted - 1 && memcmp(text, wanted, size) == 0);
 }
 
 /* Octets that each call refuses in one way, with nothing else changed. */
@@ -215,6 +235,7 @@ static void refusals_are(struct octets good) {
     refused(octets, 7, ILLCANON_UNEXPECTED_TAG, "", good);
     octets = fenced_copy(missing, sizeof missing);
     refused(octets, 7, ILLCANON_MISSING, "Expired.transaction-id", good);
+    refused_lines_are(octets);
     struct illcanon_refusal refusal = untouched();
     size_t size = 77;
     EXPECT(next(octets.at, octets.count, &size, &refusal) == ILLCANON_REFUSED);

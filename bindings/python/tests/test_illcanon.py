@@ -129,7 +129,7 @@ class Messages(unittest.TestCase):
                 text, refusal = illcanon.dump(octets, profile=profile)
                 self.assertEqual(text, dump_of_model(octets, profile)[0], octets.hex())
                 counts.update({"refused": refusal is not None, "unjudged": "not judged" in text, "due": "\n    due " in text})
-            self.assertGreater(min(counts.values()), COUNT // 20, counts)
+            self.assertGreater(min(counts.values()), COUNT // 50, counts)
 
     def test_the_rest_of_a_refused_message_is_not_judged(self):
         text, refusal = illcanon.dump(bytes.fromhex("740430020500"), 3)

@@ -20,6 +20,11 @@ MODULE = (ROOT / "examples/module.ber").read_bytes()
 EXPIRED = bytes.fromhex("741f301d800102a10aa1031b0147a2031b0151a20ca00a80083230323430323239")
 # An EXPIRED; one that ends after its version; one with a NULL where its version is due.
 REFUSED = EXPIRED + bytes.fromhex("74053003800102740430020500")
+# An EXPIRED with an extension, which profile 2 does not read: 11 elements are before it, and 9 lines are of it.
+EXTENDED = bytes.fromhex("74343032800102a10aa1031b0147a2031b0151a20ca00a80083230323430323239bf31123010800101810100a2803080050000000000")
+# An EXPIRED whose SEQUENCE is primitive, and one whose version has nine octets.
+WRONG_FORM = bytes.fromhex("74021000")
+LONG_NUMBER = bytes.fromhex("740d300b8009010000000000000000")
 # The names and sizes of a check of the same example, one line a message.
 CHECK = (ROOT / "examples/every-part.check").read_text(encoding="utf-8").splitlines()
 
@@ -32,6 +37,11 @@ def vector(file, wanted):
             if it["id"] == wanted:
                 return octets_of(it)
     raise KeyError(wanted)
+
+
+def element(tag, content):
+    """An element with a length in four octets."""
+    return bytes([tag, 0x83]) + len(content).to_bytes(3, "big") + content
 
 
 def check(what, is_so):
@@ -99,6 +109,12 @@ class Session:
         self.theme("dark")
         self.picture(name)
         self.theme("light")
+
+    def accessible(self):
+        """What a screen reader gets of Chromium: the role, the name and the states of each thing."""
+        nodes = self.browser.execute_cdp_cmd("Accessibility.getFullAXTree", {})["nodes"]
+        states = [{p["name"]: p["value"].get("value") for p in it.get("properties", [])} for it in nodes]
+        return [(it["role"]["value"], it.get("name", {}).get("value", ""), own) for it, own in zip(nodes, states) if not it["ignored"]]
 
     def active(self):
         return self.run("return document.getElementById('tree').getAttribute('aria-activedescendant')")
@@ -197,12 +213,46 @@ def try_refusals(page):
     for octets, name, cause in (bytes.fromhex("74ff"), "no-length.ber", "BadLength"), (b"%PDF-1.7 and so on", "paper.pdf", "UnexpectedTag"), (b"\0", "nul", "BadTag"):
         page.drop(octets, name)
         check(f"{name} is refused: {cause}", cause in page.text("#refused"))
+    check("octets that are no message have no name", page.text("#title") == "Not a message")
+    try_rest(page)
+    for octets, wanted in (WRONG_FORM, ["Found", "[UNIVERSAL 16] primitive: 10", "Due here", "[UNIVERSAL 16] constructed: 30"]), (LONG_NUMBER, ["limit of illcanon, not of ISO 10161-1."]):
+        page.drop(octets, "wrong.ber")
+        check(f"the refusal says: {', '.join(wanted)}", all(line in page.text("#refused") for line in wanted))
     page.drop(MODULE, "module.ber")
-    check("a part that profile 2 leaves out is refused", "LeftOut" in page.text("#refused"))
+    check("a part that profile 2 leaves out is refused", "LeftOut" in page.text("#refused") and "The module profile reads this part." in page.text("#refused"))
     page.run("document.getElementById('read-module').click()")
     page.wait("for (let i = 0; i < 400 && page.messages.some((it) => it.refusal); i++) await new Promise((next) => setTimeout(next, 5))")
     check("the module profile reads it", page.run("return page.messages.every((it) => !it.refusal) && document.getElementById('refused').hidden"))
     page.run("page.clear(); document.getElementById('profile').value = '2'")
+
+
+def try_rest(page):
+    """The elements after the place of a refusal are in the tree, and marked as not judged in words."""
+    page.drop(EXTENDED, "extended.ber")
+    page.picture("refused-rest")
+    page.in_dark("refused-rest-dark")
+    items = page.run("return [...document.querySelectorAll('#tree [role=treeitem]')].map((it) => [Number(it.id.slice(1)), it.innerText.includes('not judged')])")
+    check("all elements from the place on are marked as not judged, and no other is", items == [[i, i >= 11] for i in range(20)])
+    between = page.run("return [document.getElementById('e10').nextElementSibling.innerText, document.getElementById('e11').previousElementSibling.innerText]")
+    check("the place is between them", between[0] == between[1] and "LeftOut Expired.expired-extensions" in between[0] and "What follows is not judged" in between[0])
+    check("the element at the place is selected, and its details say so", page.active() == "e11" and "Not judged" in page.text("#detail") and page.text("#detail .path b") == "[49]")
+    if NAME == "chromium":
+        names = [name for role, name, _ in page.accessible() if role == "treeitem"]
+        check("a screen reader says so of each", len(names) == 20 and [name.endswith("not judged") for name in names] == [i >= 11 for i in range(20)])
+    page.focus("tree")
+    page.press(UP)
+    before = page.active()
+    page.press(DOWN, DOWN, DOWN)
+    check("the arrow keys pass the place", [before, page.active()] == ["e10", "e13"] and page.text("#detail .path") == "Expired › [49] › [UNIVERSAL 16] › [0]")
+    page.press(END)
+    check("End goes to the last element that is not judged", page.active() == "e19")
+    page.run("document.getElementById('close-all').click()")
+    lines = page.run("return [...document.querySelectorAll('#tree .v')].map((it) => it.innerText)")
+    check("the place is seen where all is closed", len(lines) == 3 and "LeftOut" in lines[2])
+    page.run("document.getElementById('open-all').click()")
+    page.drop(bytes.fromhex("74ff") + EXPIRED, "no-length.ber")
+    line = page.text("#tree [role=treeitem]").split()
+    check("octets that begin no element are a line", page.text("#title") == "Expired" and line[:5] == ["0", "octets", "=", "74", "ff"] and line[-2:] == ["not", "judged"])
 
 
 def try_texts(page):
@@ -244,6 +294,8 @@ def try_large(page):
         check(f"{name} is drawn with few nodes", nodes < 2500 and page.active() == f"e{count - 1}")
         if name == "limit-many-empty-items":
             page.picture("many-elements")
+    try_large_refused(page)
+    page.drop(vector("limits", "limit-many-segments"), "limit-many-segments.ber")
     for tab in "text", "normal":
         taken = page.wait("const begin = performance.now(); document.getElementById(`tab-${words[0]}`).click(); await new Promise((drawn) => requestAnimationFrame(() => setTimeout(drawn))); return Math.round(performance.now() - begin)", tab)
         print(f"      its view {tab}: {taken} ms")
@@ -253,6 +305,23 @@ def try_large(page):
     page.picture("100000")
     try_turns(page)
     try_files(page)
+
+
+def try_large_refused(page):
+    """A message of 1 MB with 524,286 elements after the place, and one in whose text of 1 MB an escape sequence begins."""
+    octets = element(0x74, b"\x05\x00" * 524285 + b"\x05")
+    taken = page.drop(octets, "refused.ber")
+    count, nodes = page.wait("""page.view.tree.select(page.view.elements.count - 1);
+        await new Promise((drawn) => requestAnimationFrame(() => setTimeout(drawn)));
+        return [page.view.elements.count, document.querySelectorAll('*').length]""")
+    print(f"      refused at 5: {len(octets):,} octets, {count:,} elements, {taken} ms to read and draw, {nodes} nodes")
+    check("1 MB that is not judged is drawn with few nodes", count == 524287 and nodes < 2500 and page.active() == "e524286")
+    check("its last line is an octet", page.text("#detail .path b") == "octets" and "1 octet" in page.text("#detail"))
+    text = element(0x74, element(0x30, b"\x80\x01\x02" + element(0xA1, element(0xA1, element(0x1B, b"A" * 1000000 + b"\x1b")))))
+    taken = page.drop(text, "escape.ber")
+    said = page.text("#refused")
+    print(f"      refused in a text: {len(text):,} octets, {taken} ms to read and draw")
+    check("what was found is cut short", "BadText" in said and "… cut here" in said and len(said) < 2000 and "The module profile reads escape sequences." in said)
 
 
 def try_turns(page):
@@ -292,7 +361,7 @@ def try_files(page):
     count, fault, _ = page.wait(drop, 268435457, 0, None)
     check("a file of 256 MiB and an octet is refused in words", count == 0 and "more than 256 MiB" in fault)
     count, fault, taken = page.wait(drop, 268435456, 0, None)
-    check(f"a file of 256 MiB of zeros is read: {taken} ms", (count, fault) == (1, "") and "BadTag" in page.text("#refused"))
+    check(f"a file of 256 MiB of zeros is read: {taken} ms", (count, fault) == (1, "") and "BadTag" in page.text("#refused") and "not judged" in page.text("#tree"))
     count, fault, taken = page.wait(drop, 268435456, 1048576, list(bytes.fromhex("74830ffffb")))
     check(f"a file of 256 refused messages of 1 MiB is read: {taken} ms", (count, fault) == (256, ""))
     count, fault, taken = page.wait(drop, 33 * 1000001, 33, list(EXPIRED))
@@ -351,8 +420,7 @@ def try_names(page):
     """What a screen reader gets of Chromium: a name for each control, and the places of the elements in their tree."""
     if NAME != "chromium":
         return
-    nodes = page.browser.execute_cdp_cmd("Accessibility.getFullAXTree", {})["nodes"]
-    seen = [(it["role"]["value"], it.get("name", {}).get("value", ""), {p["name"]: p["value"].get("value") for p in it.get("properties", [])}) for it in nodes if not it["ignored"]]
+    seen = page.accessible()
     unnamed = [role for role, name, states in seen if states.get("focusable") and not name and role not in ("RootWebArea", "main")]
     check(f"a screen reader gets a name for each control {unnamed or ''}", len(seen) > 50 and not unnamed)
     items = [(name, states.get("level")) for role, name, states in seen if role == "treeitem"]
@@ -391,7 +459,7 @@ def try_policy(page):
 def try_narrow():
     page = Session((420, 860))
     page.picture("narrow-start")
-    for octets, name in (LONG_FORM, "narrow"), (REFUSED, "narrow-refused"):
+    for octets, name in (LONG_FORM, "narrow"), (EXTENDED, "narrow-refused"):
         page.drop(octets, "message.ber")
         page.run("page.choose(page.messages.length - 1)")
         check(f"nothing is wider than a narrow window ({name})", page.run("return document.documentElement.scrollWidth <= innerWidth"))

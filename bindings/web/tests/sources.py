@@ -1,7 +1,9 @@
 #!/usr/bin/env python3
-"""Looks for what the page's sources are not to have, and at the built page: its policy has the sums of its scripts and its style alone."""
+"""Looks for what the page's sources are not to have, and at the built page: its policy has the sums of its scripts and its style alone. And the
+version of the package is that of the header for C."""
 import base64
 import hashlib
+import json
 import re
 import sys
 from pathlib import Path
@@ -43,6 +45,13 @@ def faults_of_sources():
         yield f"page.html: {found[0][:80]}"
 
 
+def faults_of_version():
+    found = json.loads((WEB / "package.json").read_text(encoding="utf-8"))["version"]
+    wanted = re.search(r'ILLCANON_VERSION "([^"]+)"', (WEB.parent / "c/illcanon.h").read_text(encoding="utf-8"))[1]
+    if found != wanted:
+        yield f"package.json: the version {found}, and the header has {wanted}"
+
+
 def sum_of(text):
     return "'sha256-" + base64.b64encode(hashlib.sha256(text.encode()).digest()).decode() + "'"
 
@@ -65,7 +74,7 @@ def faults_of_page():
 
 
 def main():
-    faults = [*faults_of_sources(), *faults_of_page()]
+    faults = [*faults_of_sources(), *faults_of_version(), *faults_of_page()]
     print("\n".join([*faults, f"{len(SCRIPTS)} scripts and the page: {len(faults)} faults"]))
     return bool(faults)
 
