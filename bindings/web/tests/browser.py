@@ -12,6 +12,8 @@ FLAGS = "--headless=new --no-sandbox --disable-dev-shm-usage --force-device-scal
 IS_READY = "const done = arguments[0]; illcanonPage.ready.then(() => done(document.documentElement.dataset.ready))"
 
 OFFLINE = {"offline": True, "latency": 0, "downloadThroughput": 0, "uploadThroughput": 0}
+# For Firefox a proxy at a port that nothing listens at.
+NO_PROXY = [("network.proxy.type", 1), *((f"network.proxy.{kind}", "127.0.0.1") for kind in ("http", "ssl")), *((f"network.proxy.{kind}_port", 9) for kind in ("http", "ssl"))]
 
 # The characters of test vectors that are sent to a browser at once.
 CHUNK = 4_000_000
@@ -39,8 +41,8 @@ def chromium(width, height, is_offline=True):
 
 
 def bare(name, size=SIZE, is_offline=True):
-    """A browser that shows nothing yet: Chromium without a network, unless it needs one."""
-    return chromium(*size, is_offline) if name == "chromium" else Firefox(*size)
+    """A browser that shows nothing yet, without a network, unless it needs one."""
+    return chromium(*size, is_offline) if name == "chromium" else Firefox(*size, settings=NO_PROXY if is_offline else ())
 
 
 def without_webassembly(name):

@@ -2,11 +2,14 @@
 """Tries the page in a browser, and takes pictures of it: page.py chromium|firefox [PICTURES]"""
 import base64
 import json
+import re
 import sys
+import tempfile
 import time
 from pathlib import Path
 
-from browser import IS_READY, PAGE, start, without_webassembly
+from browser import IS_READY, PAGE, bare, start, without_webassembly
+from sources import sum_of
 from vectors import VECTORS, octets_of
 
 ROOT = VECTORS.parent
@@ -482,6 +485,20 @@ def try_without_webassembly():
     browser.quit()
 
 
+def try_old_browser():
+    """A browser that doesn't know the script's language says so: here one that the browser doesn't know is in its place."""
+    text = PAGE.read_text(encoding="utf-8")
+    script, other = re.search(r'<script type="module">(.*?)</script>', text, re.S)[1], "a newer language"
+    with tempfile.TemporaryDirectory() as folder:
+        old = Path(folder, "old.html")
+        old.write_text(text.replace(script, other).replace(sum_of(script), sum_of(other)), encoding="utf-8")
+        browser = bare(NAME)
+        browser.get(old.as_uri())
+        said = browser.execute_script("return document.getElementById('fault').innerText")
+        browser.quit()
+    check(f"a browser that doesn't know the language says so: {said}", "too old for the page" in said)
+
+
 def main():
     page = Session()
     for part in (try_start, try_messages, try_elements, try_views, try_refusals, try_texts, try_controls, try_links, try_faults, try_printing, try_large, try_policy):
@@ -489,6 +506,7 @@ def main():
     page.quit()
     try_narrow()
     try_without_webassembly()
+    try_old_browser()
     print(f"{len(failed)} failed")
     return bool(failed)
 
