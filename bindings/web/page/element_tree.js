@@ -104,12 +104,11 @@ export class ElementTree {
 
   /** The line of the place where the message is refused. */
   #fillRefusal(line) {
-    const { elements, found } = this, { refusal, octets } = found, octet = make("span", "octets");
+    const { refusal, octets } = this.found, octet = make("span", "octets");
     if (refusal.offset < octets.length) octet.append(make("span", "stop", toHex(octets.subarray(refusal.offset, refusal.offset + 1))));
     line.setAttribute("role", "presentation");
     line.append(make("span", "offset", String(refusal.offset)), octet, rails(this.#depthOfRefusal()), make("span", "fold"));
     line.append(make("span", "stop", `✕ ${refusal.cause}${refusal.part ? ` ${refusal.part}` : ""}`));
-    if (elements.judged < elements.count) line.append(make("span", "after", "What follows is not judged."));
   }
 
   /** The depth of what is refused: that of the first element that is not judged, unless a part is missing before it. */

@@ -18,7 +18,7 @@ const NOTES = [
   [/^default written$/, "The value is the default, which the normal form leaves out."],
   [/^unused bits are not 0$/, "Bits after the last one of the string are set. In the normal form they are 0."],
   [/^cut short$/, "The octets, or those of an element round it, end before the content does."],
-  [/^not judged$/, "It comes after the place where the message is refused. It is read by its identifier and its length alone."],
+  [/^not judged$/, "The message is refused at this element or before it. So only its identifier and its length are read."],
 ];
 
 /** How a line ends whose octets begin no element. */

@@ -15,38 +15,44 @@ export function showRefusal(found, lines, profile, readInModule) {
   box.append(make("h3", "", `Refused at offset ${grouped(refusal.offset)}: ${refusal.cause}${refusal.part ? ` ${refusal.part}` : ""}`));
   if (words) box.append(make("p", "", sentence(words.trim())));
   box.append(factsOf(more));
-  for (const hint of hintsOf(more)) box.append(make("p", "hint", hint));
+  box.append(...hintsOf(more, profile, readInModule));
   const left = found.octets.length - refusal.offset;
   if (!found.isEndKnown && refusal.cause !== "Truncated") {
     box.append(make("p", "", `Where this element ends can’t be known, so no message is looked for in the ${counted(left, "octet")} from there on.`));
   }
-  if (profile === "2" && more.some((line) => line.includes("--profile module"))) box.append(offer(readInModule));
 }
 
 function sentence(text) {
   return `${text.charAt(0).toUpperCase()}${text.slice(1)}.`;
 }
 
-/** What `dump` says of the module profile, and of limits, in sentences. */
-function hintsOf(lines) {
+/** What `dump` says of limits and of the module profile, which is offered. */
+function hintsOf(lines, profile, readInModule) {
   const hints = lines.map((line) => line.trim()).filter((line) => /^(--profile module|a limit) /.test(line));
-  return hints.map((line) => `${line.replace(/^--profile module/, "The module profile").replace(/^a limit/, "This is a limit")}.`);
+  return hints.map((line, at) => {
+    const words = line.replace(/^--profile module/, "The module profile").replace(/^a limit/, "This is a limit"), hint = make("div", "hint");
+    hint.append(make("p", "", `${words}.`));
+    if (at === 0 && profile === "2" && line.startsWith("--profile")) hint.append(offer(readInModule));
+    return hint;
+  });
 }
 
 /** The path, what was found, and what was due. */
 function factsOf(lines) {
-  const pairs = make("dl"), due = make("div", "chips"), names = { path: "Path", found: "Found" };
+  const pairs = make("dl"), due = make("dd", "chips"), names = { path: "Path", found: "Found" };
   for (const line of lines) {
     const [, key, value = ""] = /^ *(path|found|due) (.*)$/.exec(line) || [], text = key === "path" ? value.split(".").join(" › ") : value;
     if (key === "due") due.append(make("span", "chip", value));
-    else if (key) pairs.append(make("dt", "", names[key]), make("dd", "", shortened(text, MOST_FOUND)));
+    else if (key) pairs.append(pair(names[key], make("dd", "", shortened(text, MOST_FOUND))));
   }
-  if (due.childElementCount) {
-    const cell = make("dd");
-    cell.append(due);
-    pairs.append(make("dt", "", "Due here"), cell);
-  }
+  if (due.childElementCount) pairs.append(pair("Due here", due));
   return pairs;
+}
+
+function pair(name, cell) {
+  const made = make("div");
+  made.append(make("dt", "", name), cell);
+  return made;
 }
 
 function offer(readInModule) {

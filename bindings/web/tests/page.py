@@ -237,7 +237,7 @@ def try_rest(page):
     items = page.run("return [...document.querySelectorAll('#tree [role=treeitem]')].map((it) => [Number(it.id.slice(1)), it.innerText.includes('not judged')])")
     check("all elements from the place on are marked as not judged, and no other is", items == [[i, i >= 11] for i in range(20)])
     between = page.run("return [document.getElementById('e10').nextElementSibling.innerText, document.getElementById('e11').previousElementSibling.innerText]")
-    check("the place is between them", between[0] == between[1] and "LeftOut Expired.expired-extensions" in between[0] and "What follows is not judged" in between[0])
+    check("the place is between them", between[0] == between[1] and "✕ LeftOut Expired.expired-extensions" in between[0])
     check("the element at the place is selected, and its details say so", page.active() == "e11" and "Not judged" in page.text("#detail") and page.text("#detail .path b") == "[49]")
     if NAME == "chromium":
         names = [name for role, name, _ in page.accessible() if role == "treeitem"]
@@ -470,6 +470,12 @@ def try_narrow():
     check("octets are in lines of eight", page.run("return document.querySelector('#hex .digits').textContent.trim().split(/ +/).length") <= 8)
     page.run("document.getElementById('hex').scrollIntoView()")
     page.picture("narrow-octets")
+    page.quit()
+    page = Session((1000, 800))
+    page.drop(EXTENDED, "message.ber")
+    tree, detail, octets = page.run("return ['tree', 'detail', 'hex'].map((id) => document.getElementById(id).getBoundingClientRect()).map((it) => [it.left, it.top, it.right, it.bottom])")
+    check("each part is in a middle window, the elements above the others", tree[3] <= detail[1] and detail[2] <= octets[0] and octets[2] <= 1000 and tree[3] - tree[1] > 120)
+    page.picture("middle")
     page.quit()
 
 
