@@ -1,8 +1,10 @@
 #!/usr/bin/env python3
-"""Changes one octet of the module's code, a comparison that is turned round, at COUNT places: compare.py has to see it. mutants.py [COUNT]
+"""Changes one octet of the module's code at COUNT places, a comparison that a branch goes by, which is turned round: compare.py has to see it.
 
-A change that makes no answer wrong on the test vectors isn't seen, so one place of eight may be missed.
+mutants.py [COUNT]. The places are spread over the code, and each is one that the test vectors reach: a trap there is seen. A branch that only
+chooses between two ways to one answer isn't seen, so a quarter of the places may be missed. It needs wabt.
 """
+import re
 import subprocess
 import sys
 import tempfile
@@ -10,58 +12,48 @@ from pathlib import Path
 
 HERE = Path(__file__).resolve().parent
 MODULE = HERE.parent / "build/illcanon.wasm"
-sys.path.insert(0, str(HERE.parent))
-
-from build_module import number_at
-
-CODE_SECTION = 10
-# i32.lt_u and i32.ge_u, i32.eqz's neighbours left out: each is one octet, and has the same operands.
-TURNED = {0x49: 0x4F, 0x4F: 0x49, 0x46: 0x47, 0x47: 0x46}
+# Each comparison of integers, with its opposite. Each is one octet, and has the same operands.
+OPPOSITES = [(0x46, 0x47), (0x48, 0x4E), (0x49, 0x4F), (0x4A, 0x4C), (0x4B, 0x4D), (0x51, 0x52), (0x53, 0x59), (0x54, 0x5A), (0x55, 0x57), (0x56, 0x58)]
+TURNED = {one: other for pair in OPPOSITES for one, other in (pair, pair[::-1])}
+TRAP = 0x00
 SECONDS = 600
 
 
-def code_of(module):
-    at = 8
-    while at < len(module):
-        size, begin = number_at(module, at + 1)
-        if module[at] == CODE_SECTION:
-            return begin, begin + size
-        at = begin + size
-    raise ValueError("no code")
+def decisions():
+    """The places of the comparisons that a branch goes by."""
+    listed = subprocess.run(["wasm-objdump", "-d", MODULE], capture_output=True, text=True, check=True).stdout
+    lines = re.findall(r"^ ([0-9a-f]+): ([0-9a-f ]+?) *\| *(\w+)", listed, re.M)
+    for (at, octets, _), (_, _, following) in zip(lines, lines[1:]):
+        if len(octets) == 2 and int(octets, 16) in TURNED and following in ("br_if", "if"):
+            yield int(at, 16)
 
 
-def is_valid(octets, folder):
-    path = Path(folder, "mutant.wasm")
-    path.write_bytes(octets)
-    return subprocess.run(["wasm-validate", path], capture_output=True).returncode == 0 and path
-
-
-def is_seen(path):
-    try:
-        return subprocess.run([HERE / "compare.py", "--small", "--module", path], capture_output=True, timeout=SECONDS).returncode != 0
-    except subprocess.TimeoutExpired:
-        return True
+def is_seen(module, at, octet):
+    """Says whether compare.py sees the module with another octet there."""
+    with tempfile.TemporaryDirectory() as folder:
+        path = Path(folder, "mutant.wasm")
+        path.write_bytes(module[:at] + bytes([octet]) + module[at + 1 :])
+        subprocess.run(["wasm-validate", path], check=True)
+        try:
+            return subprocess.run([HERE / "compare.py", "--small", "--module", path], capture_output=True, timeout=SECONDS).returncode != 0
+        except subprocess.TimeoutExpired:
+            return True
 
 
 def main():
     count = int(sys.argv[1]) if len(sys.argv) > 1 else 8
-    module = MODULE.read_bytes()
-    begin, end = code_of(module)
-    seen = tried = 0
-    with tempfile.TemporaryDirectory() as folder:
-        for i in range(count):
-            at = begin + (end - begin) * (2 * i + 1) // (2 * count)
-            while True:
-                at = next(k for k in range(at + 1, end) if module[k] in TURNED and module[k - 1] < 0x80)
-                path = is_valid(module[:at] + bytes([TURNED[module[at]]]) + module[at + 1 :], folder)
-                if path:
-                    break
-            tried += 1
-            found = is_seen(path)
-            seen += found
-            print(f"octet {at}: {'seen' if found else 'not seen'}", flush=True)
-    print(f"{seen} of {tried} changes were seen")
-    return seen < tried - tried // 8
+    module, places = MODULE.read_bytes(), list(decisions())
+    seen = 0
+    for i in range(count):
+        begin, end = len(places) * i // count, len(places) * (i + 1) // count
+        at = next((at for at in places[(begin + end) // 2 : end] if is_seen(module, at, TRAP)), None)
+        if at is None:
+            sys.exit(f"mutants.py: the test vectors reach no branch of those from octet {places[begin]} to {places[end - 1]}")
+        found = is_seen(module, at, TURNED[module[at]])
+        seen += found
+        print(f"octet {at}: {'seen' if found else 'not seen'}", flush=True)
+    print(f"{seen} of {count} changes were seen, of {len(places)} branches")
+    return seen < count - count // 4
 
 
 if __name__ == "__main__":
