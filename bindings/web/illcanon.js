@@ -137,7 +137,8 @@ export class Illcanon {
 
   /** The message as it is spelled, a line for each element, and why it is refused, or null. */
   dump(octets, options) {
-    const view = viewOf(octets);
+    // Why octets are refused doesn't depend on those after the greatest message, which would all be listed.
+    const view = viewOf(octets).subarray(0, LIMIT + 1);
     const made = this.#made("illcanon_dump_as", view, options, [messageNumber(options)], 16 * view.length + 4096);
     return { text: ASCII.decode(made.octets), refusal: made.refusal };
   }

@@ -1,6 +1,5 @@
 /* One message: its elements, its text, its normal form, and what it is compared with. */
 
-import { LIMIT } from "../illcanon.js";
 import { $, counted, grouped, make, say, shortened } from "./dom.js";
 import { Elements, meaningOfNote, titleOfNote } from "./elements.js";
 import { ElementTree } from "./element_tree.js";
@@ -46,8 +45,7 @@ export class MessageView {
 
   /** Shows a message of the page. */
   show(message) {
-    // Why octets are refused doesn't depend on those after the greatest message.
-    const { calls, options } = this.page, { text } = calls.dump(message.octets.subarray(0, LIMIT + 1), options);
+    const { calls, options } = this.page, { text } = calls.dump(message.octets, options);
     Object.assign(this, { message, elements: new Elements(text), text: null, normal: null, range: null });
     this.#showTitle();
     showRefusal(message, this.elements.refusal, options.profile, () => this.page.setProfile("module"));

@@ -147,11 +147,17 @@ test("other calls may be made between two messages, also after memory ran out", 
 });
 
 test("memory that runs out is said, and the next call works", () => {
-  for (const call of ["normalise", "check", "show", "digest", "dump"]) {
+  for (const call of ["normalise", "check", "show", "digest"]) {
     assert.throws(() => calls[call](new Uint8Array(900000000)), OutOfMemory);
     assert.deepEqual(calls.normalise(INDEFINITE), EXPIRED);
   }
   assert.ok(calls.memorySize < 16000000, String(calls.memorySize));
+});
+
+test("no more octets are listed than the greatest message has, and one", () => {
+  const { text, refusal } = calls.dump(new Uint8Array(900000000));
+  assert.deepEqual([refusal.cause, refusal.offset], ["BadTag", 0]);
+  assert.equal(text.match(/^ +0 {2}((00 )*00) {2}octets/m)[1].length, 3 * (LIMIT + 1) - 1);
 });
 
 test("a module that stops is said, and begins anew", async () => {

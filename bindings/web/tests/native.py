@@ -11,6 +11,8 @@ CAUSES = (
     "IntegerTooLong BadText BadDate BadTime TrailingBytes NormalTooLong BadNull BadOid BadBits"
 ).split(" ")
 DONE, REFUSED, NO_ROOM = 0, 1, 4
+# The octets of which illcanon.js lists no more than one more.
+LIMIT = 1048576
 MOST_SHOWN = 2000000
 
 
@@ -42,7 +44,7 @@ class Native:
         octets = b"" if test["isStream"] else octets_of(test["vector"])
         if test["isStream"] or len(octets) > MOST_SHOWN:
             return ""
-        refusal, text = self.written("dump", test["profile"], octets)
+        refusal, text = self.written("dump", test["profile"], octets[: LIMIT + 1])
         said = f"dump {refusal or 'done'} {len(text)}:{zlib.crc32(text):08x}"
         refusal, text = self.written("show", test["profile"], octets)
         return f"{said}; show {refusal or f'{len(text)}:{zlib.crc32(text):08x}'}"
