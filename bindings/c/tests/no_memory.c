@@ -1,6 +1,6 @@
 /* `no_memory PROFILE FILE`: on the first message of a file, in a profile or, where PROFILE is `-`, by the calls that are given none, the
  * k-th call of malloc or realloc returns NULL, for each k until none is refused: each result before that is OUT_OF_MEMORY with nothing
- * written, and the last one DONE. What is taken is freed. Linked with --wrap of malloc, realloc and free. */
+ * written, and the last one DONE, or REFUSED where the message has another tag. What is taken is freed. Linked with --wrap of malloc, realloc and free. */
 #include "support.h"
 
 void *__real_malloc(size_t size);
@@ -76,7 +76,7 @@ static uint32_t make_normalise_next(void) {
     return normalise_next(message.at, message.count, &taken, buffer, ROOM, &size, &refusal);
 }
 
-static void refuse_each(const char *name, uint32_t (*call)(void)) {
+static void refuse_each(const char *name, uint32_t (*call)(void), uint32_t wanted) {
     uint32_t status = ILLCANON_OUT_OF_MEMORY;
     long k = 0;
     for (; status == ILLCANON_OUT_OF_MEMORY && k < 100000; k++) {
@@ -87,11 +87,11 @@ static void refuse_each(const char *name, uint32_t (*call)(void)) {
         refusals = blocks = 0;
         status = call();
         left = -1;
-        EXPECT(blocks == 0 && is_untouched(&refusal));
+        EXPECT(blocks == 0 && is_untouched(&refusal) == (status != ILLCANON_REFUSED));
         if (refusals > 0)
             EXPECT(status == ILLCANON_OUT_OF_MEMORY && size == 77 && taken == 77 && answer == 77 && all_are(buffer, ROOM, UNTOUCHED));
     }
-    EXPECT(status == ILLCANON_DONE && refusals == 0 && k > 1);
+    EXPECT(status == wanted && refusals == 0 && k > 1);
     printf("%s: %ld refused\n", name, k - 1);
 }
 
@@ -123,17 +123,20 @@ int main(int count, char **words) {
     read_messages(words[2], messages, 64);
     message = messages[0];
     buffer = fenced(ROOM);
-    refuse_each("normalise", make_normalise);
-    refuse_each("show", make_show);
-    refuse_each("json", make_json);
-    refuse_each("dump", make_dump);
-    refuse_each("digest", make_digest);
-    refuse_each("check", make_check);
-    refuse_each("same", make_same);
-    refuse_each("next", make_next);
-    refuse_each("normalise_next", make_normalise_next);
+    refuse_each("normalise", make_normalise, ILLCANON_DONE);
+    refuse_each("show", make_show, ILLCANON_DONE);
+    refuse_each("json", make_json, ILLCANON_DONE);
+    refuse_each("dump", make_dump, ILLCANON_DONE);
+    refuse_each("digest", make_digest, ILLCANON_DONE);
+    refuse_each("check", make_check, ILLCANON_DONE);
+    refuse_each("same", make_same, ILLCANON_DONE);
+    refuse_each("next", make_next, ILLCANON_DONE);
+    refuse_each("normalise_next", make_normalise_next, ILLCANON_DONE);
     takes_none("frame", make_frame);
     takes_none("cause_name", make_cause_name);
     takes_none("version", make_version);
+    message = fenced_copy(message.at, message.count);
+    message.at[0] = 0x7e; /* [APPLICATION 30], which no APDU has */
+    refuse_each("dump of a refused message", make_dump, ILLCANON_REFUSED);
     return failures != 0;
 }
