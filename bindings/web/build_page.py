@@ -1,5 +1,5 @@
 #!/usr/bin/env python3
-"""Puts the page together as one file, build/illcanon.html, of page/, illcanon.js, build/illcanon.wasm and examples/.
+"""Puts the page together as one file, build/illcanon.html, of page/, illcanon.js, build/illcanon.wasm and examples/. Writes build/SHA256SUMS.
 
 The scripts are one script there: what each exports is a name of the whole, so names differ, and the lines of `import` go. The policy of the
 page allows that script, that style and the module alone: nothing can be loaded or sent.
@@ -81,9 +81,12 @@ def page(module, proof):
 
 
 def main():
-    text = page((BUILD / "illcanon.wasm").read_bytes(), (BUILD / "proof.txt").read_text().strip())
-    (BUILD / "illcanon.html").write_text(text, encoding="utf-8")
-    print(f"{hashlib.sha256(text.encode()).hexdigest()}  build/illcanon.html, {len(text.encode()):,} octets")
+    module = (BUILD / "illcanon.wasm").read_bytes()
+    text = page(module, (BUILD / "proof.txt").read_text().strip()).encode()
+    (BUILD / "illcanon.html").write_bytes(text)
+    sums = [f"{hashlib.sha256(octets).hexdigest()}  {name}\n" for name, octets in (("illcanon.html", text), ("illcanon.wasm", module))]
+    (BUILD / "SHA256SUMS").write_text("".join(sums))
+    print(f"{sums[0].rstrip()}, {len(text):,} octets")
 
 
 if __name__ == "__main__":

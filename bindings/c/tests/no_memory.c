@@ -1,6 +1,7 @@
 /* `no_memory PROFILE FILE`: on the first message of a file, in a profile or, where PROFILE is `-`, by the calls that are given none, the
  * k-th call of malloc or realloc returns NULL, for each k until none is refused: each result before that is OUT_OF_MEMORY with nothing
- * written, and the last one DONE, or REFUSED where the message has another tag. What is taken is freed. Linked with --wrap of malloc, realloc and free. */
+ * written, and the last one DONE, or REFUSED where the message has another tag. What is taken is freed. Linked with --wrap of malloc,
+ * realloc and free. */
 #include "support.h"
 
 void *__real_malloc(size_t size);

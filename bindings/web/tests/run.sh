@@ -41,6 +41,7 @@ run ./test_build.py
 run are_wide
 run is_built_again
 run ./sources.py
+run sh -c 'cd ../build && sha256sum --check --quiet SHA256SUMS'
 run ./contrast.py
 has node || exit $status
 run node --test calls.test.mjs elements.test.mjs memory.test.mjs
