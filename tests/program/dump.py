@@ -272,41 +272,50 @@ class Dumper(Judge):
             return fault.cause == "Truncated"
         return True
 
+    def in_tree(self):
+        """Whether the place is in a foreign tree, or where one is to begin."""
+        return bool(self.path) and self.round().node == "Any" and (self.round().kind == "foreign" or not self.round().position)
+
     def refusal(self, fault):
         part = f" {fault.part_name()}" if fault.part else ""
-        # in a foreign tree, or where it is to begin
-        in_tree = bool(self.path) and self.round().node == "Any" and (self.round().kind == "foreign" or not self.round().position)
-        text = LEVELS_TEXT if fault.cause == "TooDeep" and in_tree else TEXTS[fault.cause]
+        text = LEVELS_TEXT if fault.cause == "TooDeep" and self.in_tree() else TEXTS[fault.cause]
         yield f"refused at {fault.at}: {fault.cause}{part}\n    {text}\n"
         if fault.cause == "NormalTooLong":
             yield OUR_LIMIT
             return
-        yield f"    path {'.'.join(label for label in self.labels if label) or 'none'}\n"
-        yield f"    found {self.found(fault)}\n"
-        if fault.cause in ("UnexpectedTag", "Missing"):
-            yield from self.due_lines(in_tree)
-        if fault.cause == "WrongForm":
-            tag, constructed, begun = self.identifier(fault.at)
-            other = [self.octets[fault.at] ^ 0x20, *self.octets[fault.at + 1 : begun]]
-            yield f"    due {tag_text(tag)} {'primitive' if constructed else 'constructed'}: {hexed(other)}\n"
+        place = self.place(fault)
+        yield f"    path {place.get('path', 'none')}\n    found {place['found']}\n"
+        due = place.get("due", [])
+        yield from (f"    due {text}\n" for text in due)
+        if any(text.endswith(" (not read)") for text in due):
+            yield "    --profile module reads what is marked as not read\n"
         yield from self.hint(fault)
         yield from self.unjudged(fault)
 
-    def due_lines(self, in_tree):
+    def place(self, fault):
+        """The place of a fault in words, as lines of JSON have it."""
+        if fault.cause == "NormalTooLong":
+            return {}
+        path, due = ".".join(label for label in self.labels if label), list(self.due_texts(fault))
+        return {**({"path": path} if path else {}), "found": self.found(fault), **({"due": due} if due else {})}
+
+    def due_texts(self, fault):
         """What was due."""
-        if in_tree:
-            yield "    due one element of any tag\n"
+        if fault.cause == "WrongForm":
+            tag, constructed, begun = self.identifier(fault.at)
+            other = [self.octets[fault.at] ^ 0x20, *self.octets[fault.at + 1 : begun]]
+            yield f"{tag_text(tag)} {'primitive' if constructed else 'constructed'}: {hexed(other)}"
+        if fault.cause not in ("UnexpectedTag", "Missing"):
             return
-        left_out = False
+        if self.in_tree():
+            yield "one element of any tag"
+            return
         for tag in TRIED:
             element = self.due(tag)
             if element:
-                left_out |= element.kind == "left out"
-                yield f"    due {tag_text(tag)} {self.label(element, tag)[0]}{' (not read)' if element.kind == 'left out' else ''}\n"
+                yield f"{tag_text(tag)} {self.label(element, tag)[0]}{' (not read)' if element.kind == 'left out' else ''}"
         if self.path and not missing(self.path[-1]):
-            yield "    due the end of the element\n"
-        if left_out:
-            yield "    --profile module reads what is marked as not read\n"
+            yield "the end of the element"
 
     def hint(self, fault):
         """That what is refused is not wrong by the module of ISO 10161-1, or may not be."""
@@ -329,13 +338,11 @@ class Dumper(Judge):
         ends = [element.end for element in self.path if element.start < fault.at]
         place = fault.at
         while place < len(octets):
-            while ends and ends[-1] is not None and ends[-1] <= place:
+            # One whose end mark is missing ends with the element round it.
+            while any(end is not None and end <= place for end in ends):
                 ends.pop()
             bound = min([len(octets), *(end for end in ends if end is not None)])
             start = octets[place : min(bound, place + MOST_HEADER)]
-            if not start:
-                # An end mark is missing, where an element round this one ends.
-                return
             if ends and ends[-1] is None and start[:2] == b"\0\0":
                 ends.pop()
                 yield f"{place:>7}  {'  ' * len(ends)}00 00  end mark  (not judged)\n"

@@ -512,7 +512,7 @@ row whole-going-on 1 '' "$refused" canonicalise --whole --keep-going MIDDLE OUT
 kept whole-going-on
 row whole-of-many 1 '' "illcanon: MIDDLE: refused at 2 in message 2: $missing" canonicalise --whole -o OUT GOOD MIDDLE
 kept whole-of-many
-row whole-without-a-file 3 '' 'illcanon: cannot open ABSENT\n' canonicalise --whole -o OUT GOOD ABSENT
+row whole-without-a-file 3 '' 'illcanon: cannot open ABSENT: no such file\n' canonicalise --whole -o OUT GOOD ABSENT
 kept whole-without-a-file
 row directory-as-input-of-out 3 '' 'illcanon: read fault\n' canonicalise D OUT
 kept directory-as-input-of-out
@@ -560,7 +560,7 @@ done
 rm BIG
 # Words that are no text stop no other, and clap's texts have no control of theirs.
 other=$(printf 'M\374ller.ber')
-row word-that-is-no-text 3 "GOOD: message 1: $normal" "illcanon: cannot open \$'M\\\\374ller.ber'\n" check GOOD "$other"
+row word-that-is-no-text 3 "GOOD: message 1: $normal" "illcanon: cannot open \$'M\\\\374ller.ber': name is not UTF-8 text\n" check GOOD "$other"
 "$program" check "$(printf -- '--\033]0;owned\007\nx')" >out 2>err
 status=$?
 word='--\\033]0;owned\\007\\nx'

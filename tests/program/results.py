@@ -25,6 +25,7 @@ from pathlib import Path
 
 sys.path.insert(0, str(Path(__file__).resolve().parents[1]))
 
+from dump import Dumper
 from model.judge import Judge, Refused
 from model.schema import Schema
 from model.tables import NAMES, PROGRAM, ROOTS, TOP, profile_and_words
@@ -100,6 +101,16 @@ def is_read_past(octets, at):
     return True
 
 
+def place_of(octets):
+    """The place where the octets are refused, in words."""
+    dumper = Dumper(octets, PROFILE)
+    try:
+        dumper.message()
+    except Refused as fault:
+        return dumper.place(fault)
+    return {}
+
+
 def apdu_of(octets):
     """The name of the APDU that the first octet begins, or None."""
     names = NAMES[ROOTS["module"]][1]
@@ -118,6 +129,7 @@ def refused_messages():
         refused = {"cause": cause, "offset": at, "kind": "not read" if not_read else "invalid"}
         if "part" in vector:
             refused["part"] = vector["part"]
+        refused.update(place_of(octets))
         apdu = apdu_of(octets)
         found.append((octets, {**({"apdu": apdu} if apdu else {}), "refused": refused}, None))
     return [entry for entry in found if entry[1]["refused"]["cause"] != "TrailingBytes"]

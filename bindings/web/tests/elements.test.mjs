@@ -44,7 +44,7 @@ function checkRest(elements, octets, vector) {
     isIndefinite ||= size === null;
     at = value === null && !isMark ? offset + header.length : elements.end(i, octets.length);
   }
-  // The end mark of an element may be missing, and nothing that follows it is listed.
+  // The end mark of an element of indefinite length may be missing.
   const open = Array.from({ length: elements.judged }, (_, i) => elements.element(i).size);
   if (!isIndefinite && !open.includes(null)) assert.equal(at, octets.length, `${vector.id}: the last octet`);
   return elements.count - elements.judged;

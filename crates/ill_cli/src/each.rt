@@ -11,7 +11,7 @@ use ill_args::{Inputs, LineFault};
 use ill_commands::Verdict;
 use ill_dump::{HTML_BEGIN, HTML_END};
 use ill_files::{
-    FileId, Host, Name, OpenObstacle, Output, OutputOf, ProgramError, is_output_lost, printed,
+    FileId, FileName, Host, OpenObstacle, Output, OutputOf, ProgramError, is_output_lost, printed,
     read_whole, status_of,
 };
 use std::alloc::{AllocError, Global};
@@ -224,7 +224,7 @@ pub fn text_of(alloc: Global, name: &[u8]) -> Result<&str, ProgramError> {
     match str::from_utf8(name) {
         Ok(text) => Ok(text),
         Err(_) => match name.to_vec(alloc) {
-            Ok(octets) => Err(ProgramError::CannotOpen(Name(octets), OpenObstacle::NotText)),
+            Ok(octets) => Err(ProgramError::CannotOpen(FileName(octets), OpenObstacle::NotText)),
             Err(AllocError) => Err(ProgramError::out_of_memory()),
         },
     }

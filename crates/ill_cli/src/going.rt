@@ -2,7 +2,7 @@
 use crate::refused::KeepRefused;
 use crate::summary::LeftAt;
 use ill_commands::{RefusalReport, ReportRefusals, RunFault};
-use ill_files::{NameOf, ProgressLine, RunLine};
+use ill_files::{FileNameRef, ProgressLine, RunLine};
 use std::fmt;
 use std::io::Write;
 
@@ -56,7 +56,7 @@ impl<R: Eprint, S: Write + Drop, F: Write + Drop> ReportRefusals for PrintReport
         // A line that can't be written changes nothing of the work.
         let _ = match self.name {
             Some(name) if self.is_raw => {
-                eprintln!(self.rt; "illcanon: {}: {line}", NameOf(name.as_bytes()))
+                eprintln!(self.rt; "illcanon: {}: {line}", FileNameRef(name.as_bytes()))
             }
             Some(name) => eprintln!(self.rt; "illcanon: {name}: {line}"),
             None => eprintln!(self.rt; "illcanon: {line}"),

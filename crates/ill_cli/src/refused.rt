@@ -3,7 +3,7 @@ use crate::tally::Tally;
 use ber_core::{ToWrite, put_all};
 use ill_commands::{RefusalReport, Verdict};
 use ill_files::{
-    Count, FileId, Host, NameOf, Output, OutputDestination, OutputOf, ProgramError, ToOutput,
+    Count, FileId, FileNameRef, Host, Output, OutputDestination, OutputOf, ProgramError, ToOutput,
     are_one_target, close_output, open_output, print_error_of,
 };
 use std::io::Write;
@@ -92,7 +92,7 @@ pub(crate) fn close_refused<'r, R: Print + Eprint + Files + AllocGlobal + Host>(
         return 3;
     }
     if tally.not_kept > 0 {
-        let name = NameOf(name.as_bytes());
+        let name = FileNameRef(name.as_bytes());
         let count = Count(tally.not_kept, "refused message");
         let _ = eprintln!(rt;
             "illcanon: {name} is without {count}: too long, or of an unknown end"

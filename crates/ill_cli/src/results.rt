@@ -3,6 +3,8 @@ ghost use Rattle.std.specs.Prelude.{◌≡◌, None, IfOk};
 ghost use Rattle.ill_normal.specs.Calls.{putting, taking};
 ghost use Rattle.ill_normal.specs.Skipping.{reporting};
 ghost use Rattle.ill_normal.specs.declared.skipping.SkippingCounts.{SkippingCounts};
+ghost use Rattle.ill_json.specs.declared.place.RefusalPlace.{RefusalPlace};
+ghost use Rattle.ill_commands.specs.Refusals.{IsRefusedLine};
 ghost use Rattle.ill_commands.specs.Skipping.{verdict_of_counts, RunsSkipping};
 ghost use Rattle.ill_cli.specs.Plans.{is_json_result};
 
@@ -17,6 +19,7 @@ use ill_commands::{
     SkippingCounts, Verdict, read_hex, refused_json, run_skipping, run_skipping_peeking,
     verdict_of,
 };
+use ill_dump::place_of_refusal;
 use ill_files::ProgramError;
 use std::alloc::{AllocError, Global};
 use std::cell::Cell;
@@ -54,7 +57,7 @@ impl<V: Sink, S: Write + Drop, F: Write + Drop> WriteRefused<'_, V, S, F> {
     fn write(&mut self, report: RefusalReport, octets: &[u8]) -> Result<(), RunFault> {
         let mut buffer = Vec::new(self.alloc);
         std::mem::swap(&mut buffer, &mut self.buffer);
-        let refused = refused_json(self.alloc, self.work, report, octets, buffer);
+        let refused = line_of(self.alloc, self.work, report, octets, buffer);
         let RefusedLine { line, kind } = match refused {
             Ok(refused) => refused,
             Err(AllocError) => return Err(RunFault::OutOfMemory),
@@ -87,6 +90,21 @@ impl<V: Sink, S: Write + Drop, F: Write + Drop> ReportRefusals for WriteRefused<
             self.last = Some(LeftAt::of(report));
         }
     }
+}
+
+/// The line of a message that is refused, in the memory of `buffer`, with its place in words.
+fn line_of(
+    alloc: Global,
+    work: JobOptions<'_>,
+    report: RefusalReport,
+    octets: &[u8],
+    buffer: Vec<u8>,
+) -> Result<RefusedLine, AllocError>
+    ensures { IfOk result (λ refused. (place : RefusalPlace)
+        × IsRefusedLine work.entry report octets.now place refused.kind refused.line.items) }
+{
+    let place = place_of_refusal(alloc, work.profile, octets, report.refusal)?;
+    refused_json(alloc, work, report, octets, &place, buffer)
 }
 
 /// Writes the result of each message, of refused ones too. `refused` is a second sink to the output.

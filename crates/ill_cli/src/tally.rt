@@ -5,7 +5,8 @@ ghost use Rattle.ill_files.specs.Status.{status_is};
 use crate::summary::{LeftAt, Summary};
 use ill_commands::Verdict;
 use ill_files::{
-    Name, NameOf, ProgramError, ProgressLine, is_of_folder, print_error, print_error_of, status_of,
+    FileName, FileNameRef, ProgramError, ProgressLine, is_of_folder, print_error, print_error_of,
+    status_of,
 };
 use std::rt::Files;
 
@@ -97,14 +98,14 @@ impl<'p> Tally<'p> {
         }
         self.progress.clear(rt);
         let _ = match name {
-            Some(name) => eprintln!(rt; "illcanon: {}: {left}", NameOf(name)),
+            Some(name) => eprintln!(rt; "illcanon: {}: {left}", FileNameRef(name)),
             None => eprintln!(rt; "illcanon: {left}"),
         };
     }
 }
 
 /// Tells whether a file that can't be opened is that of this name, or of this word of the command line that is no UTF-8 text.
-fn is_name(unopened: &Name, name: &[u8]) -> bool {
+fn is_name(unopened: &FileName, name: &[u8]) -> bool {
     unopened.0.as_slice() == name || name.starts_with(b"\0")
 }
 

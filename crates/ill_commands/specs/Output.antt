@@ -11,6 +11,7 @@ use Rattle.ill_text.specs.Shown.{shown_text_in}
 use Rattle.ill_json.specs.Json.{json_line_in}
 use Rattle.ill_json.specs.Results.{result_line_of}
 use Rattle.ill_json.specs.declared.line.LineHead.{LineHead}
+use Rattle.ill_normal.specs.CheckWords.{check_words}
 use Rattle.ill_normal.specs.Messages.{Spelling, first, good_of, is_normal, output_from}
 use Rattle.ill_normal.specs.Inputs.{label_of, verdict_if}
 use Rattle.ill_normal.specs.declared.messages.MessagePlace.{MessagePlace}
@@ -19,16 +20,11 @@ use Rattle.ill_commands.specs.declared.job.Job.{Job}
 use Rattle.ill_normal.specs.declared.verdict.Verdict.{Verdict}
 use Rattle.ill_commands.specs.declared.job.JobOptions.{JobOptions}
 
-abbrev pub check_end : Bool → ℕ → List ℕ
-check_end true size = codes "normal\n"
-check_end false size = codes "not normal, normal form " ++ decimal size ++ codes " octets\n"
-
 -- what `check` says of message i of the profile, after a label: the number of its APDU, how many octets it had, whether they are its normal form, and how
 -- many that has
 abbrev pub line_of_check : Profile → List ℕ → ℕ → ℕ → ℕ → Bool → ℕ → List ℕ
 line_of_check q label i number octets normal size =
-    label ++ codes "message " ++ decimal i ++ codes ": " ++ name_or_none (apdu_name_in q number) ++ codes ", "
-    ++ decimal octets ++ codes " octets, " ++ check_end normal size
+    label ++ codes "message " ++ decimal i ++ codes ": " ++ check_words (name_or_none (apdu_name_in q number)) octets normal size ++ codes "\n"
 
 abbrev pub check_line : Profile → List ℕ → ℕ → Spelling → List ℕ
 check_line q label i m = line_of_check q label i m.apdu.number (length m.octets) (is_normal q m) (length (normal_form_in q m.apdu))

@@ -9,6 +9,7 @@ use Rattle.ill_schema.specs.declared.refusal.Cause.{Cause}
 use Rattle.ill_schema.specs.declared.refusal.Refusal.{Refusal}
 use Rattle.ill_refusals.specs.Fault.{Fault, Refuses}
 use Rattle.ill_json.specs.Results.{refused_line_of}
+use Rattle.ill_json.specs.declared.place.RefusalPlace.{RefusalPlace}
 use Rattle.ill_json.specs.declared.result.RefusalKind.{RefusalKind}
 use Rattle.ill_json.specs.declared.result.RefusedHead.{RefusedHead}
 use Rattle.ill_normal.specs.declared.report.RefusalReport.{RefusalReport}
@@ -43,7 +44,7 @@ HasKind profile octets refusal RefusalKind.Invalid = IsNotRead profile octets re
 abbrev pub refused_head : RefusalReport → RefusalKind → RefusedHead
 refused_head r kind = record { number = r.message; offset = r.offset; octets = r.octets; refusal = r.refusal; kind = kind }
 
--- the line of JSON of a message of these octets that is refused, and the kind of the refusal
-abbrev pub IsRefusedLine : JobOptions → RefusalReport → List ℕ → RefusalKind → List ℕ → Type 0
-IsRefusedLine work r octets kind line = HasKind work.profile octets r.refusal kind
-    × (line ≡ refused_line_of (file_of work.names_input work.name.now) (refused_head r kind) (apdu_begun octets))
+-- the line of JSON of a message of these octets that is refused at this place, and the kind of the refusal
+abbrev pub IsRefusedLine : JobOptions → RefusalReport → List ℕ → RefusalPlace → RefusalKind → List ℕ → Type 0
+IsRefusedLine work r octets place kind line = HasKind work.profile octets r.refusal kind
+    × (line ≡ refused_line_of (file_of work.names_input work.name.now) (refused_head r kind) (apdu_begun octets) place)

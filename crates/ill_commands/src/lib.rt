@@ -16,7 +16,7 @@ mod same;
 mod written;
 
 pub use going::{run_skipping, run_skipping_peeking, verdict_of};
-pub use ill_json::RefusalKind;
+pub use ill_json::{RefusalKind, RefusalPlace};
 pub use ill_normal::{
     JobError, MAX_HEX_TEXT, ReadError, RefusalReport, ReportRefusals, RunFault, SkippingCounts,
     Verdict, read_at_most, read_hex, text_octets,

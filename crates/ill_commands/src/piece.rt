@@ -8,7 +8,7 @@ ghost use Rattle.ill_schema.specs.Profiles.{profile_of};
 ghost use Rattle.ill_text.specs.Shown.{shown_text_in};
 ghost use Rattle.ill_commands.specs.declared.job.Job.{Job};
 ghost use Rattle.ill_normal.specs.Inputs.{label_of};
-ghost use Rattle.ill_commands.specs.Output.{check_end, file_of, head_of, line_of_check, line_of_digest};
+ghost use Rattle.ill_commands.specs.Output.{file_of, head_of, line_of_check, line_of_digest};
 ghost use Rattle.ill_commands.specs.code.Finding.{IsFound};
 ghost use Rattle.ill_commands.specs.code.Writing.{IsMade, IsMadeForm, IsWritten};
 
@@ -19,7 +19,7 @@ use ber_core::{Lookahead, Source};
 use ill_json::{LineHead, json_line_as};
 use ill_normal::{
     Checked, MessagePlace, NormalFormsIn, NormalReader, ReadFailure, Render, RenderedMessage,
-    apdu_name_as, check_one_in_as, normal_digest,
+    apdu_name_or_empty, check_one_in_as, normal_digest, put_check_words,
 };
 use ill_read::{Outline, OutlineReader};
 use ill_schema::Profile;
@@ -335,34 +335,20 @@ fn check_line(
         (label_of work.entry.names_input work.entry.name.now) number found.apdu found.octets
         found.is_normal found.normal) }
 {
-    let name = match apdu_name_as(work.profile, found.apdu) {
-        Some(name) => name,
-        None => "",
-    };
+    let name = apdu_name_or_empty(work.profile, found.apdu);
     let mut line = label(buffer, work)?;
     line.extend_from_slice(b"message ")?;
     line.extend_from_slice(Buffer::new().format(number).as_bytes())?;
     line.extend_from_slice(b": ")?;
-    line.extend_from_slice(name.as_bytes())?;
-    line.extend_from_slice(b", ")?;
-    line.extend_from_slice(Buffer::new().format(found.octets).as_bytes())?;
-    line.extend_from_slice(b" octets, ")?;
-    push_check_end(&mut line, found)?;
+    put_check_words(
+        &mut line,
+        name,
+        found.octets as usize,
+        found.is_normal,
+        found.normal as usize,
+    )?;
+    line.push(b'\n')?;
     Ok(line)
-}
-
-fn push_check_end(line: &mut Vec<u8>, found: Checked) -> Result<(), AllocError>
-    ensures { OnOk result (line.new.items ≡ line.old.items
-        ++ check_end found.is_normal found.normal) }
-{
-    if found.is_normal {
-        line.extend_from_slice(b"normal\n")?;
-        return Ok(());
-    }
-    line.extend_from_slice(b"not normal, normal form ")?;
-    line.extend_from_slice(Buffer::new().format(found.normal).as_bytes())?;
-    line.extend_from_slice(b" octets\n")?;
-    Ok(())
 }
 
 fn digested<R: Source, L: Lookahead<R>>(

@@ -6,7 +6,7 @@ ghost use Rattle.ill_commands.specs.Refusals.{apdu_begun, is_limit, HasKind, IsR
 use crate::job::JobOptions;
 use crate::piece::file_of;
 use ber_core::{FromSlice, Unbuffered};
-use ill_json::{RefusalKind, RefusedHead, refused_line};
+use ill_json::{RefusalKind, RefusalPlace, RefusedHead, refused_line};
 use ill_normal::{
     NormalReader, Profile, ReadFailure, RefusalReport, apdu_name_as, check_one_in_as,
 };
@@ -21,7 +21,8 @@ pub struct RefusedLine {
 }
 
 /// The line of JSON of a message that is refused, in the memory of `buffer`, whose octets are forgotten. `octets` are those that a report
-/// comes with. The line has the name of the input where those of its other messages have it.
+/// comes with, and `place` says of their refusal what `ill_dump` finds. The line has the name of the input where those of its other messages
+/// have it.
 ///
 /// # Errors
 ///
@@ -30,17 +31,18 @@ pub struct RefusedLine {
 /// # Examples
 ///
 /// ```
-/// let refused = refused_json(alloc, work, report, octets, Vec::new(alloc))?;
+/// let refused = refused_json(alloc, work, report, octets, &place, Vec::new(alloc))?;
 /// ```
 pub fn refused_json(
     alloc: Global,
     work: JobOptions<'_>,
     report: RefusalReport,
     octets: &[u8],
+    place: &RefusalPlace,
     buffer: Vec<u8>,
 ) -> Result<RefusedLine, AllocError>
-    ensures { IfOk result (λ refused. IsRefusedLine work.entry report octets.now refused.kind
-        refused.line.items) }
+    ensures { IfOk result (λ refused. IsRefusedLine work.entry report octets.now place.now
+        refused.kind refused.line.items) }
 {
     let RefusalReport {
         message,
@@ -56,7 +58,14 @@ pub fn refused_json(
         refusal,
         kind,
     };
-    let line = refused_line(alloc, buffer, file_of(work), head, apdu_begun(octets))?;
+    let line = refused_line(
+        alloc,
+        buffer,
+        file_of(work),
+        head,
+        apdu_begun(octets),
+        place,
+    )?;
     Ok(RefusedLine { line, kind })
 }
 

@@ -12,7 +12,7 @@ use crate::written::JobOutput;
 use ber_core::{Lookahead, Source};
 use ill_json::result_line;
 use ill_normal::{
-    Checked, MessagePlace, NormalReader, ReadFailure, RenderedMessage, apdu_name_as,
+    Checked, MessagePlace, NormalReader, ReadFailure, RenderedMessage, apdu_name_or_empty,
     check_one_in_as, normal_digest,
 };
 use std::alloc::{AllocError, Global};
@@ -97,10 +97,7 @@ fn line_of(
         work.entry.names_input work.entry.name.now position found.apdu found.octets
         found.is_normal (option_map (λ octets. octets.now) digest.entry)) }
 {
-    let name = match apdu_name_as(work.profile, found.apdu) {
-        Some(name) => name,
-        None => "",
-    };
+    let name = apdu_name_or_empty(work.profile, found.apdu);
     let head = head(position, found.octets, found.is_normal);
     result_line(alloc, buffer, file_of(work), head, name, digest)
 }

@@ -1,9 +1,8 @@
 -- The messages that a dump has read and written.
-use Rattle.std.proofs.Common.{◌≡◌, ◌+◌, ◌<◌, ◌≤◌, ℕ, suc, Bool, true, false, List, [], ◌∷◌, ◌++◌, Option, Some, None, Result, Ok, Err, length, take, codes, decimal, subst, sym, ap, ap₂, ◌∙◌, refl, arith, append-nil, append_assoc, length-append}
-use Rattle.std.proofs.lemmas.List.{length-take-le}
+use Rattle.std.proofs.Common.{◌≡◌, ◌+◌, ◌<◌, ◌≤◌, ℕ, suc, Bool, true, false, List, [], ◌∷◌, ◌++◌, Option, Some, None, Result, Ok, Err, length, codes, decimal, subst, sym, ap, ap₂, ◌∙◌, refl, arith, append-nil, append_assoc, length-append}
 use Rattle.std.specs.Prelude.{IfSome, OnOk, if◌then◌else◌}
 use Rattle.std.proofs.lemmas.Bool.{eqb-true}
-use Rattle.std.specs.Io.KnownBytes.{Consumes, Appends, IsAtEnd}
+use Rattle.std.specs.Io.KnownBytes.{Consumes, Appends}
 use Rattle.std.proofs.KnownBytes.{Consumes-nil, Consumes-trans, Appends-nil, Appends-trans}
 use Rattle.ber_leaf.specs.Profile.{Profile}
 use Rattle.ill_schema.specs.Apdu.{Apdu, IsStream, SpellsApdu}
@@ -20,7 +19,9 @@ use Rattle.ill_dump.specs.declared.run.DumpOptions.{DumpOptions}
 use Rattle.ill_dump.specs.Markup.{shown_in, tags_in}
 use Rattle.ill_normal.specs.Inputs.{label_of}
 use Rattle.ill_dump.specs.Dumped.{AreDumped, Dumps, DumpsUpTo, IsLast, StopsIn, dumped, dumped_from, head, is_chosen}
-use Rattle.ill_dump.specs.code.Failing.{FollowsFrom}
+use Rattle.ill_normal.specs.InputEnds.{GoesOn}
+use Rattle.ill_normal.specs.declared.input_end.EndError.{EndError}
+use Rattle.ill_dump.specs.code.Failing.{FollowsFrom, fault_of_end}
 use Rattle.ill_dump.specs.code.Putting.{BeginsIf, BeginsWith, IfRefused, Puts, is_enough}
 
 -- what waits for the sink
@@ -242,11 +243,16 @@ module _ (dump : DumpOptions) (held held' : Option (List ℕ)) where
   dumps_next held'' count i failure RunFault.ReadFault d n follows begins = tt
   dumps_next held'' count i failure (RunFault.WriteFault at) d n follows begins = tt
 
-  -- octets after 1,000,000 messages
-  pub stops_full : (left left' left'' : Option (List ℕ)) (count n : ℕ) (buffer : List ℕ) → Reached dump left left' held held' count → count ≡ 1_000_000
-      → 0 < n → n ≤ length buffer → Consumes left' left'' (take n buffer) → IfSome left (λ s. StopsIn q s RunFault.TooManyMessages)
-  stops_full None left' left'' count n buffer h full some within more = tt
-  stops_full (Some s) None left'' count n buffer h full some within more = absurd h.taken
-  stops_full (Some s) (Some t) None count n buffer h full some within more = absurd more
-  stops_full (Some s) (Some t) (Some u) count n buffer h full some within more =
-      (h.apdus, t, stream_of s t (Some t) count h refl, h.counted ∙ full, omega (arith, some, ap length more, length-append (take n buffer) u, length-take-le n buffer within))
+  -- after 1,000,000 messages an octet was taken, or the source broke
+  pub stops_full : (left left' left'' : Option (List ℕ)) (broken : Bool) (count : ℕ) (error : EndError) → Reached dump left left' held held' count → count ≡ 1_000_000
+      → GoesOn left' left'' broken error → IfSome left (λ s. StopsIn q s (fault_of_end error))
+  stops_full None left' left'' broken count error h full more = tt
+  stops_full (Some s) left' left'' broken count EndError.Broken h full more = tt
+  stops_full (Some s) None left'' broken count EndError.MoreOctets h full more = absurd h.taken
+  stops_full (Some s) (Some t) None broken count EndError.MoreOctets h full more = absurd more.1
+  stops_full (Some s) (Some t) (Some u) broken count EndError.MoreOctets h full more =
+      (h.apdus, t, stream_of s t (Some t) count h refl, h.counted ∙ full, omega (arith, ap length more.1))
+
+  pub dumps_full : (count : ℕ) (error : EndError) → Dumps dump count held held' → count ≡ 1_000_000 → DumpsUpTo dump (fault_of_end error) held held'
+  dumps_full count EndError.MoreOctets h full = subst (λ (k : ℕ). Dumps dump k held held') full h
+  dumps_full count EndError.Broken h full = tt

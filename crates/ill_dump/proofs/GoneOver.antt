@@ -1,10 +1,9 @@
 -- The messages that a dump has gone over, those that are refused too.
-use Rattle.std.proofs.Common.{◌≡◌, ◌+◌, ◌<◌, ◌≤◌, ℕ, Bool, true, false, List, [], ◌∷◌, ◌++◌, Option, None, Some, length, IsTrue, subst, sym, ap, ◌∙◌, refl, inl, inr, arith, append-nil, length-append}
+use Rattle.std.proofs.Common.{◌≡◌, ◌+◌, ◌<◌, ◌≤◌, ℕ, Bool, true, List, [], ◌∷◌, Option, None, Some, length, IsTrue, subst, sym, ◌∙◌, refl, inl, inr, arith}
 use Rattle.std.specs.Prelude.{◌⊎◌, ◌≢◌}
 use Rattle.std.specs.Io.KnownBytes.{Consumes, Keeps}
-use Rattle.std.proofs.KnownBytes.{Consumes-kept, Consumes-nil, Consumes-trans, Keeps-refl}
+use Rattle.std.proofs.KnownBytes.{Consumes-kept, Consumes-nil, Keeps-refl}
 use Rattle.ber_framing.specs.Framed.{IsFrame}
-use Rattle.ill_schema.specs.Apdu.{Apdu, SpellsApdu}
 use Rattle.ill_schema.specs.Profiles.{profile_of}
 use Rattle.ill_schema.specs.declared.refusal.Refusal.{Refusal}
 use Rattle.ill_schema.proofs.Streams.{accepts_some}
@@ -21,10 +20,12 @@ use Rattle.ill_normal.proofs.SkippedMessages.{Reached, reached_bad, reached_good
 use Rattle.ill_normal.specs.Inputs.{IsFault}
 use Rattle.ill_normal.specs.declared.run_fault.RunFault.{RunFault}
 use Rattle.ill_dump.specs.Dumped.{BreaksSink, Dumps, head, is_chosen}
-use Rattle.ill_dump.specs.Going.{Counts, DumpHalts, DumpsOn, GoesOver, HaltsFor, IsEnough}
+use Rattle.ill_dump.specs.Going.{DumpHalts, DumpsOn, GoesOver, HaltsFor, IsEnough}
 use Rattle.ill_dump.specs.declared.going.DumpCounts.{DumpCounts}
 use Rattle.ill_dump.specs.declared.run.DumpOptions.{DumpOptions}
-use Rattle.ill_dump.specs.code.Failing.{GoesOn, fault_of_take}
+use Rattle.ill_normal.specs.InputEnds.{GoesOn}
+use Rattle.ill_normal.specs.declared.input_end.EndError.{EndError}
+use Rattle.ill_dump.specs.code.Failing.{fault_of_end, fault_of_take}
 use Rattle.ill_dump.specs.code.Putting.{BeginsIf}
 use Rattle.ill_dump.proofs.DumpedMessages.{dumps_more, dumps_none}
 
@@ -141,16 +142,9 @@ module _ (dump : DumpOptions) (left left' left'' held held' held'' : Option (Lis
     halts_writing (RunFault.WriteFault n) h not broken lt = (lt, broken)
 
     -- after the last message that an input may have an octet was taken, or the source broke
-    pub halts_at_last : (fault : RunFault) → before ≡ 1_000_000 → held' ≡ held'' → GoesOn left' left'' x fault
-        → HaltsFor (profile_of dump.profile) (taking left' left'' x) (putting held' held'' y) before fault
-    halts_at_last (RunFault.Refused message refusal) last h e = absurd e
-    halts_at_last (RunFault.RefusedSide side refusal) last h e = absurd e
-    halts_at_last RunFault.OddHex last h e = absurd e
-    halts_at_last (RunFault.BadHex n) last h e = absurd e
-    halts_at_last RunFault.HexTooLong last h e = absurd e
-    halts_at_last RunFault.TooManyMessages last h e = (last, e, subst (λ (z : Option (List ℕ)). Keeps held' z) h (Keeps-refl held'))
-    halts_at_last RunFault.OutOfMemory last h e = absurd e
-    halts_at_last RunFault.ReadFault last h e =
+    pub halts_at_last : (error : EndError) → before ≡ 1_000_000 → held' ≡ held'' → GoesOn left' left'' x error
+        → HaltsFor (profile_of dump.profile) (taking left' left'' x) (putting held' held'' y) before (fault_of_end error)
+    halts_at_last EndError.MoreOctets last h e = (last, e, subst (λ (z : Option (List ℕ)). Keeps held' z) h (Keeps-refl held'))
+    halts_at_last EndError.Broken last h e =
         let none = Consumes-kept left' left' left'' [] (Consumes-nil left') e.1 in
         (omega (arith, last), e.0, (([], none, λ a i accepted. accepts_some (profile_of dump.profile) [] a i refl accepted), λ full. e.1), subst (λ (z : Option (List ℕ)). Keeps held' z) h (Keeps-refl held'))
-    halts_at_last (RunFault.WriteFault n) last h e = absurd e

@@ -1,20 +1,17 @@
 //! The messages of an input, where the work goes on after one that is refused.
-ghost use Rattle.std.specs.Prelude.{◌≡◌, [], ◌+◌, ◌≤◌, IfOk, IfErr, IsTrue, OnOk};
-ghost use Rattle.std.specs.Io.KnownBytes.{Consumes, IsAtEnd};
+ghost use Rattle.std.specs.Prelude.{◌≡◌, ◌+◌, ◌≤◌, IfOk, IfErr, IsTrue};
 ghost use Rattle.ill_normal.specs.Calls.{putting, taking};
-ghost use Rattle.ill_normal.specs.Items.{report};
 ghost use Rattle.ill_normal.specs.Skipping.{reporting};
 ghost use Rattle.ill_dump.specs.Going.{DumpHalts, DumpOnDone, DumpOnFails, DumpsOn};
-ghost use Rattle.ill_dump.specs.code.Failing.{GoesOn, fault_of_take};
+ghost use Rattle.ill_dump.specs.code.Failing.{fault_of_end, fault_of_take};
 
 use crate::put::{DumpSink, put_message, put_refused};
 use crate::run::DumpOptions;
 use ber_core::{Buffered, FromSlice, Lookahead, Sink, Source};
 use ill_normal::{
-    MAX_MESSAGES, MessagePlace, NextMessage, NormalFormsIn, NormalReader, RefusalReport,
-    ReportRefusals, RunFault, TakeError, read_hex, take_message,
+    EndError, MAX_MESSAGES, MessagePlace, NextMessage, NormalFormsIn, NormalReader, RefusalReport,
+    ReportRefusals, RunFault, TakeError, end_of_input, read_hex, take_message,
 };
-use ill_schema::Refusal;
 use std::alloc::Global;
 
 /// Counts of an input that was gone through.
@@ -115,7 +112,7 @@ fn go_on<R: Source, L: Lookahead<R>, W: Sink, T: ReportRefusals>(
             NextMessage::Refused { refusal, end } => {
                 put_refused(alloc, dump, message, &kept, refusal, &mut out, sink)?;
                 refused += 1;
-                reports.report(report(position, refusal, end), &kept);
+                reports.report(RefusalReport::new(position, refusal, end), &kept);
                 let Some(octets) = end else {
                     return Ok(counts_of(message, refused));
                 };
@@ -131,7 +128,7 @@ fn go_on<R: Source, L: Lookahead<R>, W: Sink, T: ReportRefusals>(
     }
     match end_of_input(source) {
         Ok(()) => Ok(counts_of(MAX_MESSAGES, refused)),
-        Err(fault) => Err(fault),
+        Err(error) => Err(fault_of_end(error)),
     }
 }
 
@@ -140,18 +137,6 @@ fn counts_of(messages: u32, refused: u32) -> DumpCounts
     ensures refused { result.refused ≡ refused }
 {
     DumpCounts { messages, refused }
-}
-
-/// The report of the message at a position, whose number of octets is known or not.
-fn report(position: MessagePlace, refusal: Refusal, octets: Option<u64>) -> RefusalReport
-    ensures { result ≡ report position refusal octets }
-{
-    RefusalReport {
-        message: position.number,
-        offset: position.offset,
-        refusal,
-        octets,
-    }
 }
 
 /// The reason why no message was taken.
@@ -164,18 +149,12 @@ fn fault_of_take(unread: TakeError) -> RunFault
     }
 }
 
-/// One octet more is one too many, whatever it begins.
-fn end_of_input<R: Source>(source: &mut R) -> Result<(), RunFault>
-    ensures end { OnOk result (Consumes (R.left source.old) (R.left source.new) []
-        × IsAtEnd (R.left source.new)) }
-    ensures more { IfErr result (GoesOn (R.left source.old) (R.left source.new)
-        (R.is_broken source.new)) }
-    ensures stays { IsTrue (R.is_broken source.old) → IsTrue (R.is_broken source.new) }
+/// The fault of an input that goes on.
+pub(crate) fn fault_of_end(error: EndError) -> RunFault
+    ensures { result ≡ fault_of_end error }
 {
-    let mut buffer = [0];
-    match source.take(&mut buffer) {
-        Ok(0) => Ok(()),
-        Ok(_) => Err(RunFault::TooManyMessages),
-        Err(_) => Err(RunFault::ReadFault),
+    match error {
+        EndError::MoreOctets => RunFault::TooManyMessages,
+        EndError::Broken => RunFault::ReadFault,
     }
 }

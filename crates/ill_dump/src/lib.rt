@@ -16,6 +16,7 @@
 
 mod cause;
 mod document;
+mod due;
 mod found;
 mod going;
 mod label;
@@ -26,11 +27,13 @@ mod message;
 mod note;
 mod put;
 mod refusal;
+mod refused_place;
 mod rest;
 mod run;
 mod unjudged;
 mod value;
 mod walk;
+mod words;
 
 pub use document::{HTML_BEGIN, HTML_END};
 pub use going::{DumpCounts, run_dump_skipping};
@@ -38,3 +41,4 @@ pub use laws::texts_have_no_markup;
 pub use markup::DumpFormat;
 pub use message::{DumpedMessage, dump_message};
 pub use run::{DumpOptions, run_dump};
+pub use words::place_of_refusal;

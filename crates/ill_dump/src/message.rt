@@ -7,24 +7,26 @@ use crate::lines::LineBuffer;
 use crate::markup::DumpFormat;
 use crate::put::{put_check, put_head, put_refused_line};
 use crate::refusal::put_lines;
+use crate::refused_place::first_of;
 use crate::run::DumpOptions;
 use crate::unjudged::UnjudgedWalk;
 use crate::walk::{ElementWalk, Steps};
 use ill_read::{Failure, decode_normal_as};
-use ill_schema::{Cause, Profile, Refusal};
+use ill_schema::{Cause, LIMIT, Profile, Refusal};
 use std::alloc::{AllocError, Global};
 
 /// A message as it is spelled, and why it is refused, if it is.
 #[derive(Drop)]
 pub struct DumpedMessage {
-    /// The line of the message and one for each element, and after these the refusal in words.
+    /// The line of the message and one for each element, and of octets that are refused the refusal in words, before the elements from its place on.
     pub text: Vec<u8>,
     /// The refusal of octets that are not exactly one message.
     pub refusal: Option<Refusal>,
 }
 
 /// Makes the lines of the message in the profile that the octets are, under a number, as [`run_dump`](crate::run_dump) writes them. Of
-/// octets that are not exactly one message the elements before the place come, and then the refusal in words.
+/// octets that are not exactly one message the elements before the place come, then the refusal in words, and then the elements from the place on,
+/// in the first 1,048,576 octets.
 ///
 /// # Errors
 ///
@@ -79,12 +81,12 @@ fn put_refused(
     put_refused_line(lines)?;
     let mut walk = ElementWalk::new(alloc, profile, refusal.at as usize);
     put_elements(&mut walk, octets, lines)?;
-    put_lines(lines, &walk, octets, refusal)?;
+    put_lines(alloc, lines, &walk, octets, refusal)?;
     if refusal.cause == Cause::NormalTooLong {
         return Ok(());
     }
     let mut rest = UnjudgedWalk::from_place(&walk, refusal.at as usize)?;
-    put_elements(&mut rest, octets, lines)
+    put_elements(&mut rest, first_of(octets, LIMIT as usize), lines)
 }
 
 /// The lines of the elements on a way through them.

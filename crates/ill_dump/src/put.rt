@@ -8,8 +8,6 @@ ghost use Rattle.ill_dump.specs.Dumped.{BreaksSink, head, is_chosen};
 ghost use Rattle.ill_dump.specs.Markup.{shown_in};
 ghost use Rattle.ill_dump.specs.code.Putting.{BeginsIf, BeginsWith, Puts};
 
-use crate::found::read_start;
-use crate::label::label_of;
 use crate::lines::LineBuffer;
 use crate::markup::DumpFormat;
 use crate::refusal;
@@ -17,9 +15,8 @@ use crate::run::DumpOptions;
 use crate::unjudged::UnjudgedWalk;
 use crate::walk::{ElementWalk, Steps};
 use ber_core::{Sink, put_all};
-use ill_grammar::Place;
-use ill_normal::RunFault;
-use ill_schema::{Cause, Profile, Refusal};
+use ill_normal::{RunFault, apdu_name_or_empty, apdu_number, put_check_words};
+use ill_schema::{Cause, Refusal};
 use std::alloc::{AllocError, Global};
 
 /// The number of octets that are made before they are written.
@@ -191,7 +188,7 @@ fn put_place<W: Sink>(
     or_out_of_memory(put_refused_line(&mut out.lines))?;
     let mut walk = ElementWalk::new(alloc, dump.profile, refusal.at as usize);
     put_elements(&mut walk, octets, out, sink)?;
-    or_out_of_memory(refusal::put_lines(&mut out.lines, &walk, octets, refusal))?;
+    or_out_of_memory(refusal::put_lines(alloc, &mut out.lines, &walk, octets, refusal))?;
     put_rest(&walk, octets, refusal, out, sink)?;
     or_out_of_memory(out.lines.tags(END_OF_MESSAGE))?;
     out.put(sink)
@@ -288,16 +285,15 @@ pub(crate) fn put_check(
     } else {
         "<span class=\"warn\">"
     })?;
-    put_apdu(dump.profile, octets, lines)?;
-    lines.text(", ")?;
-    lines.count(octets.len())?;
-    if is_normal {
-        lines.text(" octets, normal\n")?;
-    } else {
-        lines.text(" octets, not normal, normal form ")?;
-        lines.count(normal.len())?;
-        lines.text(" octets\n")?;
-    }
+    let name = apdu_name_or_empty(dump.profile, apdu_number(normal));
+    put_check_words(
+        &mut lines.octets,
+        name,
+        octets.len(),
+        is_normal,
+        normal.len(),
+    )?;
+    lines.text("\n")?;
     lines.tags("</span></h2>")
 }
 
@@ -306,16 +302,4 @@ pub(crate) fn put_refused_line(lines: &mut LineBuffer) -> Result<(), AllocError>
     lines.tags("<span class=\"bad\">")?;
     lines.text("refused\n")?;
     lines.tags("</span></h2>")
-}
-
-/// The name of the APDU that the octets begin.
-fn put_apdu(profile: Profile, octets: &[u8], lines: &mut LineBuffer) -> Result<(), AllocError> {
-    let top = Place::top_of(profile);
-    let Some((id, _)) = read_start(octets).id else {
-        return Ok(());
-    };
-    match top.find(id) {
-        Some(found) => label_of(found, id, top.node(), 0).put(lines),
-        None => Ok(()),
-    }
 }

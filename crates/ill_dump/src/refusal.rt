@@ -1,32 +1,23 @@
 //! A refusal in words: its cause, where it is, what was found there, and what was due.
 use crate::cause::put_refusal;
-use crate::found::{ElementStart, read_start};
-use crate::label::{Label, label_of, put_tag};
+use crate::due::{Due, is_foreign};
+use crate::found::read_start;
 use crate::lines::LineBuffer;
+use crate::refused_place::{RefusedPlace, first_of};
 use crate::walk::ElementWalk;
-use ber_core::{Class, Id, Len};
-use ill_grammar::{ElementType, Place};
-use ill_schema::{Cause, Kind, NodeId, Profile, Refusal, kind};
-use std::alloc::AllocError;
-
-/// The tags that are tried where it is said what is due: class, first and last number. The tables have no others.
-const MAX_TAG_TRIED: [(Class, u32, u32); 3] = [
-    (Class::Universal, 1, 30),
-    (Class::Application, 0, 30),
-    (Class::Context, 0, 60),
-];
+use ill_grammar::ElementType;
+use ill_schema::{Cause, NodeId, Profile, Refusal};
+use std::alloc::{AllocError, Global};
 
 /// The line for what is refused by a limit.
 const OUR_LIMIT: &str = "    a limit of illcanon, not of ISO 10161-1\n";
 
-/// The number of octets of an identifier that has to have more: the first one, and four of the tag number.
-const LONG_TAG: usize = 5;
-
-/// The bit of an identifier's first octet that is 1 in a constructed element (X.690, 8.1.2.5).
-const CONSTRUCTED: u8 = 0x20;
+/// The number of octets that an identifier has at most: the first one, and four of the tag number.
+const MAX_IDENTIFIER: usize = 5;
 
 /// Makes the lines of a refusal, of a message that was gone through up to its place.
 pub fn put_lines(
+    alloc: Global,
     lines: &mut LineBuffer,
     walk: &ElementWalk,
     octets: &[u8],
@@ -41,32 +32,56 @@ pub fn put_lines(
     if refusal.cause == Cause::NormalTooLong {
         lines.text(OUR_LIMIT)?;
     } else {
-        put_place(lines, walk, octets, refusal)?;
+        put_place(alloc, lines, walk, octets, refusal)?;
     }
     lines.tags("</div>")
 }
 
 /// The lines for the place of a refusal, and for what is there.
-fn put_place(
+fn put_place<'a>(
+    alloc: Global,
     lines: &mut LineBuffer,
-    walk: &ElementWalk,
-    octets: &[u8],
+    walk: &'a ElementWalk,
+    octets: &'a [u8],
     refusal: Refusal,
 ) -> Result<(), AllocError> {
-    let begun = read_start(octets_at(octets, refusal.at as usize, walk.bound()));
-    put_path(lines, walk, begun, refusal.cause)?;
-    put_found(lines, octets, begun, refusal)?;
-    match refusal.cause {
-        Cause::UnexpectedTag | Cause::Missing(_) => put_due(lines, walk)?,
-        Cause::WrongForm => put_due_form(lines, octets, begun, refusal)?,
-        _ => {}
+    let place = RefusedPlace::new(walk, octets, refusal);
+    lines.text("    path ")?;
+    let some = place.put_path(lines)?;
+    lines.text(if some { "\n" } else { "none\n" })?;
+    lines.text("    found ")?;
+    place.put_found(lines)?;
+    lines.text("\n")?;
+    put_due(lines, &place.due(alloc)?)?;
+    if refusal.cause == Cause::WrongForm {
+        lines.text("    due ")?;
+        place.put_other_form(lines)?;
+        lines.text("\n")?;
     }
-    put_hint(
-        lines,
-        walk,
-        octets_at(octets, refusal.at as usize, usize::MAX),
-        refusal.cause,
-    )
+    let rest = octets.get(refusal.at as usize..).unwrap_or(&[]);
+    put_hint(lines, walk, rest, refusal.cause)
+}
+
+/// The lines for what was due, one for each thing.
+fn put_due(lines: &mut LineBuffer, due: &[Due]) -> Result<(), AllocError> {
+    for due in due {
+        lines.text("    due ")?;
+        due.put(lines)?;
+        lines.text("\n")?;
+    }
+    if has_left_out(due) {
+        lines.text("    --profile module reads what is marked as not read\n")?;
+    }
+    Ok(())
+}
+
+/// Tells whether a part that is left out is among what was due.
+fn has_left_out(due: &[Due]) -> bool {
+    let mut some = false;
+    for due in due {
+        some |= due.is_left_out();
+    }
+    some
 }
 
 /// The text of a cause, at the place that was reached.
@@ -77,11 +92,6 @@ fn text_of(walk: &ElementWalk, cause: Cause) -> &'static str {
         }
         cause => cause.text(),
     }
-}
-
-/// Tells whether a place is in the wrapper of an open type, before its value, or in a foreign tree.
-fn is_foreign(place: Place) -> bool {
-    kind(place.node()) == Kind::Any
 }
 
 /// That what is refused is not wrong by ISO 10161-1, where this is so or may be so: the module profile reads what profile 2 leaves out or
@@ -118,10 +128,10 @@ fn put_hint(
 fn has_long_number(rest: &[u8]) -> bool {
     match rest {
         [first, number, ..] => {
-            let octets = first_of(rest, LONG_TAG);
+            let octets = first_of(rest, MAX_IDENTIFIER);
             first & 0x1F == 0x1F
                 && *number != 0x80
-                && octets.len() == LONG_TAG
+                && octets.len() == MAX_IDENTIFIER
                 && octets[1..].iter().all(|octet| *octet >= 0x80)
         }
         _ => false,
@@ -145,177 +155,4 @@ fn is_retagged(node: NodeId) -> bool {
         &node,
         NodeId::UnitsPerMedium | NodeId::WillSupply | NodeId::Conditional
     )
-}
-
-/// The octets from a place up to a bound.
-fn octets_at(octets: &[u8], at: usize, bound: usize) -> &[u8] {
-    match octets.get(at..bound.min(octets.len())) {
-        Some(rest) => rest,
-        None => &[],
-    }
-}
-
-/// Tells whether the fault is of an element whose tag was read.
-fn is_of_element(cause: Cause) -> bool {
-    !matches!(
-        cause,
-        Cause::Truncated | Cause::Missing(_) | Cause::BadEnd | Cause::BadTag
-    )
-}
-
-/// The names of the elements round the place, and of the element that was found there, if it has one.
-fn put_path(
-    lines: &mut LineBuffer,
-    walk: &ElementWalk,
-    begun: ElementStart,
-    cause: Cause,
-) -> Result<(), AllocError> {
-    lines.text("    path ")?;
-    let mut some = walk.put_path(lines)?;
-    if let Some(label) = label_of_found(walk, begun, cause) {
-        if some {
-            lines.text(".")?;
-        }
-        label.put(lines)?;
-        some = true;
-    }
-    lines.text(if some { "\n" } else { "none\n" })
-}
-
-/// The name of the element that was found, if it has one of the tables.
-fn label_of_found(walk: &ElementWalk, begun: ElementStart, cause: Cause) -> Option<Label> {
-    if !is_of_element(cause) {
-        return None;
-    }
-    let (id, _) = begun.id?;
-    let place = walk.place();
-    let label = label_of(place.find(id)?, id, place.node(), walk.items());
-    label.is_named().then_some(label)
-}
-
-/// The lines for what was found.
-fn put_found(
-    lines: &mut LineBuffer,
-    octets: &[u8],
-    begun: ElementStart,
-    refusal: Refusal,
-) -> Result<(), AllocError> {
-    let rest = octets_at(octets, refusal.at as usize, usize::MAX);
-    lines.text("    found ")?;
-    match refusal.cause {
-        Cause::Truncated => lines.text("the end of the input")?,
-        Cause::Missing(_) => lines.text("the end of the element")?,
-        Cause::BadEnd => lines.hex(first_of(rest, 2))?,
-        cause => put_header(lines, rest, begun, cause)?,
-    }
-    lines.text("\n")
-}
-
-/// The tag of an element, and those of its octets that the cause is about.
-fn put_header(
-    lines: &mut LineBuffer,
-    rest: &[u8],
-    begun: ElementStart,
-    cause: Cause,
-) -> Result<(), AllocError> {
-    if begun.size == 0 {
-        return lines.text("nothing before the end");
-    }
-    let Some((id, id_size)) = begun.id else {
-        return lines.hex(first_of(rest, begun.size));
-    };
-    put_tag(lines, id.class(), id.number())?;
-    lines.text(if id.constructed() {
-        " constructed: "
-    } else {
-        " primitive: "
-    })?;
-    let size = match cause {
-        Cause::UnexpectedTag | Cause::LeftOut(_) | Cause::WrongForm | Cause::TooDeep => id_size,
-        Cause::BadLength | Cause::Overrun | Cause::TooLong => begun.size,
-        _ => begun.size.saturating_add(content_size(begun, id)),
-    };
-    lines.hex(first_of(rest, size))
-}
-
-/// The number of octets that the content of a primitive element has.
-fn content_size(begun: ElementStart, id: Id) -> usize {
-    match begun.header {
-        Some(header) if !id.constructed() => match header.len {
-            Len::Definite(size) => size as usize,
-            Len::Indefinite => 0,
-        },
-        _ => 0,
-    }
-}
-
-/// The first octets, `count` of them where there are as many.
-fn first_of(octets: &[u8], count: usize) -> &[u8] {
-    match octets.get(..count) {
-        Some(front) => front,
-        None => octets,
-    }
-}
-
-/// The line for the form that was due: the tag as it was found, with the other form.
-fn put_due_form(
-    lines: &mut LineBuffer,
-    octets: &[u8],
-    begun: ElementStart,
-    refusal: Refusal,
-) -> Result<(), AllocError> {
-    let rest = octets_at(octets, refusal.at as usize, usize::MAX);
-    let (Some((id, size)), Some((first, others))) = (begun.id, rest.split_first()) else {
-        return Ok(());
-    };
-    lines.text("    due ")?;
-    put_tag(lines, id.class(), id.number())?;
-    lines.text(if id.constructed() {
-        " primitive: "
-    } else {
-        " constructed: "
-    })?;
-    lines.octet(*first ^ CONSTRUCTED)?;
-    for octet in others.iter().take(size.saturating_sub(1)) {
-        lines.text(" ")?;
-        lines.octet(*octet)?;
-    }
-    lines.text("\n")
-}
-
-/// The lines for what was due: one for each tag, and one for the end of the element, where nothing is missing in it.
-fn put_due(lines: &mut LineBuffer, walk: &ElementWalk) -> Result<(), AllocError> {
-    if is_foreign(walk.place()) {
-        return lines.text("    due one element of any tag\n");
-    }
-    let mut some_left_out = false;
-    for (class, low, high) in MAX_TAG_TRIED {
-        for number in low..=high {
-            if let Some(id) = Id::new(class, true, number) {
-                some_left_out |= put_due_tag(lines, walk, id)?;
-            }
-        }
-    }
-    if walk.is_inside() && !walk.place().is_missing() {
-        lines.text("    due the end of the element\n")?;
-    }
-    if some_left_out {
-        lines.text("    --profile module reads what is marked as not read\n")?;
-    }
-    Ok(())
-}
-
-/// The line for a tag, if it is due. Returns whether it is that of a part that is left out.
-fn put_due_tag(lines: &mut LineBuffer, walk: &ElementWalk, id: Id) -> Result<bool, AllocError> {
-    let place = walk.place();
-    let Some(found) = place.find(id) else {
-        return Ok(false);
-    };
-    lines.text("    due ")?;
-    put_tag(lines, id.class(), id.number())?;
-    lines.text(" ")?;
-    label_of(found, id, place.node(), walk.items()).put(lines)?;
-    let is_left_out = found.element_type() == ElementType::LeftOut;
-    lines.text(if is_left_out { " (not read)\n" } else { "\n" })?;
-    Ok(is_left_out)
 }

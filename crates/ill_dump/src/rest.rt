@@ -10,22 +10,26 @@ use std::alloc::AllocError;
 const READ_LEN: usize = 1024;
 
 /// Takes the rest of an element whose first octets were kept, as far as its end is known and the source has octets, and keeps it up to
-/// 1,048,576 octets of the element. Where the source breaks, that was the rest.
+/// 1,048,576 octets of the element. Where the source breaks, that was the rest. What was kept after the element is forgotten: a reader may
+/// have seen octets of the next one.
 pub fn take_rest<R: Source>(source: &mut R, kept: &mut Vec<u8>) -> Result<(), AllocError>
     ensures { IsTrue (R.is_broken source.old) → IsTrue (R.is_broken source.new) }
 {
     let mut framer = Framer::new();
-    let _ = framer.feed(kept.as_slice());
+    let mut count = framer.feed(kept.as_slice());
     'element: for _ in 0..LIMIT {
-        let count = take_some(source, kept, framer.missing_len() as usize)?;
-        if count == 0 {
+        let taken = take_some(source, kept, framer.missing_len() as usize)?;
+        if taken == 0 {
             break;
         }
-        let _ = framer.feed(&kept[kept.len() - count..]);
+        let _ = framer.feed(&kept[kept.len() - taken..]);
+        count = kept.len();
     }
-    'rest: for _ in 0..framer.oversized_length_rest() {
+    let count = count.saturating_add(framer.oversized_length_rest() as usize);
+    'rest: for _ in kept.len()..count {
         let _ = take_some(source, kept, 1)?;
     }
+    kept.truncate(count);
     Ok(())
 }
 

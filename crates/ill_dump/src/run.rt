@@ -7,11 +7,12 @@ ghost use Rattle.ill_dump.specs.Dumped.{AreDumped, BreaksSink, BreaksSource, Dum
 ghost use Rattle.ill_dump.specs.code.Failing.{FollowsFrom};
 ghost use Rattle.ill_dump.specs.code.Putting.{BeginsIf, IfRefused, is_enough};
 
+use crate::going::fault_of_end;
 use crate::markup::DumpFormat;
 use crate::put::{DumpSink, put_message, put_refused};
 use crate::rest::take_rest;
 use ber_core::{Buffered, FromSlice, Lookahead, Sink, Source};
-use ill_normal::{MAX_MESSAGES, RunFault, read_hex};
+use ill_normal::{MAX_MESSAGES, RunFault, end_of_input, read_hex};
 use ill_read::{NormalReader, ReadFailure};
 use ill_schema::Profile;
 use std::alloc::Global;
@@ -135,10 +136,9 @@ fn dump_messages<R: Source, L: Lookahead<R>, W: Sink>(
     if dump.is_enough(MAX_MESSAGES) {
         return Ok(MAX_MESSAGES);
     }
-    match source.take(&mut [0]) {
-        Ok(0) => Ok(MAX_MESSAGES),
-        Ok(_) => Err(RunFault::TooManyMessages),
-        Err(_) => Err(RunFault::ReadFault),
+    match end_of_input(source) {
+        Ok(()) => Ok(MAX_MESSAGES),
+        Err(error) => Err(fault_of_end(error)),
     }
 }
 

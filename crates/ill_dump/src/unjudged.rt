@@ -27,12 +27,11 @@ impl UnjudgedWalk {
         })
     }
 
-    /// Closes the elements that end here.
+    /// Closes the elements that end here. One whose end mark is missing ends with the element round it.
     fn close_ended(&mut self) {
         for _ in 0..self.open.len() {
-            match self.open.as_slice().last() {
-                Some(Some(end)) if *end <= self.at => {}
-                _ => return,
+            if self.bound(usize::MAX) > self.at {
+                return;
             }
             let _ = self.open.pop();
         }

@@ -3,7 +3,7 @@ ghost use Rattle.std.specs.Prelude.{◌≡◌};
 ghost use Rattle.ill_files.specs.Status.{is_output_lost, keeps_output, line_status_is, loses_output, run_status_is, status_is};
 
 use crate::count::Count;
-use crate::names::{Name, NameOf};
+use crate::names::{FileName, FileNameRef};
 use crate::open_obstacle::OpenObstacle;
 use clap::Error as LineError;
 use clap::error::ErrorKind;
@@ -37,13 +37,13 @@ pub enum ProgramError {
     RefusedIsShared,
     /// A file of this name can't be opened, to be read or to be written, for this reason.
     #[error("cannot open {0}")]
-    CannotOpen(Name, OpenObstacle),
+    CannotOpen(FileName, OpenObstacle),
     /// The output was written to a new file, which can't be given this name. The file of this name is as it was.
     #[error("cannot replace {0}")]
-    CannotReplace(Name),
+    CannotReplace(FileName),
     /// The output was to be written to a new file beside the file of this name, but all names for it are taken. Nothing was written.
     #[error("cannot write {0}: all names from {0}.part to {0}.part99 are taken")]
-    NamesAreTaken(Name),
+    NamesAreTaken(FileName),
     /// The end of the output could not be written. A file that was to be replaced is as it was.
     #[error("flush fault")]
     Flush,
@@ -74,7 +74,7 @@ impl ProgramError {
         } else {
             why
         };
-        match Name::of(alloc, name) {
+        match FileName::of(alloc, name) {
             Ok(name) => ProgramError::CannotOpen(name, why),
             Err(_) => ProgramError::out_of_memory(),
         }
@@ -82,7 +82,7 @@ impl ProgramError {
 
     /// A new file can't be given this name.
     pub fn cannot_replace(alloc: Global, name: &str) -> ProgramError {
-        match Name::of(alloc, name) {
+        match FileName::of(alloc, name) {
             Ok(name) => ProgramError::CannotReplace(name),
             Err(_) => ProgramError::out_of_memory(),
         }
@@ -90,7 +90,7 @@ impl ProgramError {
 
     /// All names for a new file beside the one of this name are taken.
     pub fn names_are_taken(alloc: Global, name: &str) -> ProgramError {
-        match Name::of(alloc, name) {
+        match FileName::of(alloc, name) {
             Ok(name) => ProgramError::NamesAreTaken(name),
             Err(_) => ProgramError::out_of_memory(),
         }
@@ -292,11 +292,11 @@ pub fn print_error_of<R: Print + Eprint + Files>(
         error if is_of_folder(rt, name, error) => {
             eprintln!(rt;
                 "illcanon: cannot open {}: {}",
-                NameOf(name),
+                FileNameRef(name),
                 OpenObstacle::Folder
             )
         }
-        error => eprintln!(rt; "illcanon: {}: {error}", NameOf(name)),
+        error => eprintln!(rt; "illcanon: {}: {error}", FileNameRef(name)),
     }
 }
 

@@ -29,7 +29,7 @@ pub use host::Host;
 pub use input::{
     AloneSource, InputSource, Opened, Shared, open_alone, open_and_identify, open_input, read_whole,
 };
-pub use names::{Name, NameOf, printable, printed, word};
+pub use names::{FileName, FileNameRef, printable, printed, word};
 pub use open_obstacle::OpenObstacle;
 pub use output::{
     FlushBeforeRead, Output, OutputDestination, OutputOf, ToOutput, close_output, open_output,

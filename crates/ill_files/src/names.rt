@@ -10,17 +10,17 @@ use ucd_category::GeneralCategory;
 /// lines or paragraphs), and doesn't begin with `$'`; and otherwise in the form `$'..'` of the shell. So no name can end a line or move the
 /// cursor, and no two names are shown alike.
 #[derive(Debug, Drop, PartialEq, Eq)]
-pub struct Name(pub Vec<u8>);
+pub struct FileName(pub Vec<u8>);
 
-impl Name {
+impl FileName {
     /// The name that a word gives, as [`word`] returns it.
     ///
     /// # Errors
     ///
     /// Only out of memory.
-    pub fn of(alloc: Global, word: &str) -> Result<Name, AllocError> {
+    pub fn of(alloc: Global, word: &str) -> Result<FileName, AllocError> {
         let Some(octets) = word.strip_prefix(NOT_UTF8_MARK) else {
-            return Ok(Name(word.as_bytes().to_vec(alloc)?));
+            return Ok(FileName(word.as_bytes().to_vec(alloc)?));
         };
         let mut name = Vec::new(alloc);
         for octet in octets.chars() {
@@ -28,7 +28,7 @@ impl Name {
                 name.push(octet)?;
             }
         }
-        Ok(Name(name))
+        Ok(FileName(name))
     }
 }
 
@@ -62,7 +62,7 @@ pub fn word(alloc: Global, octets: Vec<u8>) -> Result<String, AllocError> {
 /// Only out of memory.
 pub fn printable(alloc: Global, word: &str) -> Result<Option<String>, AllocError> {
     if word.starts_with(NOT_UTF8_MARK) {
-        let name = Name::of(alloc, word)?;
+        let name = FileName::of(alloc, word)?;
         return Ok(Some(format!(in alloc; "{name}")?));
     }
     if !has_hidden(word) {
@@ -88,25 +88,25 @@ impl fmt::Display for Escaped<'_> {
     }
 }
 
-impl fmt::Display for Name {
+impl fmt::Display for FileName {
     fn fmt<W: fmt::Write>(&self, f: &mut fmt::Formatter<W>) -> fmt::Result {
         write_name(f, &self.0)
     }
 }
 
-/// A name that is kept elsewhere, shown as [`Name`] shows it.
+/// A name that is kept elsewhere, shown as [`FileName`] shows it.
 #[derive(Clone, Copy, Debug, PartialEq, Eq)]
-pub struct NameOf<'a>(pub &'a [u8]);
+pub struct FileNameRef<'a>(pub &'a [u8]);
 
-impl fmt::Display for NameOf<'_> {
+impl fmt::Display for FileNameRef<'_> {
     fn fmt<W: fmt::Write>(&self, f: &mut fmt::Formatter<W>) -> fmt::Result {
         write_name(f, self.0)
     }
 }
 
-/// The name of a file as lines of the output have it, which is as [`Name`] shows it.
+/// The name of a file as lines of the output have it, which is as [`FileName`] shows it.
 pub fn printed(alloc: Global, name: &str) -> Result<String, AllocError> {
-    format!(in alloc; "{}", NameOf(name.as_bytes()))
+    format!(in alloc; "{}", FileNameRef(name.as_bytes()))
 }
 
 fn write_name<W: fmt::Write>(f: &mut fmt::Formatter<W>, name: &[u8]) -> fmt::Result {

@@ -3,7 +3,7 @@ ghost use Rattle.std.specs.Prelude.{◌≤◌, length, IfOk};
 
 use crate::error::{ProgramError, RunLine, is_output_lost, keeps_output};
 use crate::host::Host;
-use crate::names::NameOf;
+use crate::names::FileNameRef;
 use crate::open_obstacle::OpenObstacle;
 use crate::replacement::{self, ReplaceMode, ReplaceObstacle, Replacement, sync_folder};
 use crate::same_file::FileId;
@@ -305,7 +305,7 @@ fn open_directly<'r, R: Print + Eprint + Host + AllocGlobal>(
     };
     output.open(alloc, OutputKind::File(file))?;
     if let Some(obstacle) = obstacle {
-        let name = NameOf(name.as_bytes());
+        let name = FileNameRef(name.as_bytes());
         // A line that can't be written changes nothing of the output.
         let _ = eprintln!(rt; "illcanon: {name} is written directly: {obstacle}");
     }

@@ -13,7 +13,7 @@ use Rattle.ill_schema.specs.declared.part.PartId.{PartId}
 use Rattle.ill_schema.specs.declared.part.Row.{Row}
 use Rattle.ill_schema.specs.Table.{kind_of, rows_of}
 use Rattle.ill_schema.specs.Tagging.{same_tag, sequence_tag}
-use Rattle.ill_refusals.specs.Element.{Component, Element, foreign, list, segment, components, starts}
+use Rattle.ill_refusals.specs.Element.{Component, foreign, list, segment, components, starts}
 use Rattle.ill_refusals.specs.Next as next
 use Rattle.ill_grammar.specs.Cells.{is_strict, levels_in}
 use Rattle.ill_grammar.specs.Places.{PlaceView, place_view, part_of, node_of, type_of, alternative_of, slot_of, row_of, place_after}

@@ -88,8 +88,15 @@ macro_rules! is_must {
 /// True where one of the rows is mandatory.
 macro_rules! mandatory_follows {
     () => { false };
-    ((Must, $($row:tt)*) $($rest:tt)*) => { true };
+    (($name:literal, Must, $($row:tt)*) $($rest:tt)*) => { true };
     ($row:tt $($rest:tt)*) => { mandatory_follows!($($rest)*) };
+}
+
+/// True where a sequence is strict, or has a mandatory row.
+macro_rules! is_needed {
+    (PostalAddress $($row:tt)*) => { true };
+    (ElectronicDelivery $($row:tt)*) => { true };
+    ($node:ident $($row:tt)*) => { mandatory_follows!($($row)*) };
 }
 
 macro_rules! default {
@@ -99,7 +106,7 @@ macro_rules! default {
 
 /// The cell of a row of a node.
 macro_rules! cell {
-    ($slot:ident, $is_mandatory:expr, $mandatory_follows:expr, $class:ident, $parent:ident, $row:expr, ($presence:ident $(($default:literal))?, untagged, $node:ident)) => {
+    ($slot:ident, $is_mandatory:expr, $mandatory_follows:expr, $class:ident, $parent:ident, $row:expr, ($name:literal, $presence:ident $(($default:literal))?, untagged, $node:ident)) => {
         Cell {
             number: own_number!($node),
             class: Class::Universal,
@@ -113,7 +120,7 @@ macro_rules! cell {
             default: default!($($default)?),
         }
     };
-    ($slot:ident, $is_mandatory:expr, $mandatory_follows:expr, $class:ident, $parent:ident, $row:expr, ($presence:ident $(($default:literal))?, $number:literal, $mode:ident, $node:ident)) => {
+    ($slot:ident, $is_mandatory:expr, $mandatory_follows:expr, $class:ident, $parent:ident, $row:expr, ($name:literal, $presence:ident $(($default:literal))?, $number:literal, $mode:ident, $node:ident)) => {
         Cell {
             number: $number,
             class: Class::$class,
@@ -131,29 +138,38 @@ macro_rules! cell {
 
 /// The cell of a row of a sequence, before others.
 macro_rules! row_cell {
-    ($class:ident, $parent:ident, $number:expr, ($presence:ident $($row:tt)*) $($rest:tt)*) => {
-        cell!(Row, is_must!($presence), mandatory_follows!(($presence $($row)*) $($rest)*), $class, $parent, $number, ($presence $($row)*))
+    ($class:ident, $parent:ident, $number:expr, ($name:literal, $presence:ident $($row:tt)*) $($rest:tt)*) => {
+        cell!(Row, is_must!($presence), mandatory_follows!(($name, $presence $($row)*) $($rest)*), $class, $parent, $number, ($name, $presence $($row)*))
     };
 }
 
 /// The cells of a sequence: its own, and one for each row.
 macro_rules! sequence {
     ($node:ident, $class:ident: $($row:tt),*) => {
-        sequence!(@ $class $node 0; [cell!(Inner, is_strict!($node), is_strict!($node) || mandatory_follows!($($row)*), $class, $node, 0, (Must, untagged, $node))] $($row)*)
+        sequence!(
+            @ $class $node [0 1 2 3 4 5 6 7 8 9 10 11 12 13 14 15 16 17 18 19 20 21 22 23 24 25];
+            [cell!(Inner, is_strict!($node), is_needed!($node $($row)*), $class, $node, 0, ("", Must, untagged, $node))]
+            $($row)*
+        )
     };
-    (@ $class:ident $node:ident $number:expr; [$($cell:expr),*]) => {
+    (@ $class:ident $node:ident [$($number:literal)*]; [$($cell:expr),*]) => {
         [$($cell),*]
     };
-    (@ $class:ident $node:ident $number:expr; [$($cell:expr),*] $row:tt $($rest:tt)*) => {
-        sequence!(@ $class $node $number + 1; [$($cell,)* row_cell!($class, $node, $number, $row $($rest)*)] $($rest)*)
+    (@ $class:ident $node:ident [$number:literal $($numbers:literal)*]; [$($cell:expr),*] $row:tt $($rest:tt)*) => {
+        sequence!(@ $class $node [$($numbers)*]; [$($cell,)* row_cell!($class, $node, $number, $row $($rest)*)] $($rest)*)
     };
+}
+
+/// The cell of a leaf or a list by its own tag.
+macro_rules! own_cell {
+    ($node:ident) => { cell!(Inner, true, true, Universal, $node, 0, ("", Must, untagged, $node)) };
 }
 
 /// The cells of a list: its own, and its item's.
 macro_rules! list {
     ($node:ident, $class:ident: $row:tt) => {
         [
-            cell!(Inner, true, true, $class, $node, 0, (Must, untagged, $node)),
+            own_cell!($node),
             cell!(Item, false, false, $class, $node, 0, $row),
         ]
     };
@@ -162,13 +178,13 @@ macro_rules! list {
 /// The cells of the alternatives of a choice.
 macro_rules! alternatives {
     ($node:ident, $class:ident: $($row:tt),*) => {
-        alternatives!(@ $class $node 0; [] $($row)*)
+        alternatives!(@ $class $node [0 1 2 3 4 5 6 7 8 9 10 11 12 13 14 15 16 17 18 19]; [] $($row)*)
     };
-    (@ $class:ident $node:ident $number:expr; [$($cell:expr),*]) => {
+    (@ $class:ident $node:ident [$($number:literal)*]; [$($cell:expr),*]) => {
         [$($cell),*]
     };
-    (@ $class:ident $node:ident $number:expr; [$($cell:expr),*] $row:tt $($rest:tt)*) => {
-        alternatives!(@ $class $node $number + 1; [$($cell,)* cell!(Row, false, false, $class, $node, $number, $row)] $($rest)*)
+    (@ $class:ident $node:ident [$number:literal $($numbers:literal)*]; [$($cell:expr),*] $row:tt $($rest:tt)*) => {
+        alternatives!(@ $class $node [$($numbers)*]; [$($cell,)* cell!(Row, false, false, $class, $node, $number, $row)] $($rest)*)
     };
 }
 
@@ -212,7 +228,7 @@ macro_rules! segment {
 /// The cells of a leaf.
 macro_rules! leaf {
     ($node:ident) => {
-        [cell!(Inner, true, true, Universal, $node, 0, (Must, untagged, $node)), segment!($node)]
+        [own_cell!($node), segment!($node)]
     };
 }
 
@@ -243,295 +259,6 @@ pub const MODULE_MESSAGE: Cell = nested!(ModuleIllApdu);
 /// A cell for the place where nothing may come.
 pub const NOWHERE: Cell = segment!(Boolean);
 
-const BOOLEAN: [Cell; 2] = leaf!(Boolean);
-
-const INTEGER: [Cell; 2] = leaf!(Integer);
-
-const ENUMERATED: [Cell; 2] = leaf!(Enumerated);
-
-const ISO_DATE: [Cell; 2] = leaf!(IsoDate);
-
-const ISO_TIME: [Cell; 2] = leaf!(IsoTime);
-
-const PRINTABLE_STRING: [Cell; 2] = leaf!(PrintableString);
-
-const ILL_STRING: [Cell; 2] = [nested!(IllString), segment!(IllString)];
-
-const LEFT_OUT: [Cell; 1] = sequence!(LeftOut, Context:);
-
-const SYMBOL: [Cell; 1] = [nested!(Symbol)];
-
-const NAME: [Cell; 1] = [nested!(Name)];
-
-const SYSTEM_ID: [Cell; 3] = table!(SystemId, sequence);
-
-const TRANSACTION_ID: [Cell; 5] = table!(TransactionId, sequence);
-
-const DATE_TIME: [Cell; 3] = table!(DateTime, sequence);
-
-const SERVICE_DATE_TIME: [Cell; 3] = table!(ServiceDateTime, sequence);
-
-const POSTAL_ADDRESS: [Cell; 9] = table!(PostalAddress, sequence);
-
-const SYSTEM_ADDRESS: [Cell; 3] = table!(SystemAddress, sequence);
-
-const DELIVERY_ADDRESS: [Cell; 3] = table!(DeliveryAddress, sequence);
-
-const CLIENT_ID: [Cell; 4] = table!(ClientId, sequence);
-
-const DELIVERY_SERVICE: [Cell; 1] = [nested!(DeliveryService)];
-
-const REQUESTER_OPTIONAL_MESSAGES: [Cell; 5] = table!(RequesterOptionalMessages, sequence);
-
-const RESPONDER_OPTIONAL_MESSAGES: [Cell; 5] = table!(ResponderOptionalMessages, sequence);
-
-const SEARCH_TYPE: [Cell; 5] = table!(SearchType, sequence);
-
-const SUPPLY_MEDIUM_INFO: [Cell; 3] = table!(SupplyMediumInfo, sequence);
-
-const ITEM_ID: [Cell; 24] = table!(ItemId, sequence);
-
-const AMOUNT: [Cell; 3] = table!(Amount, sequence);
-
-const COST_INFO: [Cell; 6] = table!(CostInfo, sequence);
-
-const SEND_TO: [Cell; 4] = table!(SendTo, sequence);
-
-const SEND_TO_LIST: [Cell; 2] = table!(SendToList, list);
-
-const ALREADY_TRIED_LIST: [Cell; 2] = table!(AlreadyTriedList, list);
-
-const THIRD_PARTY_INFO: [Cell; 9] = table!(ThirdPartyInfo, sequence);
-
-const UNITS_PER_MEDIUM: [Cell; 3] = table!(UnitsPerMedium, sequence);
-
-const UNITS_PER_MEDIUM_LIST: [Cell; 2] = table!(UnitsPerMediumList, list);
-
-const DATE_DUE: [Cell; 3] = table!(DateDue, sequence);
-
-const SHIPPED_VIA: [Cell; 1] = [nested!(ShippedVia)];
-
-const SUPPLY_DETAILS: [Cell; 10] = table!(SupplyDetails, sequence);
-
-const ILL_SERVICE_TYPES: [Cell; 2] = table!(IllServiceTypes, list);
-
-const SUPPLY_MEDIUM_INFOS: [Cell; 2] = table!(SupplyMediumInfos, list);
-
-const ILL_REQUEST: [Cell; 27] = table!(IllRequest, sequence);
-
-const SHIPPED: [Cell; 18] = table!(Shipped, sequence);
-
-const LOCATION_INFO: [Cell; 4] = table!(LocationInfo, sequence);
-
-const LOCS: [Cell; 2] = table!(Locs, list);
-
-const CONDITIONAL: [Cell; 4] = table!(Conditional, sequence);
-
-const RETRY: [Cell; 4] = table!(Retry, sequence);
-
-const UNFILLED: [Cell; 3] = table!(Unfilled, sequence);
-
-const LOCATIONS: [Cell; 3] = table!(Locations, sequence);
-
-const WILL_SUPPLY: [Cell; 6] = table!(WillSupply, sequence);
-
-const HOLD_PLACED: [Cell; 4] = table!(HoldPlaced, sequence);
-
-const ESTIMATE: [Cell; 3] = table!(Estimate, sequence);
-
-const RESULTS: [Cell; 1] = [nested!(Results)];
-
-const ILL_ANSWER: [Cell; 15] = table!(IllAnswer, sequence);
-
-const CONDITIONAL_REPLY: [Cell; 9] = table!(ConditionalReply, sequence);
-
-const CANCEL: [Cell; 8] = table!(Cancel, sequence);
-
-const CANCEL_REPLY: [Cell; 9] = table!(CancelReply, sequence);
-
-const RECEIVED: [Cell; 12] = table!(Received, sequence);
-
-const RECALL: [Cell; 8] = table!(Recall, sequence);
-
-const RETURNED: [Cell; 12] = table!(Returned, sequence);
-
-const CHECKED_IN: [Cell; 9] = table!(CheckedIn, sequence);
-
-const OVERDUE: [Cell; 9] = table!(Overdue, sequence);
-
-const RENEW: [Cell; 9] = table!(Renew, sequence);
-
-const RENEW_ANSWER: [Cell; 10] = table!(RenewAnswer, sequence);
-
-const LOST: [Cell; 8] = table!(Lost, sequence);
-
-const DAMAGED: [Cell; 9] = table!(Damaged, sequence);
-
-const MESSAGE_APDU: [Cell; 8] = table!(MessageApdu, sequence);
-
-const STATUS_QUERY: [Cell; 8] = table!(StatusQuery, sequence);
-
-const EXPIRED: [Cell; 7] = table!(Expired, sequence);
-
-const ILL_APDU: [Cell; 1] = [nested!(IllApdu)];
-
-const NULL: [Cell; 2] = leaf!(Null);
-
-const OBJECT_IDENTIFIER: [Cell; 2] = leaf!(ObjectIdentifier);
-
-const OCTET_STRING: [Cell; 2] = leaf!(OctetString);
-
-const BIT_STRING: [Cell; 2] = [
-    cell!(
-        Inner,
-        true,
-        true,
-        Universal,
-        BitString,
-        0,
-        (Must, untagged, BitString)
-    ),
-    segment!(BitString, 3, BitSegment),
-];
-
-const OBJECT_DESCRIPTOR: [Cell; 2] = leaf!(ObjectDescriptor);
-
-const ANY: [Cell; 1] = [nested!(Any)];
-
-const ENCODING: [Cell; 1] = [nested!(Encoding)];
-
-const EXTERNAL: [Cell; 5] = table!(External, sequence);
-
-const TAGGED_EXTERNAL: [Cell; 1] = [nested!(TaggedExternal)];
-
-const EXTERNALS: [Cell; 2] = table!(Externals, list);
-
-const EXTENSION: [Cell; 4] = table!(Extension, sequence);
-
-const EXTENSIONS: [Cell; 2] = table!(Extensions, list);
-
-const E_DELIVERY_SERVICE: [Cell; 3] = table!(EDeliveryService, sequence);
-
-const DOCUMENT_TYPE: [Cell; 3] = table!(DocumentType, sequence);
-
-const E_DELIVERY_DETAILS: [Cell; 1] = [nested!(EDeliveryDetails)];
-
-const ELECTRONIC_DELIVERY: [Cell; 7] = table!(ElectronicDelivery, sequence);
-
-const ELECTRONIC_DELIVERIES: [Cell; 2] = table!(ElectronicDeliveries, list);
-
-const SPECIFIC_UNITS: [Cell; 2] = table!(SpecificUnits, list);
-
-const DAMAGED_PORTION: [Cell; 1] = [nested!(DamagedPortion)];
-
-const DAMAGED_DETAILS: [Cell; 3] = table!(DamagedDetails, sequence);
-
-const HISTORY_REPORT: [Cell; 13] = table!(HistoryReport, sequence);
-
-const STATUS_REPORT: [Cell; 3] = table!(StatusReport, sequence);
-
-const ALREADY_FORWARDED: [Cell; 3] = table!(AlreadyForwarded, sequence);
-
-const USER_ERROR_REPORT: [Cell; 1] = [nested!(UserErrorReport)];
-
-const STATE_TRANSITION: [Cell; 3] = table!(StateTransition, sequence);
-
-const PROVIDER_ERROR_REPORT: [Cell; 1] = [nested!(ProviderErrorReport)];
-
-const ERROR_REPORT: [Cell; 5] = table!(ErrorReport, sequence);
-
-const FORWARD_NOTIFICATION: [Cell; 10] = table!(ForwardNotification, sequence);
-
-const STATUS_OR_ERROR_REPORT: [Cell; 11] = table!(StatusOrErrorReport, sequence);
-
-const MODULE_DELIVERY_SERVICE: [Cell; 1] = [nested!(ModuleDeliveryService)];
-
-const MODULE_SHIPPED_VIA: [Cell; 1] = [nested!(ModuleShippedVia)];
-
-const MODULE_ITEM_ID: [Cell; 24] = table!(ModuleItemId, sequence);
-
-const MODULE_UNITS_PER_MEDIUM: [Cell; 3] = table!(ModuleUnitsPerMedium, sequence);
-
-const MODULE_UNITS_PER_MEDIUM_LIST: [Cell; 2] = table!(ModuleUnitsPerMediumList, list);
-
-const MODULE_SUPPLY_DETAILS: [Cell; 10] = table!(ModuleSupplyDetails, sequence);
-
-const MODULE_ILL_REQUEST: [Cell; 27] = table!(ModuleIllRequest, sequence);
-
-const MODULE_SHIPPED: [Cell; 18] = table!(ModuleShipped, sequence);
-
-const MODULE_CONDITIONAL: [Cell; 5] = table!(ModuleConditional, sequence);
-
-const MODULE_WILL_SUPPLY: [Cell; 6] = table!(ModuleWillSupply, sequence);
-
-const MODULE_RESULTS: [Cell; 1] = [nested!(ModuleResults)];
-
-const MODULE_ILL_ANSWER: [Cell; 15] = table!(ModuleIllAnswer, sequence);
-
-const MODULE_CONDITIONAL_REPLY: [Cell; 9] = table!(ModuleConditionalReply, sequence);
-
-const MODULE_CANCEL: [Cell; 8] = table!(ModuleCancel, sequence);
-
-const MODULE_CANCEL_REPLY: [Cell; 9] = table!(ModuleCancelReply, sequence);
-
-const MODULE_RECEIVED: [Cell; 12] = table!(ModuleReceived, sequence);
-
-const MODULE_RECALL: [Cell; 8] = table!(ModuleRecall, sequence);
-
-const MODULE_RETURNED: [Cell; 12] = table!(ModuleReturned, sequence);
-
-const MODULE_CHECKED_IN: [Cell; 9] = table!(ModuleCheckedIn, sequence);
-
-const MODULE_OVERDUE: [Cell; 9] = table!(ModuleOverdue, sequence);
-
-const MODULE_RENEW: [Cell; 9] = table!(ModuleRenew, sequence);
-
-const MODULE_RENEW_ANSWER: [Cell; 10] = table!(ModuleRenewAnswer, sequence);
-
-const MODULE_LOST: [Cell; 8] = table!(ModuleLost, sequence);
-
-const MODULE_DAMAGED: [Cell; 9] = table!(ModuleDamaged, sequence);
-
-const MODULE_MESSAGE_APDU: [Cell; 8] = table!(ModuleMessageApdu, sequence);
-
-const MODULE_STATUS_QUERY: [Cell; 8] = table!(ModuleStatusQuery, sequence);
-
-const MODULE_EXPIRED: [Cell; 7] = table!(ModuleExpired, sequence);
-
-const MODULE_ILL_APDU: [Cell; 1] = [nested!(ModuleIllApdu)];
-
-const SYMBOL_ALTERNATIVES: [Cell; 2] = table!(Symbol, alternatives);
-
-const NAME_ALTERNATIVES: [Cell; 2] = table!(Name, alternatives);
-
-const DELIVERY_SERVICE_ALTERNATIVES: [Cell; 2] = table!(DeliveryService, alternatives);
-
-const SHIPPED_VIA_ALTERNATIVES: [Cell; 2] = table!(ShippedVia, alternatives);
-
-const RESULTS_ALTERNATIVES: [Cell; 7] = table!(Results, alternatives);
-
-const ILL_APDU_ALTERNATIVES: [Cell; 20] = table!(IllApdu, alternatives);
-
-const ENCODING_ALTERNATIVES: [Cell; 3] = table!(Encoding, alternatives);
-
-const TAGGED_EXTERNAL_ALTERNATIVES: [Cell; 1] = table!(TaggedExternal, alternatives);
-
-const E_DELIVERY_DETAILS_ALTERNATIVES: [Cell; 2] = table!(EDeliveryDetails, alternatives);
-
-const DAMAGED_PORTION_ALTERNATIVES: [Cell; 2] = table!(DamagedPortion, alternatives);
-
-const USER_ERROR_REPORT_ALTERNATIVES: [Cell; 4] = table!(UserErrorReport, alternatives);
-
-const PROVIDER_ERROR_REPORT_ALTERNATIVES: [Cell; 3] = table!(ProviderErrorReport, alternatives);
-
-const MODULE_DELIVERY_SERVICE_ALTERNATIVES: [Cell; 2] = table!(ModuleDeliveryService, alternatives);
-
-const MODULE_SHIPPED_VIA_ALTERNATIVES: [Cell; 2] = table!(ModuleShippedVia, alternatives);
-
-const MODULE_RESULTS_ALTERNATIVES: [Cell; 7] = table!(ModuleResults, alternatives);
-
-const MODULE_ILL_APDU_ALTERNATIVES: [Cell; 20] = table!(ModuleIllApdu, alternatives);
-
 /// The cells of the elements of a foreign tree, by the number of elements round each.
 const FOREIGN: [Cell; 20] = [
     foreign!(Root, 0),
@@ -556,39 +283,6 @@ const FOREIGN: [Cell; 20] = [
     foreign!(Foreign, 19),
 ];
 
-const STRINGS: [Cell; 2] = [
-    Cell {
-        number: 27,
-        class: Class::Universal,
-        element_type: ElementType::General,
-        part: PartId {
-            node: NodeId::IllString,
-            row: 0,
-        },
-        node: NodeId::IllString,
-        slot: EntryRole::Row,
-        nested: false,
-        is_mandatory: false,
-        mandatory_follows: false,
-        default: None,
-    },
-    Cell {
-        number: 26,
-        class: Class::Universal,
-        element_type: ElementType::Visible,
-        part: PartId {
-            node: NodeId::IllString,
-            row: 1,
-        },
-        node: NodeId::IllString,
-        slot: EntryRole::Row,
-        nested: false,
-        is_mandatory: false,
-        mandatory_follows: false,
-        default: None,
-    },
-];
-
 /// The cells of a node: those by which it begins, and those of what it may contain.
 #[inline(always)]
 pub fn cells_of(node: NodeId) -> &'static [Cell]
@@ -597,129 +291,129 @@ pub fn cells_of(node: NodeId) -> &'static [Cell]
     ensures two { IsTrue (is_of_two node) → IsTrue (list_all is_two_cell result.now) }
 {
     match node {
-        NodeId::Boolean => &BOOLEAN,
-        NodeId::Integer => &INTEGER,
-        NodeId::Enumerated => &ENUMERATED,
-        NodeId::IsoDate => &ISO_DATE,
-        NodeId::IsoTime => &ISO_TIME,
-        NodeId::PrintableString => &PRINTABLE_STRING,
-        NodeId::IllString => &ILL_STRING,
-        NodeId::LeftOut => &LEFT_OUT,
-        NodeId::Symbol => &SYMBOL,
-        NodeId::Name => &NAME,
-        NodeId::SystemId => &SYSTEM_ID,
-        NodeId::TransactionId => &TRANSACTION_ID,
-        NodeId::DateTime => &DATE_TIME,
-        NodeId::ServiceDateTime => &SERVICE_DATE_TIME,
-        NodeId::PostalAddress => &POSTAL_ADDRESS,
-        NodeId::SystemAddress => &SYSTEM_ADDRESS,
-        NodeId::DeliveryAddress => &DELIVERY_ADDRESS,
-        NodeId::ClientId => &CLIENT_ID,
-        NodeId::DeliveryService => &DELIVERY_SERVICE,
-        NodeId::RequesterOptionalMessages => &REQUESTER_OPTIONAL_MESSAGES,
-        NodeId::ResponderOptionalMessages => &RESPONDER_OPTIONAL_MESSAGES,
-        NodeId::SearchType => &SEARCH_TYPE,
-        NodeId::SupplyMediumInfo => &SUPPLY_MEDIUM_INFO,
-        NodeId::ItemId => &ITEM_ID,
-        NodeId::Amount => &AMOUNT,
-        NodeId::CostInfo => &COST_INFO,
-        NodeId::SendTo => &SEND_TO,
-        NodeId::SendToList => &SEND_TO_LIST,
-        NodeId::AlreadyTriedList => &ALREADY_TRIED_LIST,
-        NodeId::ThirdPartyInfo => &THIRD_PARTY_INFO,
-        NodeId::UnitsPerMedium => &UNITS_PER_MEDIUM,
-        NodeId::UnitsPerMediumList => &UNITS_PER_MEDIUM_LIST,
-        NodeId::DateDue => &DATE_DUE,
-        NodeId::ShippedVia => &SHIPPED_VIA,
-        NodeId::SupplyDetails => &SUPPLY_DETAILS,
-        NodeId::IllServiceTypes => &ILL_SERVICE_TYPES,
-        NodeId::SupplyMediumInfos => &SUPPLY_MEDIUM_INFOS,
-        NodeId::IllRequest => &ILL_REQUEST,
-        NodeId::Shipped => &SHIPPED,
-        NodeId::LocationInfo => &LOCATION_INFO,
-        NodeId::Locs => &LOCS,
-        NodeId::Conditional => &CONDITIONAL,
-        NodeId::Retry => &RETRY,
-        NodeId::Unfilled => &UNFILLED,
-        NodeId::Locations => &LOCATIONS,
-        NodeId::WillSupply => &WILL_SUPPLY,
-        NodeId::HoldPlaced => &HOLD_PLACED,
-        NodeId::Estimate => &ESTIMATE,
-        NodeId::Results => &RESULTS,
-        NodeId::IllAnswer => &ILL_ANSWER,
-        NodeId::ConditionalReply => &CONDITIONAL_REPLY,
-        NodeId::Cancel => &CANCEL,
-        NodeId::CancelReply => &CANCEL_REPLY,
-        NodeId::Received => &RECEIVED,
-        NodeId::Recall => &RECALL,
-        NodeId::Returned => &RETURNED,
-        NodeId::CheckedIn => &CHECKED_IN,
-        NodeId::Overdue => &OVERDUE,
-        NodeId::Renew => &RENEW,
-        NodeId::RenewAnswer => &RENEW_ANSWER,
-        NodeId::Lost => &LOST,
-        NodeId::Damaged => &DAMAGED,
-        NodeId::MessageApdu => &MESSAGE_APDU,
-        NodeId::StatusQuery => &STATUS_QUERY,
-        NodeId::Expired => &EXPIRED,
-        NodeId::IllApdu => &ILL_APDU,
-        NodeId::Null => &NULL,
-        NodeId::ObjectIdentifier => &OBJECT_IDENTIFIER,
-        NodeId::OctetString => &OCTET_STRING,
-        NodeId::BitString => &BIT_STRING,
-        NodeId::ObjectDescriptor => &OBJECT_DESCRIPTOR,
-        NodeId::Any => &ANY,
-        NodeId::Encoding => &ENCODING,
-        NodeId::External => &EXTERNAL,
-        NodeId::TaggedExternal => &TAGGED_EXTERNAL,
-        NodeId::Externals => &EXTERNALS,
-        NodeId::Extension => &EXTENSION,
-        NodeId::Extensions => &EXTENSIONS,
-        NodeId::EDeliveryService => &E_DELIVERY_SERVICE,
-        NodeId::DocumentType => &DOCUMENT_TYPE,
-        NodeId::EDeliveryDetails => &E_DELIVERY_DETAILS,
-        NodeId::ElectronicDelivery => &ELECTRONIC_DELIVERY,
-        NodeId::ElectronicDeliveries => &ELECTRONIC_DELIVERIES,
-        NodeId::SpecificUnits => &SPECIFIC_UNITS,
-        NodeId::DamagedPortion => &DAMAGED_PORTION,
-        NodeId::DamagedDetails => &DAMAGED_DETAILS,
-        NodeId::HistoryReport => &HISTORY_REPORT,
-        NodeId::StatusReport => &STATUS_REPORT,
-        NodeId::AlreadyForwarded => &ALREADY_FORWARDED,
-        NodeId::UserErrorReport => &USER_ERROR_REPORT,
-        NodeId::StateTransition => &STATE_TRANSITION,
-        NodeId::ProviderErrorReport => &PROVIDER_ERROR_REPORT,
-        NodeId::ErrorReport => &ERROR_REPORT,
-        NodeId::ForwardNotification => &FORWARD_NOTIFICATION,
-        NodeId::StatusOrErrorReport => &STATUS_OR_ERROR_REPORT,
-        NodeId::ModuleDeliveryService => &MODULE_DELIVERY_SERVICE,
-        NodeId::ModuleShippedVia => &MODULE_SHIPPED_VIA,
-        NodeId::ModuleItemId => &MODULE_ITEM_ID,
-        NodeId::ModuleUnitsPerMedium => &MODULE_UNITS_PER_MEDIUM,
-        NodeId::ModuleUnitsPerMediumList => &MODULE_UNITS_PER_MEDIUM_LIST,
-        NodeId::ModuleSupplyDetails => &MODULE_SUPPLY_DETAILS,
-        NodeId::ModuleIllRequest => &MODULE_ILL_REQUEST,
-        NodeId::ModuleShipped => &MODULE_SHIPPED,
-        NodeId::ModuleConditional => &MODULE_CONDITIONAL,
-        NodeId::ModuleWillSupply => &MODULE_WILL_SUPPLY,
-        NodeId::ModuleResults => &MODULE_RESULTS,
-        NodeId::ModuleIllAnswer => &MODULE_ILL_ANSWER,
-        NodeId::ModuleConditionalReply => &MODULE_CONDITIONAL_REPLY,
-        NodeId::ModuleCancel => &MODULE_CANCEL,
-        NodeId::ModuleCancelReply => &MODULE_CANCEL_REPLY,
-        NodeId::ModuleReceived => &MODULE_RECEIVED,
-        NodeId::ModuleRecall => &MODULE_RECALL,
-        NodeId::ModuleReturned => &MODULE_RETURNED,
-        NodeId::ModuleCheckedIn => &MODULE_CHECKED_IN,
-        NodeId::ModuleOverdue => &MODULE_OVERDUE,
-        NodeId::ModuleRenew => &MODULE_RENEW,
-        NodeId::ModuleRenewAnswer => &MODULE_RENEW_ANSWER,
-        NodeId::ModuleLost => &MODULE_LOST,
-        NodeId::ModuleDamaged => &MODULE_DAMAGED,
-        NodeId::ModuleMessageApdu => &MODULE_MESSAGE_APDU,
-        NodeId::ModuleStatusQuery => &MODULE_STATUS_QUERY,
-        NodeId::ModuleExpired => &MODULE_EXPIRED,
-        NodeId::ModuleIllApdu => &MODULE_ILL_APDU,
+        NodeId::Boolean => &leaf!(Boolean),
+        NodeId::Integer => &leaf!(Integer),
+        NodeId::Enumerated => &leaf!(Enumerated),
+        NodeId::IsoDate => &leaf!(IsoDate),
+        NodeId::IsoTime => &leaf!(IsoTime),
+        NodeId::PrintableString => &leaf!(PrintableString),
+        NodeId::IllString => &[nested!(IllString), segment!(IllString)],
+        NodeId::LeftOut => &sequence!(LeftOut, Context:),
+        NodeId::Symbol => &[nested!(Symbol)],
+        NodeId::Name => &[nested!(Name)],
+        NodeId::SystemId => &table!(SystemId, sequence),
+        NodeId::TransactionId => &table!(TransactionId, sequence),
+        NodeId::DateTime => &table!(DateTime, sequence),
+        NodeId::ServiceDateTime => &table!(ServiceDateTime, sequence),
+        NodeId::PostalAddress => &table!(PostalAddress, sequence),
+        NodeId::SystemAddress => &table!(SystemAddress, sequence),
+        NodeId::DeliveryAddress => &table!(DeliveryAddress, sequence),
+        NodeId::ClientId => &table!(ClientId, sequence),
+        NodeId::DeliveryService => &[nested!(DeliveryService)],
+        NodeId::RequesterOptionalMessages => &table!(RequesterOptionalMessages, sequence),
+        NodeId::ResponderOptionalMessages => &table!(ResponderOptionalMessages, sequence),
+        NodeId::SearchType => &table!(SearchType, sequence),
+        NodeId::SupplyMediumInfo => &table!(SupplyMediumInfo, sequence),
+        NodeId::ItemId => &table!(ItemId, sequence),
+        NodeId::Amount => &table!(Amount, sequence),
+        NodeId::CostInfo => &table!(CostInfo, sequence),
+        NodeId::SendTo => &table!(SendTo, sequence),
+        NodeId::SendToList => &table!(SendToList, list),
+        NodeId::AlreadyTriedList => &table!(AlreadyTriedList, list),
+        NodeId::ThirdPartyInfo => &table!(ThirdPartyInfo, sequence),
+        NodeId::UnitsPerMedium => &table!(UnitsPerMedium, sequence),
+        NodeId::UnitsPerMediumList => &table!(UnitsPerMediumList, list),
+        NodeId::DateDue => &table!(DateDue, sequence),
+        NodeId::ShippedVia => &[nested!(ShippedVia)],
+        NodeId::SupplyDetails => &table!(SupplyDetails, sequence),
+        NodeId::IllServiceTypes => &table!(IllServiceTypes, list),
+        NodeId::SupplyMediumInfos => &table!(SupplyMediumInfos, list),
+        NodeId::IllRequest => &table!(IllRequest, sequence),
+        NodeId::Shipped => &table!(Shipped, sequence),
+        NodeId::LocationInfo => &table!(LocationInfo, sequence),
+        NodeId::Locs => &table!(Locs, list),
+        NodeId::Conditional => &table!(Conditional, sequence),
+        NodeId::Retry => &table!(Retry, sequence),
+        NodeId::Unfilled => &table!(Unfilled, sequence),
+        NodeId::Locations => &table!(Locations, sequence),
+        NodeId::WillSupply => &table!(WillSupply, sequence),
+        NodeId::HoldPlaced => &table!(HoldPlaced, sequence),
+        NodeId::Estimate => &table!(Estimate, sequence),
+        NodeId::Results => &[nested!(Results)],
+        NodeId::IllAnswer => &table!(IllAnswer, sequence),
+        NodeId::ConditionalReply => &table!(ConditionalReply, sequence),
+        NodeId::Cancel => &table!(Cancel, sequence),
+        NodeId::CancelReply => &table!(CancelReply, sequence),
+        NodeId::Received => &table!(Received, sequence),
+        NodeId::Recall => &table!(Recall, sequence),
+        NodeId::Returned => &table!(Returned, sequence),
+        NodeId::CheckedIn => &table!(CheckedIn, sequence),
+        NodeId::Overdue => &table!(Overdue, sequence),
+        NodeId::Renew => &table!(Renew, sequence),
+        NodeId::RenewAnswer => &table!(RenewAnswer, sequence),
+        NodeId::Lost => &table!(Lost, sequence),
+        NodeId::Damaged => &table!(Damaged, sequence),
+        NodeId::MessageApdu => &table!(MessageApdu, sequence),
+        NodeId::StatusQuery => &table!(StatusQuery, sequence),
+        NodeId::Expired => &table!(Expired, sequence),
+        NodeId::IllApdu => &[nested!(IllApdu)],
+        NodeId::Null => &leaf!(Null),
+        NodeId::ObjectIdentifier => &leaf!(ObjectIdentifier),
+        NodeId::OctetString => &leaf!(OctetString),
+        NodeId::BitString => &[own_cell!(BitString), segment!(BitString, 3, BitSegment)],
+        NodeId::ObjectDescriptor => &leaf!(ObjectDescriptor),
+        NodeId::Any => &[nested!(Any)],
+        NodeId::Encoding => &[nested!(Encoding)],
+        NodeId::External => &table!(External, sequence),
+        NodeId::TaggedExternal => &[nested!(TaggedExternal)],
+        NodeId::Externals => &table!(Externals, list),
+        NodeId::Extension => &table!(Extension, sequence),
+        NodeId::Extensions => &table!(Extensions, list),
+        NodeId::EDeliveryService => &table!(EDeliveryService, sequence),
+        NodeId::DocumentType => &table!(DocumentType, sequence),
+        NodeId::EDeliveryDetails => &[nested!(EDeliveryDetails)],
+        NodeId::ElectronicDelivery => &table!(ElectronicDelivery, sequence),
+        NodeId::ElectronicDeliveries => &table!(ElectronicDeliveries, list),
+        NodeId::SpecificUnits => &table!(SpecificUnits, list),
+        NodeId::DamagedPortion => &[nested!(DamagedPortion)],
+        NodeId::DamagedDetails => &table!(DamagedDetails, sequence),
+        NodeId::HistoryReport => &table!(HistoryReport, sequence),
+        NodeId::StatusReport => &table!(StatusReport, sequence),
+        NodeId::AlreadyForwarded => &table!(AlreadyForwarded, sequence),
+        NodeId::UserErrorReport => &[nested!(UserErrorReport)],
+        NodeId::StateTransition => &table!(StateTransition, sequence),
+        NodeId::ProviderErrorReport => &[nested!(ProviderErrorReport)],
+        NodeId::ErrorReport => &table!(ErrorReport, sequence),
+        NodeId::ForwardNotification => &table!(ForwardNotification, sequence),
+        NodeId::StatusOrErrorReport => &table!(StatusOrErrorReport, sequence),
+        NodeId::ModuleDeliveryService => &[nested!(ModuleDeliveryService)],
+        NodeId::ModuleShippedVia => &[nested!(ModuleShippedVia)],
+        NodeId::ModuleItemId => &table!(ModuleItemId, sequence),
+        NodeId::ModuleUnitsPerMedium => &table!(ModuleUnitsPerMedium, sequence),
+        NodeId::ModuleUnitsPerMediumList => &table!(ModuleUnitsPerMediumList, list),
+        NodeId::ModuleSupplyDetails => &table!(ModuleSupplyDetails, sequence),
+        NodeId::ModuleIllRequest => &table!(ModuleIllRequest, sequence),
+        NodeId::ModuleShipped => &table!(ModuleShipped, sequence),
+        NodeId::ModuleConditional => &table!(ModuleConditional, sequence),
+        NodeId::ModuleWillSupply => &table!(ModuleWillSupply, sequence),
+        NodeId::ModuleResults => &[nested!(ModuleResults)],
+        NodeId::ModuleIllAnswer => &table!(ModuleIllAnswer, sequence),
+        NodeId::ModuleConditionalReply => &table!(ModuleConditionalReply, sequence),
+        NodeId::ModuleCancel => &table!(ModuleCancel, sequence),
+        NodeId::ModuleCancelReply => &table!(ModuleCancelReply, sequence),
+        NodeId::ModuleReceived => &table!(ModuleReceived, sequence),
+        NodeId::ModuleRecall => &table!(ModuleRecall, sequence),
+        NodeId::ModuleReturned => &table!(ModuleReturned, sequence),
+        NodeId::ModuleCheckedIn => &table!(ModuleCheckedIn, sequence),
+        NodeId::ModuleOverdue => &table!(ModuleOverdue, sequence),
+        NodeId::ModuleRenew => &table!(ModuleRenew, sequence),
+        NodeId::ModuleRenewAnswer => &table!(ModuleRenewAnswer, sequence),
+        NodeId::ModuleLost => &table!(ModuleLost, sequence),
+        NodeId::ModuleDamaged => &table!(ModuleDamaged, sequence),
+        NodeId::ModuleMessageApdu => &table!(ModuleMessageApdu, sequence),
+        NodeId::ModuleStatusQuery => &table!(ModuleStatusQuery, sequence),
+        NodeId::ModuleExpired => &table!(ModuleExpired, sequence),
+        NodeId::ModuleIllApdu => &[nested!(ModuleIllApdu)],
     }
 }
 
@@ -732,23 +426,54 @@ pub fn alternatives_of(node: NodeId) -> &'static [Cell]
     ensures two { IsTrue (is_of_two node) → IsTrue (list_all is_two_cell result.now) }
 {
     match node {
-        NodeId::Symbol => &SYMBOL_ALTERNATIVES,
-        NodeId::Name => &NAME_ALTERNATIVES,
-        NodeId::DeliveryService => &DELIVERY_SERVICE_ALTERNATIVES,
-        NodeId::ShippedVia => &SHIPPED_VIA_ALTERNATIVES,
-        NodeId::Results => &RESULTS_ALTERNATIVES,
-        NodeId::IllApdu => &ILL_APDU_ALTERNATIVES,
-        NodeId::IllString => &STRINGS,
-        NodeId::Encoding => &ENCODING_ALTERNATIVES,
-        NodeId::TaggedExternal => &TAGGED_EXTERNAL_ALTERNATIVES,
-        NodeId::EDeliveryDetails => &E_DELIVERY_DETAILS_ALTERNATIVES,
-        NodeId::DamagedPortion => &DAMAGED_PORTION_ALTERNATIVES,
-        NodeId::UserErrorReport => &USER_ERROR_REPORT_ALTERNATIVES,
-        NodeId::ProviderErrorReport => &PROVIDER_ERROR_REPORT_ALTERNATIVES,
-        NodeId::ModuleDeliveryService => &MODULE_DELIVERY_SERVICE_ALTERNATIVES,
-        NodeId::ModuleShippedVia => &MODULE_SHIPPED_VIA_ALTERNATIVES,
-        NodeId::ModuleResults => &MODULE_RESULTS_ALTERNATIVES,
-        NodeId::ModuleIllApdu => &MODULE_ILL_APDU_ALTERNATIVES,
+        NodeId::Symbol => &table!(Symbol, alternatives),
+        NodeId::Name => &table!(Name, alternatives),
+        NodeId::DeliveryService => &table!(DeliveryService, alternatives),
+        NodeId::ShippedVia => &table!(ShippedVia, alternatives),
+        NodeId::Results => &table!(Results, alternatives),
+        NodeId::IllApdu => &table!(IllApdu, alternatives),
+        NodeId::IllString => &[
+            Cell {
+                number: 27,
+                class: Class::Universal,
+                element_type: ElementType::General,
+                part: PartId {
+                    node: NodeId::IllString,
+                    row: 0,
+                },
+                node: NodeId::IllString,
+                slot: EntryRole::Row,
+                nested: false,
+                is_mandatory: false,
+                mandatory_follows: false,
+                default: None,
+            },
+            Cell {
+                number: 26,
+                class: Class::Universal,
+                element_type: ElementType::Visible,
+                part: PartId {
+                    node: NodeId::IllString,
+                    row: 1,
+                },
+                node: NodeId::IllString,
+                slot: EntryRole::Row,
+                nested: false,
+                is_mandatory: false,
+                mandatory_follows: false,
+                default: None,
+            },
+        ],
+        NodeId::Encoding => &table!(Encoding, alternatives),
+        NodeId::TaggedExternal => &table!(TaggedExternal, alternatives),
+        NodeId::EDeliveryDetails => &table!(EDeliveryDetails, alternatives),
+        NodeId::DamagedPortion => &table!(DamagedPortion, alternatives),
+        NodeId::UserErrorReport => &table!(UserErrorReport, alternatives),
+        NodeId::ProviderErrorReport => &table!(ProviderErrorReport, alternatives),
+        NodeId::ModuleDeliveryService => &table!(ModuleDeliveryService, alternatives),
+        NodeId::ModuleShippedVia => &table!(ModuleShippedVia, alternatives),
+        NodeId::ModuleResults => &table!(ModuleResults, alternatives),
+        NodeId::ModuleIllApdu => &table!(ModuleIllApdu, alternatives),
         _ => &[],
     }
 }

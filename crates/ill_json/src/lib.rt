@@ -13,10 +13,12 @@ mod identifier;
 mod leaf;
 mod line;
 mod module_leaf;
+mod place;
 mod result;
 mod value;
 mod writing;
 
 pub use identifier::add_identifier;
 pub use line::{LineHead, json_line, json_line_as};
+pub use place::RefusalPlace;
 pub use result::{RefusalKind, RefusedHead, refused_line, result_line};

@@ -6,6 +6,7 @@ ghost use Rattle.ill_json.specs.Results.{dotted, kind_name, part_of_cause, part_
 ghost use Rattle.ill_json.specs.code.Adding.{Adds, count_tokens, digest_tokens, text_tokens};
 
 use crate::line::{LineHead, put_file, put_head};
+use crate::place::{RefusalPlace, put_place};
 use crate::writing::LineWriter;
 use ill_schema::{Cause, PartId, Refusal, part_name};
 use json::Token;
@@ -83,8 +84,9 @@ pub fn result_line(
 /// - `number`, `offset`: those of the head
 /// - `octets`: the number of its octets, where its end is known
 /// - `apdu`: the name of the APDU, where it is given
-/// - `refused`: an object of `cause`, its name; `offset`, that of the refusal in the message; `kind`, `not read` or `invalid`; and `part`, the
-///   names of the node and the row that the cause is about, where it is about one
+/// - `refused`: an object of `cause`, its name; `offset`, that of the refusal in the message; `kind`, `not read` or `invalid`; `part`, the
+///   names of the node and the row that the cause is about, where it is about one; and `path`, `found` and `due`, an array, those of the
+///   place that say something
 ///
 /// # Errors
 ///
@@ -94,7 +96,7 @@ pub fn result_line(
 ///
 /// ```text
 /// // {"number":2,"offset":44,"octets":2,"apdu":"Expired","refused":{"cause":"Missing","offset":2,"kind":"invalid",..}}
-/// let line = refused_line(alloc, Vec::new(alloc), None, head, Some("Expired"))?;
+/// let line = refused_line(alloc, Vec::new(alloc), None, head, Some("Expired"), &place)?;
 /// ```
 pub fn refused_line(
     alloc: Global,
@@ -102,13 +104,14 @@ pub fn refused_line(
     file: Option<&str>,
     head: RefusedHead,
     apdu: Option<&str>,
+    place: &RefusalPlace,
 ) -> Result<Vec<u8>, AllocError>
     ensures { IfOk result (λ line. line.items
         ≡ refused_line_of (option_map (λ name. name.now) file.entry) head
-        (option_map (λ name. name.now) apdu.entry)) }
+        (option_map (λ name. name.now) apdu.entry) place.now) }
 {
     let mut out = LineWriter::new(alloc, buffer);
-    put_refused(file, head, apdu, &mut out);
+    put_refused(file, head, apdu, place, &mut out);
     out.into_line(alloc)
 }
 
@@ -144,9 +147,15 @@ fn put_digest(digest: Option<&[u8]>, out: &mut LineWriter)
 }
 
 /// Puts the object of a message that is refused.
-fn put_refused(file: Option<&str>, head: RefusedHead, apdu: Option<&str>, out: &mut LineWriter)
+fn put_refused(
+    file: Option<&str>,
+    head: RefusedHead,
+    apdu: Option<&str>,
+    place: &RefusalPlace,
+    out: &mut LineWriter,
+)
     ensures { Adds (json_tokens (refused_json (option_map (λ name. name.now) file.entry) head
-        (option_map (λ name. name.now) apdu.entry))) out.old out.new }
+        (option_map (λ name. name.now) apdu.entry) place.now)) out.old out.new }
 {
     out.put(Token::BeginObject);
     put_file(file, out);
@@ -157,7 +166,7 @@ fn put_refused(file: Option<&str>, head: RefusedHead, apdu: Option<&str>, out: &
     put_octets(head.octets, out);
     put_apdu(apdu, out);
     out.put(Token::Key("refused"));
-    put_why(head.refusal, head.kind, out);
+    put_why(head.refusal, head.kind, place, out);
     out.put(Token::EndObject);
 }
 
@@ -189,8 +198,8 @@ fn put_apdu(apdu: Option<&str>, out: &mut LineWriter)
 }
 
 /// Puts the object that says why a message is refused.
-fn put_why(refusal: Refusal, kind: RefusalKind, out: &mut LineWriter)
-    ensures { Adds (json_tokens (why_json refusal kind)) out.old out.new }
+fn put_why(refusal: Refusal, kind: RefusalKind, place: &RefusalPlace, out: &mut LineWriter)
+    ensures { Adds (json_tokens (why_json refusal kind place.now)) out.old out.new }
 {
     out.put(Token::BeginObject);
     out.put(Token::Key("cause"));
@@ -200,6 +209,7 @@ fn put_why(refusal: Refusal, kind: RefusalKind, out: &mut LineWriter)
     out.put(Token::Key("kind"));
     out.put(Token::String(kind.name()));
     put_part(part_of_cause(refusal.cause), out);
+    put_place(place, out);
     out.put(Token::EndObject);
 }
 

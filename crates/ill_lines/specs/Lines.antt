@@ -16,7 +16,9 @@ use Rattle.ill_normal.specs.Hexadecimal.{hex_octets}
 use Rattle.ill_normal.specs.Messages.{is_normal}
 use Rattle.ill_normal.specs.declared.run_fault.RunFault.{RunFault}
 use Rattle.ill_lines.specs.Parts.{has_end, parts_by}
-use Rattle.ill_lines.specs.Words.{check_words, hex_words, refusal_words}
+use Rattle.ill_schema.specs.Names.{apdu_name_in, name_or_none}
+use Rattle.ill_normal.specs.CheckWords.{check_words}
+use Rattle.ill_lines.specs.Words.{hex_words, refusal_words}
 use Rattle.ill_lines.specs.declared.job.LineJob.{LineJob}
 use Rattle.ill_lines.specs.declared.job.LineOptions.{LineOptions}
 use Rattle.ill_lines.specs.declared.job.LinesFault.{LinesFault}
@@ -34,7 +36,7 @@ line_options profile job = record { profile = profile; job = job }
 
 -- what is said of a message of the profile
 abbrev pub message_words : Profile → LineJob → Spelling → List ℕ
-message_words q LineJob.Check m = check_words q m.apdu.number (length m.octets) (is_normal q m) (length (normal_form_in q m.apdu))
+message_words q LineJob.Check m = check_words (name_or_none (apdu_name_in q m.apdu.number)) (length m.octets) (is_normal q m) (length (normal_form_in q m.apdu))
 message_words q LineJob.Digest m = encode_lower (sha256 (normal_form_in q m.apdu))
 message_words q LineJob.Canonicalise m = encode_lower (normal_form_in q m.apdu)
 

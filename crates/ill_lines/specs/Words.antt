@@ -1,11 +1,9 @@
--- The words of a line: what a message is, or why the line is not a message.
-use Rattle.std.specs.Prelude.{ℕ, Bool, true, false, List, [], ◌++◌, codes, decimal, Option, Some, None}
-use Rattle.ber_leaf.specs.Profile.{Profile}
-use Rattle.ill_schema.specs.Names.{apdu_name_in, part_name_of}
+-- The words of a line that is not a message.
+use Rattle.std.specs.Prelude.{ℕ, List, [], ◌++◌, codes, decimal, Option, Some, None}
+use Rattle.ill_schema.specs.Names.{part_name_of}
 use Rattle.ill_schema.specs.Causes.{cause_name}
 use Rattle.ill_schema.specs.declared.refusal.Cause.{Cause}
 use Rattle.ill_refusals.specs.Fault.{Fault}
-use Rattle.ill_schema.specs.Names.{name_or_none}
 use Rattle.ill_normal.specs.declared.run_fault.RunFault.{RunFault}
 
 -- the name of a node, and that of its row
@@ -32,11 +30,3 @@ hex_words RunFault.OddHex = codes "hex: odd number of digits"
 hex_words (RunFault.BadHex place) = codes "hex: bad digit at " ++ decimal place
 hex_words RunFault.HexTooLong = codes "hex: too long"
 hex_words _ = []
-
-abbrev pub form_words : Bool → ℕ → List ℕ
-form_words true size = codes "normal"
-form_words false size = codes "not normal, normal form " ++ decimal size ++ codes " octets"
-
--- whether a message of the profile is its normal form: the number of its APDU, how many octets it has, and how many its normal form has
-abbrev pub check_words : Profile → ℕ → ℕ → Bool → ℕ → List ℕ
-check_words q number octets normal size = name_or_none (apdu_name_in q number) ++ codes ", " ++ decimal octets ++ codes " octets, " ++ form_words normal size

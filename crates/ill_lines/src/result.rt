@@ -9,9 +9,10 @@ ghost use Rattle.ill_lines.specs.Lines.{IsResult, IsResultOf, IsSaid, line_optio
 ghost use Rattle.ill_lines.specs.declared.job.LineJob.{LineJob as Job};
 
 use crate::job::{LineJob, LineOptions};
-use crate::words::{check_words, hex_words, refusal_words};
+use crate::words::{hex_words, refusal_words};
 use ill_normal::{
-    Failure, NormalReader, Profile, RunFault, apdu_number, normal_digest, text_octets,
+    Failure, NormalReader, Profile, RunFault, apdu_name_or_empty, apdu_number, normal_digest,
+    put_check_words, text_octets,
 };
 use std::alloc::{AllocError, Global};
 
@@ -103,14 +104,9 @@ fn check_result(
         found.words.items found.is_good) }
 {
     let is_normal = octets == normal;
-    let words = check_words(
-        alloc,
-        profile,
-        apdu_number(normal),
-        octets.len(),
-        is_normal,
-        normal.len(),
-    )?;
+    let name = apdu_name_or_empty(profile, apdu_number(normal));
+    let mut words = Vec::new(alloc);
+    put_check_words(&mut words, name, octets.len(), is_normal, normal.len())?;
     Ok(LineResult {
         words,
         is_good: is_normal,

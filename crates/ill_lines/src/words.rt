@@ -1,11 +1,10 @@
-//! The words of a line: what a message is, or why the line is not a message.
+//! The words of a line that is not a message.
 ghost use Rattle.std.specs.Prelude.{◌≡◌, IfOk, OnOk, ◌++◌};
 ghost use Rattle.ill_schema.specs.Names.{part_name_of};
-ghost use Rattle.ill_schema.specs.Profiles.{profile_of};
 ghost use Rattle.ill_refusals.specs.Fault.{fault_of};
-ghost use Rattle.ill_lines.specs.Words.{cause_words, check_words, hex_words, part_words, refusal_words};
+ghost use Rattle.ill_lines.specs.Words.{cause_words, hex_words, part_words, refusal_words};
 
-use ill_normal::{Cause, PartId, Profile, Refusal, RunFault, apdu_name_as, part_name};
+use ill_normal::{Cause, PartId, Refusal, RunFault, part_name};
 use itoa::Buffer;
 use std::alloc::{AllocError, Global};
 
@@ -58,36 +57,5 @@ pub fn hex_words(alloc: Global, fault: RunFault) -> Result<Vec<u8>, AllocError>
         RunFault::HexTooLong => words.extend_from_slice(b"hex: too long")?,
         _ => {}
     }
-    Ok(words)
-}
-
-/// Tells whether a message of the profile is its normal form: the number of its APDU, how many octets it has, and how many its normal form has.
-pub fn check_words(
-    alloc: Global,
-    profile: Profile,
-    apdu: u8,
-    octets: usize,
-    is_normal: bool,
-    normal: usize,
-) -> Result<Vec<u8>, AllocError>
-    ensures { IfOk result (λ words. words.items
-        ≡ check_words (profile_of profile) apdu octets is_normal normal) }
-{
-    let name = match apdu_name_as(profile, apdu) {
-        Some(name) => name,
-        None => "",
-    };
-    let mut words = Vec::new(alloc);
-    words.extend_from_slice(name.as_bytes())?;
-    words.extend_from_slice(b", ")?;
-    words.extend_from_slice(Buffer::new().format(octets).as_bytes())?;
-    words.extend_from_slice(b" octets, ")?;
-    if is_normal {
-        words.extend_from_slice(b"normal")?;
-        return Ok(words);
-    }
-    words.extend_from_slice(b"not normal, normal form ")?;
-    words.extend_from_slice(Buffer::new().format(normal).as_bytes())?;
-    words.extend_from_slice(b" octets")?;
     Ok(words)
 }

@@ -1,5 +1,5 @@
 -- Messages that are gone through, one after another.
-use Rattle.std.proofs.Common.{◌≡◌, ℕ, suc, ◌+◌, ◌<◌, ◌≤◌, Bool, true, false, ◌&&◌, List, [], ◌∷◌, ◌++◌, length, take, Option, Some, None, IsTrue, refl, sym, ap, ap₂, subst, ◌∙◌, arith, inl, inr, nat_eq, append_assoc, append-nil, length-append}
+use Rattle.std.proofs.Common.{◌≡◌, ℕ, suc, ◌+◌, ◌<◌, ◌≤◌, Bool, ◌&&◌, List, [], ◌∷◌, ◌++◌, length, take, Option, Some, None, IsTrue, refl, sym, ap, ap₂, subst, ◌∙◌, arith, inl, inr, nat_eq, append_assoc, append-nil, length-append}
 use Rattle.std.proofs.Math.Dec.{eqb-suc-suc}
 use Rattle.std.proofs.Math.Nat.{min-eq_left}
 use Rattle.std.specs.Io.KnownBytes.{Consumes, Keeps, Appends, IsAtEnd}
@@ -21,7 +21,9 @@ use Rattle.ill_normal.specs.declared.skipping.SkippingErrorKind.{SkippingErrorKi
 use Rattle.ill_normal.specs.Items.{Item, good, bad, IsRefusedFor, AreItems, item_octets, position_past, written_of, written_from, report, reports_from, good_in, all_good, Adds}
 use Rattle.ill_normal.specs.Skipping.{Reporting, reporting, Goes, HasNoEnd, SkipsToEnd, part_of, StopsFor, SkipsAndStops}
 use Rattle.ill_normal.specs.Next.{TakesPart}
-use Rattle.ill_normal.specs.code.SkippingEnds.{GoesOn, counts_of, error_at, why_of}
+use Rattle.ill_normal.specs.InputEnds.{GoesOn}
+use Rattle.ill_normal.specs.declared.input_end.EndError.{EndError}
+use Rattle.ill_normal.specs.code.SkippingEnds.{counts_of, error_at, why_of, why_of_end}
 use Rattle.ill_normal.specs.declared.next_message.TakeError.{TakeError}
 
 pub adds_none : (r : Option (List RefusalReport)) → Adds r r []
@@ -302,16 +304,14 @@ module _ (q : Named) where
           )
 
       -- after the last message that an input may have an octet was taken, or the source broke
-      pub halts_at_last : (n : ℕ) (why : SkippingErrorKind) → n ≡ before → n ≡ 1_000_000 → held' ≡ held'' → new ≡ next → GoesOn left' left'' x why
-          → SkipsAndStops (profile_of q) text is_good (taking left left'' x) (putting held held'' y) (reporting old next) (error_at n refused good_ones offset written why)
-      halts_at_last n SkippingErrorKind.TooMany same last h k e =
+      pub halts_at_last : (n : ℕ) (error : EndError) → n ≡ before → n ≡ 1_000_000 → held' ≡ held'' → new ≡ next → GoesOn left' left'' x error
+          → SkipsAndStops (profile_of q) text is_good (taking left left'' x) (putting held held'' y) (reporting old next) (error_at n refused good_ones offset written (why_of_end error))
+      halts_at_last n EndError.MoreOctets same last h k e =
           halts n written SkippingErrorKind.TooMany same k (omega (arith, r.size)) (last, e, subst (λ (z : Option (List ℕ)). Keeps held' z) h (Keeps-refl held'))
-      halts_at_last n SkippingErrorKind.ReadFault same last h k e =
+      halts_at_last n EndError.Broken same last h k e =
           let none = Consumes-kept left' left' left'' [] (Consumes-nil left') e.1 in
           halts n written SkippingErrorKind.ReadFault same k (omega (arith, r.size))
           (omega (arith, last), e.0, (([], none, λ a i accepted. accepts_some (profile_of q) [] a i refl accepted), λ full. e.1), subst (λ (z : Option (List ℕ)). Keeps held' z) h (Keeps-refl held'))
-      halts_at_last n SkippingErrorKind.OutOfMemory same last h k e = absurd e
-      halts_at_last n (SkippingErrorKind.WriteFault i) same last h k e = absurd e
 
   -- no more are refused or good than were gone through
   pub halted_sum : (text : MessagePlace → Spelling → List ℕ) (is_good : Spelling → Bool) (source : Taking) (sink : Putting) (reports : Reporting) (halted : SkippingError)

@@ -15,7 +15,9 @@ use Rattle.ill_read.specs.Answers.{ReadsNextIn, TakesFront}
 use Rattle.ill_read.specs.declared.failure.ReadFailure.{ReadFailure}
 use Rattle.ill_normal.specs.Calls.{taking, putting}
 use Rattle.ill_normal.specs.Messages.{Spelling, spelling, AreSpelledIn, counted, position, first, after, position_after, output_from, one_if, good_of, MakesIn, WritesIn, PassesAllIn, BreaksWithinIn, EndsIn, EndsAfterIn}
-use Rattle.ill_normal.specs.code.Ending.{GoesOn, all_passed, ended_at}
+use Rattle.ill_normal.specs.InputEnds.{GoesOn}
+use Rattle.ill_normal.specs.declared.input_end.EndError.{EndError}
+use Rattle.ill_normal.specs.code.Ending.{all_passed, ended_at, why_of_end}
 use Rattle.ill_normal.specs.declared.messages.RenderedMessage.{RenderedMessage}
 use Rattle.ill_normal.specs.declared.messages.MessagePlace.{MessagePlace}
 use Rattle.ill_normal.specs.declared.messages.StreamErrorKind.{StreamErrorKind}
@@ -214,9 +216,9 @@ module _ (q : Named) where
       }
 
       -- after the last message that an input may have an octet was taken, or the source broke
-      pub ends_at_last : (n : ℕ) (why : StreamErrorKind) → n ≡ whole → n ≡ 1_000_000 → GoesOn left' left'' x why
-          → EndsAfterIn (profile_of q) text is_good (taking left left'' x) (putting held held' y) (ended_at n good before written why)
-      ends_at_last n StreamErrorKind.TooMany same last h = record {
+      pub ends_at_last : (n : ℕ) (error : EndError) → n ≡ whole → n ≡ 1_000_000 → GoesOn left' left'' x error
+          → EndsAfterIn (profile_of q) text is_good (taking left left'' x) (putting held held' y) (ended_at n good before written (why_of_end error))
+      ends_at_last n EndError.MoreOctets same last h = record {
         messages = r.messages;
         rest = left';
         grown = held';
@@ -228,7 +230,7 @@ module _ (q : Named) where
         written = omega (arith, r.size);
         ends = (last, h, Keeps-refl held');
       }
-      ends_at_last n (StreamErrorKind.Read ReadFailure.ReadFault) same last h =
+      ends_at_last n EndError.Broken same last h =
           let none = Consumes-kept left' left' left'' [] (Consumes-nil left') h.1 in
           record {
             messages = r.messages;
@@ -242,6 +244,3 @@ module _ (q : Named) where
             written = omega (arith, r.size);
             ends = (omega arith, h.0, (([], none, λ a n accepted. accepts_some (profile_of q) [] a n refl accepted), λ full. h.1), Keeps-refl held');
           }
-      ends_at_last n (StreamErrorKind.Read (ReadFailure.Refused refusal)) same last h = absurd h
-      ends_at_last n (StreamErrorKind.Read ReadFailure.OutOfMemory) same last h = absurd h
-      ends_at_last n (StreamErrorKind.Write k) same last h = absurd h

@@ -1,5 +1,5 @@
 -- What is said of an input: what its lines begin with, the verdict of a job on it, and the octets that its hexadecimal text stands for.
-use Rattle.std.specs.Prelude.{◌≡◌, ◌⊎◌, ℕ, Bool, true, false, List, [], ◌++◌, codes, Option, Result, Ok, Err, IsTrue}
+use Rattle.std.specs.Prelude.{◌≡◌, ◌⊎◌, ℕ, Bool, true, false, List, [], ◌++◌, codes, Option, Ok, Err, IsTrue}
 use Rattle.ill_normal.specs.Hexadecimal.{hex_octets, TakesText}
 use Rattle.ill_normal.specs.ReadErrors.{TakesAtMost}
 use Rattle.ill_normal.specs.declared.run_fault.RunFault.{RunFault}

@@ -9,10 +9,12 @@
 #![tactic(auto)]
 
 mod check;
+mod check_words;
 mod compare;
 mod digest;
 mod failure;
 mod hexadecimal;
+mod input_end;
 mod job_error;
 mod laws;
 mod messages;
@@ -54,6 +56,8 @@ pub use check::check_one_as;
 pub use check::check_one_in;
 pub use check::check_one_in_as;
 pub use check::check_one_peeking;
+pub use check_words::apdu_name_or_empty;
+pub use check_words::put_check_words;
 pub use compare::Side;
 pub use compare::is_normal;
 pub use compare::is_normal_as;
@@ -107,6 +111,8 @@ pub use ill_schema::row;
 pub use ill_schema::row_as;
 pub use ill_schema::rows;
 pub use ill_schema::rows_as;
+pub use input_end::EndError;
+pub use input_end::end_of_input;
 pub use job_error::JobError;
 pub use laws::normal_form_is_accepted;
 pub use laws::normal_form_is_its_own;

@@ -7,8 +7,9 @@ ghost use Rattle.ill_read.specs.Answers.{ReadsNextIn};
 ghost use Rattle.ill_normal.specs.Calls.{taking, putting};
 ghost use Rattle.ill_normal.specs.Messages.{EndsAfterIn, MakesIn, PassesAllIn, Spelling};
 ghost use Rattle.ill_normal.specs.declared.messages.MessagePlace.{MessagePlace};
-ghost use Rattle.ill_normal.specs.code.Ending.{GoesOn, all_passed, ended_at};
+ghost use Rattle.ill_normal.specs.code.Ending.{all_passed, ended_at, why_of_end};
 
+use crate::input_end::{EndError, end_of_input};
 use ber_core::{Lookahead, Sink, Source, put_all};
 use ill_read::ReadFailure;
 use std::alloc::Global;
@@ -216,7 +217,7 @@ pub fn for_each_message<M: Render, R: Source, L: Lookahead<R>, W: Sink>(
     drop(buffer);
     match end_of_input(source) {
         Ok(()) => Ok(all_passed(MAX_MESSAGES, good, before)),
-        Err(why) => Err(ended(MAX_MESSAGES, good, before, written, why)),
+        Err(error) => Err(ended(MAX_MESSAGES, good, before, written, why_of_end(error))),
     }
 }
 
@@ -246,18 +247,12 @@ fn ended(whole: u32, good: u32, before: u64, written: u128, why: StreamErrorKind
     }
 }
 
-/// One octet more is one too many, whatever it begins.
-fn end_of_input<R: Source>(source: &mut R) -> Result<(), StreamErrorKind>
-    ensures end { OnOk result (Consumes (R.left source.old) (R.left source.new) []
-        × IsAtEnd (R.left source.new)) }
-    ensures more { IfErr result (GoesOn (R.left source.old) (R.left source.new)
-        (R.is_broken source.new)) }
-    ensures stays { IsTrue (R.is_broken source.old) → IsTrue (R.is_broken source.new) }
+/// The reason why no further message is written where an input goes on.
+fn why_of_end(error: EndError) -> StreamErrorKind
+    ensures { result ≡ why_of_end error }
 {
-    let mut buffer = [0];
-    match source.take(&mut buffer) {
-        Ok(0) => Ok(()),
-        Ok(_) => Err(StreamErrorKind::TooMany),
-        Err(_) => Err(StreamErrorKind::Read(ReadFailure::ReadFault)),
+    match error {
+        EndError::MoreOctets => StreamErrorKind::TooMany,
+        EndError::Broken => StreamErrorKind::Read(ReadFailure::ReadFault),
     }
 }

@@ -2,6 +2,7 @@
 ghost use Rattle.std.specs.Prelude.{List, [], ◌∷◌, Option};
 ghost use Rattle.ill_normal.specs.declared.report.RefusalReport.{RefusalReport};
 
+use crate::messages::MessagePlace;
 use ill_schema::Refusal;
 
 /// A message that is refused.
@@ -16,6 +17,30 @@ pub struct RefusalReport {
     /// The number of its octets, or 18,446,744,073,709,551,615 where they are more; None where its end is unknown. Then the input is read no
     /// further.
     pub octets: Option<u64>,
+}
+
+impl RefusalReport {
+    ghost use Rattle.std.specs.Prelude.{◌≡◌};
+    ghost use Rattle.ill_normal.specs.Items.{report};
+
+    /// The report of the message at a position, whose number of octets is known or not.
+    ///
+    /// # Examples
+    ///
+    /// ```
+    /// let report = RefusalReport::new(position, refusal, Some(2));
+    /// ```
+    #[inline(always)]
+    pub fn new(position: MessagePlace, refusal: Refusal, octets: Option<u64>) -> RefusalReport
+        ensures { result ≡ report position refusal octets }
+    {
+        RefusalReport {
+            message: position.number,
+            offset: position.offset,
+            refusal,
+            octets,
+        }
+    }
 }
 
 /// A receiver of reports.

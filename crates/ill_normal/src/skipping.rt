@@ -3,15 +3,14 @@ ghost use Rattle.std.specs.Prelude.{◌≡◌, ℕ, ◌+◌, ◌≤◌, List, []
 ghost use Rattle.std.specs.Io.KnownBytes.{Consumes, IsAtEnd, Keeps};
 ghost use Rattle.ill_schema.specs.Profiles.{profile_of};
 ghost use Rattle.ill_normal.specs.Calls.{taking, putting};
-ghost use Rattle.ill_normal.specs.Items.{report};
 ghost use Rattle.ill_normal.specs.Skipping.{SkipsToEnd, SkipsAndStops, reporting};
-ghost use Rattle.ill_normal.specs.code.SkippingEnds.{GoesOn, counts_of, error_at};
+ghost use Rattle.ill_normal.specs.code.SkippingEnds.{counts_of, error_at, why_of_end};
 
+use crate::input_end::{EndError, end_of_input};
 use crate::messages::{MAX_MESSAGES, MessagePlace, Render, Rendered};
 use crate::next_message::{NextMessage, take_message};
 use crate::report::{RefusalReport, ReportRefusals};
 use ber_core::{Lookahead, Sink, Source};
-use ill_schema::Refusal;
 use std::alloc::Global;
 
 /// Counts of an input that was read to its end.
@@ -132,7 +131,8 @@ pub fn for_each_accepted_message<M: Render, R: Source, L: Lookahead<R>, W: Sink,
             }
             NextMessage::Refused { refusal, end } => {
                 refused += 1;
-                reports.report(report(position, refusal, end), kept.as_slice());
+                let report = RefusalReport::new(position, refusal, end);
+                reports.report(report, kept.as_slice());
                 let Some(octets) = end else {
                     return Ok(counts_of(before + 1, refused, good, offset));
                 };
@@ -145,7 +145,14 @@ pub fn for_each_accepted_message<M: Render, R: Source, L: Lookahead<R>, W: Sink,
     drop(buffer);
     match end_of_input(source) {
         Ok(()) => Ok(counts_of(MAX_MESSAGES, refused, good, offset)),
-        Err(why) => Err(error_at(MAX_MESSAGES, refused, good, offset, written, why)),
+        Err(error) => Err(error_at(
+            MAX_MESSAGES,
+            refused,
+            good,
+            offset,
+            written,
+            why_of_end(error),
+        )),
     }
 }
 
@@ -184,31 +191,12 @@ fn error_at(
     }
 }
 
-/// The report of the message at a position, whose number of octets is known or not.
-#[inline(always)]
-fn report(position: MessagePlace, refusal: Refusal, octets: Option<u64>) -> RefusalReport
-    ensures { result ≡ report position refusal octets }
+/// The reason why the work stops where an input goes on.
+fn why_of_end(error: EndError) -> SkippingErrorKind
+    ensures { result ≡ why_of_end error }
 {
-    RefusalReport {
-        message: position.number,
-        offset: position.offset,
-        refusal,
-        octets,
-    }
-}
-
-/// One octet more is one too many, whatever it begins.
-fn end_of_input<R: Source>(source: &mut R) -> Result<(), SkippingErrorKind>
-    ensures end { OnOk result (Consumes (R.left source.old) (R.left source.new) []
-        × IsAtEnd (R.left source.new)) }
-    ensures more { IfErr result (GoesOn (R.left source.old) (R.left source.new)
-        (R.is_broken source.new)) }
-    ensures stays { IsTrue (R.is_broken source.old) → IsTrue (R.is_broken source.new) }
-{
-    let mut buffer = [0];
-    match source.take(&mut buffer) {
-        Ok(0) => Ok(()),
-        Ok(_) => Err(SkippingErrorKind::TooMany),
-        Err(_) => Err(SkippingErrorKind::ReadFault),
+    match error {
+        EndError::MoreOctets => SkippingErrorKind::TooMany,
+        EndError::Broken => SkippingErrorKind::ReadFault,
     }
 }

@@ -5,185 +5,185 @@
 macro_rules! module_table {
     (Encoding, $made:ident) => {
         $made![Encoding, Context:
-            (Must, 0, Explicit, Any),
-            (Must, 1, Implicit, OctetString),
-            (Must, 2, Implicit, BitString)
+            ("single-asn1-type", Must, 0, Explicit, Any),
+            ("octet-aligned", Must, 1, Implicit, OctetString),
+            ("arbitrary", Must, 2, Implicit, BitString)
         ]
     };
     (External, $made:ident) => {
         $made![External, Context:
-            (May, untagged, ObjectIdentifier),
-            (May, untagged, Integer),
-            (May, untagged, ObjectDescriptor),
-            (Must, untagged, Encoding)
+            ("direct-reference", May, untagged, ObjectIdentifier),
+            ("indirect-reference", May, untagged, Integer),
+            ("data-value-descriptor", May, untagged, ObjectDescriptor),
+            ("encoding", Must, untagged, Encoding)
         ]
     };
     (TaggedExternal, $made:ident) => {
-        $made![TaggedExternal, Universal: (Must, 8, Implicit, External)]
+        $made![TaggedExternal, Universal: ("", Must, 8, Implicit, External)]
     };
     (Externals, $made:ident) => {
-        $made![Externals, Context: (Must, untagged, TaggedExternal)]
+        $made![Externals, Context: ("item", Must, untagged, TaggedExternal)]
     };
     (Extension, $made:ident) => {
         $made![Extension, Context:
-            (Must, 0, Implicit, Integer),
-            (Default(0), 1, Implicit, Boolean),
-            (Must, 2, Explicit, Any)
+            ("identifier", Must, 0, Implicit, Integer),
+            ("critical", Default(0), 1, Implicit, Boolean),
+            ("item", Must, 2, Explicit, Any)
         ]
     };
     (Extensions, $made:ident) => {
-        $made![Extensions, Context: (Must, untagged, Extension)]
+        $made![Extensions, Context: ("item", Must, untagged, Extension)]
     };
     (EDeliveryService, $made:ident) => {
         $made![EDeliveryService, Context:
-            (Must, 0, Implicit, ObjectIdentifier),
-            (Must, 1, Explicit, Any)
+            ("e-delivery-mode", Must, 0, Implicit, ObjectIdentifier),
+            ("e-delivery-parameters", Must, 1, Explicit, Any)
         ]
     };
     (DocumentType, $made:ident) => {
         $made![DocumentType, Context:
-            (Must, 2, Implicit, ObjectIdentifier),
-            (Must, 3, Explicit, Any)
+            ("document-type-id", Must, 2, Implicit, ObjectIdentifier),
+            ("document-type-parameters", Must, 3, Explicit, Any)
         ]
     };
     (EDeliveryDetails, $made:ident) => {
         $made![EDeliveryDetails, Context:
-            (Must, 0, Implicit, SystemAddress),
-            (Must, 1, Implicit, SystemId)
+            ("e-delivery-address", Must, 0, Implicit, SystemAddress),
+            ("e-delivery-id", Must, 1, Implicit, SystemId)
         ]
     };
     (ElectronicDelivery, $made:ident) => {
         $made![ElectronicDelivery, Context:
-            (May, 0, Implicit, EDeliveryService),
-            (May, 1, Implicit, DocumentType),
-            (May, 4, Explicit, IllString),
-            (Must, 5, Explicit, EDeliveryDetails),
-            (May, 6, Explicit, IllString),
-            (May, 7, Implicit, IsoTime)
+            ("e-delivery-service", May, 0, Implicit, EDeliveryService),
+            ("document-type", May, 1, Implicit, DocumentType),
+            ("e-delivery-description", May, 4, Explicit, IllString),
+            ("e-delivery-details", Must, 5, Explicit, EDeliveryDetails),
+            ("name-or-code", May, 6, Explicit, IllString),
+            ("delivery-time", May, 7, Implicit, IsoTime)
         ]
     };
     (ElectronicDeliveries, $made:ident) => {
-        $made![ElectronicDeliveries, Context: (Must, untagged, ElectronicDelivery)]
+        $made![ElectronicDeliveries, Context: ("item", Must, untagged, ElectronicDelivery)]
     };
     (SpecificUnits, $made:ident) => {
-        $made![SpecificUnits, Context: (Must, untagged, Integer)]
+        $made![SpecificUnits, Context: ("item", Must, untagged, Integer)]
     };
     (DamagedPortion, $made:ident) => {
         $made![DamagedPortion, Context:
-            (Must, 1, Implicit, Null),
-            (Must, 2, Implicit, SpecificUnits)
+            ("complete-document", Must, 1, Implicit, Null),
+            ("specific-units", Must, 2, Implicit, SpecificUnits)
         ]
     };
     (DamagedDetails, $made:ident) => {
         $made![DamagedDetails, Context:
-            (May, 0, Implicit, ObjectIdentifier),
-            (Must, untagged, DamagedPortion)
+            ("document-type-id", May, 0, Implicit, ObjectIdentifier),
+            ("damaged-portion", Must, untagged, DamagedPortion)
         ]
     };
     (HistoryReport, $made:ident) => {
         $made![HistoryReport, Context:
-            (May, 0, Implicit, IsoDate),
-            (May, 1, Explicit, IllString),
-            (May, 2, Explicit, IllString),
-            (May, 3, Explicit, IllString),
-            (May, 4, Explicit, IllString),
-            (Must, 5, Implicit, IsoDate),
-            (Must, 6, Implicit, Enumerated),
-            (Must, 7, Implicit, IsoDate),
-            (Must, 8, Implicit, SystemId),
-            (May, 9, Implicit, Enumerated),
-            (May, 10, Implicit, Enumerated),
-            (May, 11, Explicit, IllString)
+            ("date-requested", May, 0, Implicit, IsoDate),
+            ("author", May, 1, Explicit, IllString),
+            ("title", May, 2, Explicit, IllString),
+            ("author-of-article", May, 3, Explicit, IllString),
+            ("title-of-article", May, 4, Explicit, IllString),
+            ("date-of-last-transition", Must, 5, Implicit, IsoDate),
+            ("most-recent-service", Must, 6, Implicit, Enumerated),
+            ("date-of-most-recent-service", Must, 7, Implicit, IsoDate),
+            ("initiator-of-most-recent-service", Must, 8, Implicit, SystemId),
+            ("shipped-service-type", May, 9, Implicit, Enumerated),
+            ("transaction-results", May, 10, Implicit, Enumerated),
+            ("most-recent-service-note", May, 11, Explicit, IllString)
         ]
     };
     (StatusReport, $made:ident) => {
         $made![StatusReport, Context:
-            (Must, 0, Implicit, HistoryReport),
-            (Must, 1, Implicit, Enumerated)
+            ("user-status-report", Must, 0, Implicit, HistoryReport),
+            ("provider-status-report", Must, 1, Implicit, Enumerated)
         ]
     };
     (AlreadyForwarded, $made:ident) => {
         $made![AlreadyForwarded, Context:
-            (Must, 0, Implicit, SystemId),
-            (May, 1, Implicit, SystemAddress)
+            ("responder-id", Must, 0, Implicit, SystemId),
+            ("responder-address", May, 1, Implicit, SystemAddress)
         ]
     };
     (UserErrorReport, $made:ident) => {
         $made![UserErrorReport, Context:
-            (Must, 0, Implicit, AlreadyForwarded),
-            (Must, 1, Implicit, Enumerated),
-            (Must, 2, Explicit, IllString),
-            (Must, 3, Implicit, Enumerated)
+            ("already-forwarded", Must, 0, Implicit, AlreadyForwarded),
+            ("intermediary-problem", Must, 1, Implicit, Enumerated),
+            ("security-problem", Must, 2, Explicit, IllString),
+            ("unable-to-perform", Must, 3, Implicit, Enumerated)
         ]
     };
     (StateTransition, $made:ident) => {
         $made![StateTransition, Context:
-            (Must, 0, Implicit, Enumerated),
-            (Must, 1, Implicit, Enumerated)
+            ("apdu-type", Must, 0, Implicit, Enumerated),
+            ("current-state", Must, 1, Implicit, Enumerated)
         ]
     };
     (ProviderErrorReport, $made:ident) => {
         $made![ProviderErrorReport, Context:
-            (Must, 0, Implicit, Enumerated),
-            (Must, 1, Implicit, Enumerated),
-            (Must, 2, Implicit, StateTransition)
+            ("general-problem", Must, 0, Implicit, Enumerated),
+            ("transaction-id-problem", Must, 1, Implicit, Enumerated),
+            ("state-transition-prohibited", Must, 2, Implicit, StateTransition)
         ]
     };
     (ErrorReport, $made:ident) => {
         $made![ErrorReport, Context:
-            (Must, 0, Explicit, IllString),
-            (Must, 1, Implicit, Enumerated),
-            (May, 2, Explicit, UserErrorReport),
-            (May, 3, Explicit, ProviderErrorReport)
+            ("correlation-information", Must, 0, Explicit, IllString),
+            ("report-source", Must, 1, Implicit, Enumerated),
+            ("user-error-report", May, 2, Explicit, UserErrorReport),
+            ("provider-error-report", May, 3, Explicit, ProviderErrorReport)
         ]
     };
     (ForwardNotification, $made:ident) => {
         $made![ForwardNotification, Context:
-            (Must, 0, Implicit, Integer),
-            (Must, 1, Implicit, TransactionId),
-            (Must, 2, Implicit, ServiceDateTime),
-            (May, 3, Implicit, SystemId),
-            (Must, 4, Implicit, SystemId),
-            (May, 24, Implicit, SystemAddress),
-            (Must, 25, Implicit, SystemId),
-            (May, 48, Explicit, IllString),
-            (May, 49, Implicit, Extensions)
+            ("protocol-version-num", Must, 0, Implicit, Integer),
+            ("transaction-id", Must, 1, Implicit, TransactionId),
+            ("service-date-time", Must, 2, Implicit, ServiceDateTime),
+            ("requester-id", May, 3, Implicit, SystemId),
+            ("responder-id", Must, 4, Implicit, SystemId),
+            ("responder-address", May, 24, Implicit, SystemAddress),
+            ("intermediary-id", Must, 25, Implicit, SystemId),
+            ("notification-note", May, 48, Explicit, IllString),
+            ("forward-notification-extensions", May, 49, Implicit, Extensions)
         ]
     };
     (StatusOrErrorReport, $made:ident) => {
         $crate::headed![StatusOrErrorReport, $made:
-            (May, 43, Implicit, Enumerated),
-            (May, 44, Implicit, StatusReport),
-            (May, 45, Implicit, ErrorReport),
-            (May, 46, Explicit, IllString),
-            (May, 49, Implicit, Extensions)
+            ("reason-no-report", May, 43, Implicit, Enumerated),
+            ("status-report", May, 44, Implicit, StatusReport),
+            ("error-report", May, 45, Implicit, ErrorReport),
+            ("note", May, 46, Explicit, IllString),
+            ("status-or-error-report-extensions", May, 49, Implicit, Extensions)
         ]
     };
     (ModuleDeliveryService, $made:ident) => {
         $made![ModuleDeliveryService, Context:
-            (Must, 7, Explicit, IllString),
-            (Must, 50, Implicit, ElectronicDeliveries)
+            ("physical-delivery", Must, 7, Explicit, IllString),
+            ("electronic-delivery", Must, 50, Implicit, ElectronicDeliveries)
         ]
     };
     (ModuleShippedVia, $made:ident) => {
         $made![ModuleShippedVia, Context:
-            (Must, 5, Explicit, IllString),
-            (Must, 50, Implicit, ElectronicDelivery)
+            ("physical-delivery", Must, 5, Explicit, IllString),
+            ("electronic-delivery", Must, 50, Implicit, ElectronicDelivery)
         ]
     };
     (ModuleItemId, $made:ident) => {
         $crate::table!(@ItemId ModuleItemId, $made,
-            (May, 17, Explicit, TaggedExternal),
-            (May, 20, Explicit, TaggedExternal))
+            ("national-bibliography-no", May, 17, Explicit, TaggedExternal),
+            ("system-no", May, 20, Explicit, TaggedExternal))
     };
     (ModuleUnitsPerMedium, $made:ident) => {
         $made![ModuleUnitsPerMedium, Context:
-            (Must, 0, Explicit, Enumerated),
-            (Must, 1, Explicit, Integer)
+            ("medium", Must, 0, Explicit, Enumerated),
+            ("no-of-units", Must, 1, Explicit, Integer)
         ]
     };
     (ModuleUnitsPerMediumList, $made:ident) => {
-        $made![ModuleUnitsPerMediumList, Context: (Must, untagged, ModuleUnitsPerMedium)]
+        $made![ModuleUnitsPerMediumList, Context: ("item", Must, untagged, ModuleUnitsPerMedium)]
     };
     (ModuleSupplyDetails, $made:ident) => {
         $crate::table!(@SupplyDetails ModuleSupplyDetails, $made,
@@ -193,32 +193,32 @@ macro_rules! module_table {
     (ModuleIllRequest, $made:ident) => {
         $crate::table!(@IllRequest ModuleIllRequest, $made,
             ModuleDeliveryService,
-            (May, 10, Explicit, TaggedExternal),
+            ("responder-specific-service", May, 10, Explicit, TaggedExternal),
             ModuleItemId,
-            (May, 17, Implicit, Externals),
-            (May, 49, Implicit, Extensions))
+            ("supplemental-item-description", May, 17, Implicit, Externals),
+            ("ill-request-extensions", May, 49, Implicit, Extensions))
     };
     (ModuleShipped, $made:ident) => {
         $crate::table!(@Shipped ModuleShipped, $made,
-            (May, 17, Implicit, Externals),
+            ("supplemental-item-description", May, 17, Implicit, Externals),
             ModuleSupplyDetails,
-            (May, 49, Implicit, Extensions))
+            ("shipped-extensions", May, 49, Implicit, Extensions))
     };
     (ModuleConditional, $made:ident) => {
         $made![ModuleConditional, Context:
-            (Must, 0, Implicit, Enumerated),
-            (May, 1, Implicit, IsoDate),
-            (May, 2, Implicit, Locs),
-            (May, untagged, ModuleDeliveryService)
+            ("conditions", Must, 0, Implicit, Enumerated),
+            ("date-for-reply", May, 1, Implicit, IsoDate),
+            ("location-list", May, 2, Implicit, Locs),
+            ("proposed-delivery-service", May, untagged, ModuleDeliveryService)
         ]
     };
     (ModuleWillSupply, $made:ident) => {
         $made![ModuleWillSupply, Context:
-            (Must, 0, Explicit, Enumerated),
-            (May, 1, Explicit, IsoDate),
-            (May, 2, Explicit, PostalAddress),
-            (May, 3, Implicit, Locs),
-            (May, 4, Explicit, ElectronicDelivery)
+            ("reason-will-supply", Must, 0, Explicit, Enumerated),
+            ("supply-date", May, 1, Explicit, IsoDate),
+            ("return-to-address", May, 2, Explicit, PostalAddress),
+            ("location-list", May, 3, Implicit, Locs),
+            ("electronic-delivery-service", May, 4, Explicit, ElectronicDelivery)
         ]
     };
     (ModuleResults, $made:ident) => {
@@ -227,135 +227,135 @@ macro_rules! module_table {
     (ModuleIllAnswer, $made:ident) => {
         $crate::table!(@IllAnswer ModuleIllAnswer, $made,
             ModuleResults,
-            (May, 33, Explicit, TaggedExternal),
-            (May, 17, Implicit, Externals),
-            (May, 49, Implicit, Extensions))
+            ("responder-specific-results", May, 33, Explicit, TaggedExternal),
+            ("supplemental-item-description", May, 17, Implicit, Externals),
+            ("ill-answer-extensions", May, 49, Implicit, Extensions))
     };
     (ModuleConditionalReply, $made:ident) => {
         $crate::headed![ModuleConditionalReply, $made:
-            (Must, 35, Implicit, Boolean),
-            (May, 46, Explicit, IllString),
-            (May, 49, Implicit, Extensions)
+            ("answer", Must, 35, Implicit, Boolean),
+            ("requester-note", May, 46, Explicit, IllString),
+            ("conditional-reply-extensions", May, 49, Implicit, Extensions)
         ]
     };
     (ModuleCancel, $made:ident) => {
         $crate::headed![ModuleCancel, $made:
-            (May, 46, Explicit, IllString),
-            (May, 49, Implicit, Extensions)
+            ("requester-note", May, 46, Explicit, IllString),
+            ("cancel-extensions", May, 49, Implicit, Extensions)
         ]
     };
     (ModuleCancelReply, $made:ident) => {
         $crate::headed![ModuleCancelReply, $made:
-            (Must, 35, Implicit, Boolean),
-            (May, 46, Explicit, IllString),
-            (May, 49, Implicit, Extensions)
+            ("answer", Must, 35, Implicit, Boolean),
+            ("responder-note", May, 46, Explicit, IllString),
+            ("cancel-reply-extensions", May, 49, Implicit, Extensions)
         ]
     };
     (ModuleReceived, $made:ident) => {
         $crate::headed![ModuleReceived, $made:
-            (May, 26, Implicit, SystemId),
-            (May, 17, Implicit, Externals),
-            (Must, 36, Implicit, IsoDate),
-            (Must, 27, Implicit, Enumerated),
-            (May, 46, Explicit, IllString),
-            (May, 49, Implicit, Extensions)
+            ("supplier-id", May, 26, Implicit, SystemId),
+            ("supplemental-item-description", May, 17, Implicit, Externals),
+            ("date-received", Must, 36, Implicit, IsoDate),
+            ("shipped-service-type", Must, 27, Implicit, Enumerated),
+            ("requester-note", May, 46, Explicit, IllString),
+            ("received-extensions", May, 49, Implicit, Extensions)
         ]
     };
     (ModuleRecall, $made:ident) => {
         $crate::headed![ModuleRecall, $made:
-            (May, 46, Explicit, IllString),
-            (May, 49, Implicit, Extensions)
+            ("responder-note", May, 46, Explicit, IllString),
+            ("recall-extensions", May, 49, Implicit, Extensions)
         ]
     };
     (ModuleReturned, $made:ident) => {
         $crate::headed![ModuleReturned, $made:
-            (May, 17, Implicit, Externals),
-            (Must, 37, Implicit, IsoDate),
-            (May, 38, Explicit, IllString),
-            (May, 39, Implicit, Amount),
-            (May, 46, Explicit, IllString),
-            (May, 49, Implicit, Extensions)
+            ("supplemental-item-description", May, 17, Implicit, Externals),
+            ("date-returned", Must, 37, Implicit, IsoDate),
+            ("returned-via", May, 38, Explicit, IllString),
+            ("insured-for", May, 39, Implicit, Amount),
+            ("requester-note", May, 46, Explicit, IllString),
+            ("returned-extensions", May, 49, Implicit, Extensions)
         ]
     };
     (ModuleCheckedIn, $made:ident) => {
         $crate::headed![ModuleCheckedIn, $made:
-            (Must, 40, Implicit, IsoDate),
-            (May, 46, Explicit, IllString),
-            (May, 49, Implicit, Extensions)
+            ("date-checked-in", Must, 40, Implicit, IsoDate),
+            ("responder-note", May, 46, Explicit, IllString),
+            ("checked-in-extensions", May, 49, Implicit, Extensions)
         ]
     };
     (ModuleOverdue, $made:ident) => {
         $crate::headed![ModuleOverdue, $made:
-            (Must, 41, Implicit, DateDue),
-            (May, 46, Explicit, IllString),
-            (May, 49, Explicit, Extensions)
+            ("date-due", Must, 41, Implicit, DateDue),
+            ("responder-note", May, 46, Explicit, IllString),
+            ("overdue-extensions", May, 49, Explicit, Extensions)
         ]
     };
     (ModuleRenew, $made:ident) => {
         $crate::headed![ModuleRenew, $made:
-            (May, 42, Implicit, IsoDate),
-            (May, 46, Explicit, IllString),
-            (May, 49, Implicit, Extensions)
+            ("desired-due-date", May, 42, Implicit, IsoDate),
+            ("requester-note", May, 46, Explicit, IllString),
+            ("renew-extensions", May, 49, Implicit, Extensions)
         ]
     };
     (ModuleRenewAnswer, $made:ident) => {
         $crate::headed![ModuleRenewAnswer, $made:
-            (Must, 35, Implicit, Boolean),
-            (May, 41, Implicit, DateDue),
-            (May, 46, Explicit, IllString),
-            (May, 49, Implicit, Extensions)
+            ("answer", Must, 35, Implicit, Boolean),
+            ("date-due", May, 41, Implicit, DateDue),
+            ("responder-note", May, 46, Explicit, IllString),
+            ("renew-answer-extensions", May, 49, Implicit, Extensions)
         ]
     };
     (ModuleLost, $made:ident) => {
         $crate::headed![ModuleLost, $made:
-            (May, 46, Explicit, IllString),
-            (May, 49, Implicit, Extensions)
+            ("note", May, 46, Explicit, IllString),
+            ("lost-extensions", May, 49, Implicit, Extensions)
         ]
     };
     (ModuleDamaged, $made:ident) => {
         $crate::headed![ModuleDamaged, $made:
-            (May, 5, Implicit, DamagedDetails),
-            (May, 46, Explicit, IllString),
-            (May, 49, Implicit, Extensions)
+            ("damaged-details", May, 5, Implicit, DamagedDetails),
+            ("note", May, 46, Explicit, IllString),
+            ("damaged-extensions", May, 49, Implicit, Extensions)
         ]
     };
     (ModuleMessageApdu, $made:ident) => {
         $crate::headed![ModuleMessageApdu, $made:
-            (Must, 46, Explicit, IllString),
-            (May, 49, Implicit, Extensions)
+            ("note", Must, 46, Explicit, IllString),
+            ("message-extensions", May, 49, Implicit, Extensions)
         ]
     };
     (ModuleStatusQuery, $made:ident) => {
         $crate::headed![ModuleStatusQuery, $made:
-            (May, 46, Explicit, IllString),
-            (May, 49, Implicit, Extensions)
+            ("note", May, 46, Explicit, IllString),
+            ("status-query-extensions", May, 49, Implicit, Extensions)
         ]
     };
     (ModuleExpired, $made:ident) => {
-        $crate::headed![ModuleExpired, $made: (May, 49, Implicit, Extensions)]
+        $crate::headed![ModuleExpired, $made: ("expired-extensions", May, 49, Implicit, Extensions)]
     };
     (ModuleIllApdu, $made:ident) => {
         $made![ModuleIllApdu, Application:
-            (Must, 1, ExplicitOrBare, ModuleIllRequest),
-            (Must, 2, ExplicitOrBare, ForwardNotification),
-            (Must, 3, ExplicitOrBare, ModuleShipped),
-            (Must, 4, ExplicitOrBare, ModuleIllAnswer),
-            (Must, 5, ExplicitOrBare, ModuleConditionalReply),
-            (Must, 6, ExplicitOrBare, ModuleCancel),
-            (Must, 7, ExplicitOrBare, ModuleCancelReply),
-            (Must, 8, ExplicitOrBare, ModuleReceived),
-            (Must, 9, ExplicitOrBare, ModuleRecall),
-            (Must, 10, ExplicitOrBare, ModuleReturned),
-            (Must, 11, ExplicitOrBare, ModuleCheckedIn),
-            (Must, 12, ExplicitOrBare, ModuleOverdue),
-            (Must, 13, ExplicitOrBare, ModuleRenew),
-            (Must, 14, ExplicitOrBare, ModuleRenewAnswer),
-            (Must, 15, ExplicitOrBare, ModuleLost),
-            (Must, 16, ExplicitOrBare, ModuleDamaged),
-            (Must, 17, ExplicitOrBare, ModuleMessageApdu),
-            (Must, 18, ExplicitOrBare, ModuleStatusQuery),
-            (Must, 19, ExplicitOrBare, StatusOrErrorReport),
-            (Must, 20, ExplicitOrBare, ModuleExpired)
+            ("ILL-Request", Must, 1, ExplicitOrBare, ModuleIllRequest),
+            ("Forward-Notification", Must, 2, ExplicitOrBare, ForwardNotification),
+            ("Shipped", Must, 3, ExplicitOrBare, ModuleShipped),
+            ("ILL-Answer", Must, 4, ExplicitOrBare, ModuleIllAnswer),
+            ("Conditional-Reply", Must, 5, ExplicitOrBare, ModuleConditionalReply),
+            ("Cancel", Must, 6, ExplicitOrBare, ModuleCancel),
+            ("Cancel-Reply", Must, 7, ExplicitOrBare, ModuleCancelReply),
+            ("Received", Must, 8, ExplicitOrBare, ModuleReceived),
+            ("Recall", Must, 9, ExplicitOrBare, ModuleRecall),
+            ("Returned", Must, 10, ExplicitOrBare, ModuleReturned),
+            ("Checked-In", Must, 11, ExplicitOrBare, ModuleCheckedIn),
+            ("Overdue", Must, 12, ExplicitOrBare, ModuleOverdue),
+            ("Renew", Must, 13, ExplicitOrBare, ModuleRenew),
+            ("Renew-Answer", Must, 14, ExplicitOrBare, ModuleRenewAnswer),
+            ("Lost", Must, 15, ExplicitOrBare, ModuleLost),
+            ("Damaged", Must, 16, ExplicitOrBare, ModuleDamaged),
+            ("Message", Must, 17, ExplicitOrBare, ModuleMessageApdu),
+            ("Status-Query", Must, 18, ExplicitOrBare, ModuleStatusQuery),
+            ("Status-Or-Error-Report", Must, 19, ExplicitOrBare, StatusOrErrorReport),
+            ("Expired", Must, 20, ExplicitOrBare, ModuleExpired)
         ]
     };
 }

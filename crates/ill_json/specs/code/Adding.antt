@@ -1,6 +1,6 @@
 -- Tokens that are put one after another.
-use Rattle.std.specs.Prelude.{◌≡◌, ℕ, false, List, [], ◌∷◌, ◌++◌, Option, Some, None, option_map, codes, decimal}
-use Rattle.json.specs.Token.{Token, key, string, number, boolean}
+use Rattle.std.specs.Prelude.{◌≡◌, ℕ, false, List, [], ◌∷◌, ◌++◌, map, Option, Some, None, option_map, codes, decimal, string_bytes}
+use Rattle.json.specs.Token.{Token, begin_array, end_array, key, string, number, boolean}
 use Rattle.json.specs.Tree.{json_tokens}
 use Rattle.ill_schema.specs.Content.{Content}
 use Rattle.ill_schema.specs.declared.node.NodeId.{NodeId}
@@ -8,6 +8,7 @@ use Rattle.ill_schema.specs.Names.{row_name, row_node}
 use Rattle.ill_schema.specs.Texts.{hexadecimal}
 use Rattle.ill_json.specs.Json.{value_json}
 use Rattle.ill_json.specs.declared.line.LineHead.{LineHead}
+use Rattle.ill_json.specs.declared.place.RefusalPlace.{RefusalPlace}
 use Rattle.ill_json.specs.declared.writing.LineWriter.{LineWriter}
 
 -- these tokens were put, unless memory was refused
@@ -41,6 +42,21 @@ text_tokens name (Some text) = key name ∷ string text ∷ []
 abbrev pub count_tokens : List ℕ → Option ℕ → List Token
 count_tokens name None = []
 count_tokens name (Some n) = key name ∷ number (decimal n) ∷ []
+
+-- the member that has words, and one that has texts; unless there are none
+abbrev pub words_tokens : List ℕ → List ℕ → List Token
+words_tokens name [] = []
+words_tokens name (octet ∷ words) = key name ∷ string (octet ∷ words) ∷ []
+
+abbrev pub list_tokens : List ℕ → List (List ℕ) → List Token
+list_tokens name [] = []
+list_tokens name (text ∷ texts) = key name ∷ begin_array ∷ (map string (text ∷ texts) ++ end_array ∷ [])
+
+-- the members of a place
+abbrev pub place_tokens : RefusalPlace → List Token
+place_tokens place =
+    words_tokens (codes "path") (string_bytes place.path) ++ (words_tokens (codes "found") (string_bytes place.found)
+    ++ list_tokens (codes "due") (map string_bytes place.due.items))
 
 -- the member of a digest
 abbrev pub digest_tokens : Option (List ℕ) → List Token

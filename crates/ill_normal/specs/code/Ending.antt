@@ -1,19 +1,18 @@
 -- How the messages of an input end.
-use Rattle.std.specs.Prelude.{ℕ, Bool, List, [], ◌∷◌, Option, IsTrue, nat_eq}
-use Rattle.std.specs.Io.KnownBytes.{Consumes, Keeps}
+use Rattle.std.specs.Prelude.{ℕ, nat_eq}
 use Rattle.ill_read.specs.declared.failure.ReadFailure.{ReadFailure}
 use Rattle.ill_normal.specs.declared.failure.NormalFailure.{NormalFailure}
 use Rattle.ill_normal.specs.declared.failure.StreamCause.{StreamCause}
+use Rattle.ill_normal.specs.declared.input_end.EndError.{EndError}
 use Rattle.ill_normal.specs.declared.messages.StreamCounts.{StreamCounts}
 use Rattle.ill_normal.specs.declared.messages.StreamError.{StreamError}
 use Rattle.ill_normal.specs.declared.messages.StreamErrorKind.{StreamErrorKind}
 use Rattle.ill_normal.specs.Failures.{of_read}
 
--- an octet more was taken, or the source broke and none was
-abbrev pub GoesOn : Option (List ℕ) → Option (List ℕ) → Bool → StreamErrorKind → Type 0
-GoesOn left left' broken StreamErrorKind.TooMany = (octet : ℕ) × Consumes left left' (octet ∷ [])
-GoesOn left left' broken (StreamErrorKind.Read ReadFailure.ReadFault) = IsTrue broken × Keeps left left'
-GoesOn left left' broken _ = ⊥
+-- why no further message is written where an input goes on
+abbrev pub why_of_end : EndError → StreamErrorKind
+why_of_end EndError.MoreOctets = StreamErrorKind.TooMany
+why_of_end EndError.Broken = StreamErrorKind.Read ReadFailure.ReadFault
 
 -- what a stream says of it
 abbrev pub stream_cause : StreamErrorKind → StreamCause

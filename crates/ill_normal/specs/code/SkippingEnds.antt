@@ -1,16 +1,10 @@
 -- How the work stops.
-use Rattle.std.specs.Prelude.{ℕ, ◌+◌, nat_eq, Bool, List, [], ◌∷◌, Option, IsTrue}
-use Rattle.std.specs.Io.KnownBytes.{Consumes, Keeps}
+use Rattle.std.specs.Prelude.{ℕ, ◌+◌, nat_eq}
+use Rattle.ill_normal.specs.declared.input_end.EndError.{EndError}
 use Rattle.ill_normal.specs.declared.skipping.SkippingCounts.{SkippingCounts}
 use Rattle.ill_normal.specs.declared.skipping.SkippingError.{SkippingError}
 use Rattle.ill_normal.specs.declared.skipping.SkippingErrorKind.{SkippingErrorKind}
 use Rattle.ill_normal.specs.declared.next_message.TakeError.{TakeError}
-
--- an octet more was taken, or the source broke and none was
-abbrev pub GoesOn : Option (List ℕ) → Option (List ℕ) → Bool → SkippingErrorKind → Type 0
-GoesOn left left' broken SkippingErrorKind.TooMany = (octet : ℕ) × Consumes left left' (octet ∷ [])
-GoesOn left left' broken SkippingErrorKind.ReadFault = IsTrue broken × Keeps left left'
-GoesOn left left' broken _ = ⊥
 
 -- messages that were gone through to their end
 abbrev pub counts_of : ℕ → ℕ → ℕ → ℕ → SkippingCounts
@@ -25,3 +19,7 @@ error_at messages refused good octets written why =
 abbrev pub why_of : TakeError → SkippingErrorKind
 why_of TakeError.OutOfMemory = SkippingErrorKind.OutOfMemory
 why_of TakeError.Broken = SkippingErrorKind.ReadFault
+
+abbrev pub why_of_end : EndError → SkippingErrorKind
+why_of_end EndError.MoreOctets = SkippingErrorKind.TooMany
+why_of_end EndError.Broken = SkippingErrorKind.ReadFault

@@ -155,7 +155,7 @@ static ROWS: [Row; 23] = [
         words: "dump --keep-going first",
         status: 1,
         output: Begins(
-            b"message 1: refused\n      0  74 00  Expired\nrefused at 2: Missing Expired.protocol-version-num\n",
+            b"message 1: refused\n      0  74 00  Expired  (without inner SEQUENCE)\nrefused at 2: Missing Expired.protocol-version-num\n",
         ),
         errors: "illcanon: refused at 2 in message 1: Missing Expired.protocol-version-num\n",
         ..QUIET

@@ -38,7 +38,7 @@ static ROWS: [Row; 18] = [
         words: "check --json middle",
         status: 1,
         output: Text(
-            b"{\"number\":1,\"offset\":0,\"octets\":33,\"apdu\":\"Expired\",\"normal\":true}\n{\"number\":2,\"offset\":33,\"octets\":2,\"apdu\":\"Expired\",\"refused\":{\"cause\":\"Missing\",\"offset\":2,\"kind\":\"invalid\",\"part\":\"Expired.protocol-version-num\"}}\n",
+            b"{\"number\":1,\"offset\":0,\"octets\":33,\"apdu\":\"Expired\",\"normal\":true}\n{\"number\":2,\"offset\":33,\"octets\":2,\"apdu\":\"Expired\",\"refused\":{\"cause\":\"Missing\",\"offset\":2,\"kind\":\"invalid\",\"part\":\"Expired.protocol-version-num\",\"path\":\"Expired\",\"found\":\"the end of the element\",\"due\":[\"[UNIVERSAL 16] SEQUENCE\",\"[0] protocol-version-num\"]}}\n",
         ),
         ..QUIET
     },
@@ -46,7 +46,7 @@ static ROWS: [Row; 18] = [
         words: "check --json --keep-going middle",
         status: 1,
         output: Text(
-            b"{\"number\":1,\"offset\":0,\"octets\":33,\"apdu\":\"Expired\",\"normal\":true}\n{\"number\":2,\"offset\":33,\"octets\":2,\"apdu\":\"Expired\",\"refused\":{\"cause\":\"Missing\",\"offset\":2,\"kind\":\"invalid\",\"part\":\"Expired.protocol-version-num\"}}\n{\"number\":3,\"offset\":35,\"octets\":33,\"apdu\":\"Expired\",\"normal\":true}\n",
+            b"{\"number\":1,\"offset\":0,\"octets\":33,\"apdu\":\"Expired\",\"normal\":true}\n{\"number\":2,\"offset\":33,\"octets\":2,\"apdu\":\"Expired\",\"refused\":{\"cause\":\"Missing\",\"offset\":2,\"kind\":\"invalid\",\"part\":\"Expired.protocol-version-num\",\"path\":\"Expired\",\"found\":\"the end of the element\",\"due\":[\"[UNIVERSAL 16] SEQUENCE\",\"[0] protocol-version-num\"]}}\n{\"number\":3,\"offset\":35,\"octets\":33,\"apdu\":\"Expired\",\"normal\":true}\n",
         ),
         ..QUIET
     },
@@ -54,7 +54,7 @@ static ROWS: [Row; 18] = [
         words: "check --keep-going --json endless",
         status: 1,
         output: Text(
-            b"{\"number\":1,\"offset\":0,\"octets\":33,\"apdu\":\"Expired\",\"normal\":true}\n{\"number\":2,\"offset\":33,\"apdu\":\"Expired\",\"refused\":{\"cause\":\"Missing\",\"offset\":7,\"kind\":\"invalid\",\"part\":\"Expired.transaction-id\"}}\n",
+            b"{\"number\":1,\"offset\":0,\"octets\":33,\"apdu\":\"Expired\",\"normal\":true}\n{\"number\":2,\"offset\":33,\"apdu\":\"Expired\",\"refused\":{\"cause\":\"Missing\",\"offset\":7,\"kind\":\"invalid\",\"part\":\"Expired.transaction-id\",\"path\":\"Expired\",\"found\":\"the end of the element\",\"due\":[\"[1] transaction-id\"]}}\n",
         ),
         ..QUIET
     },
@@ -62,7 +62,7 @@ static ROWS: [Row; 18] = [
         words: "check --json endless",
         status: 1,
         output: Text(
-            b"{\"number\":1,\"offset\":0,\"octets\":33,\"apdu\":\"Expired\",\"normal\":true}\n{\"number\":2,\"offset\":33,\"apdu\":\"Expired\",\"refused\":{\"cause\":\"Missing\",\"offset\":7,\"kind\":\"invalid\",\"part\":\"Expired.transaction-id\"}}\n",
+            b"{\"number\":1,\"offset\":0,\"octets\":33,\"apdu\":\"Expired\",\"normal\":true}\n{\"number\":2,\"offset\":33,\"apdu\":\"Expired\",\"refused\":{\"cause\":\"Missing\",\"offset\":7,\"kind\":\"invalid\",\"part\":\"Expired.transaction-id\",\"path\":\"Expired\",\"found\":\"the end of the element\",\"due\":[\"[1] transaction-id\"]}}\n",
         ),
         ..QUIET
     },
@@ -70,7 +70,7 @@ static ROWS: [Row; 18] = [
         words: "digest --json O middle A",
         status: 3,
         output: Text(
-            b"{\"file\":\"middle\",\"number\":1,\"offset\":0,\"octets\":33,\"apdu\":\"Expired\",\"normal\":true,\"digest\":\"41b0dca84b6db1db587880995cae8f2ae640c5af026d4d9745a5bc56ba11a782\"}\n{\"file\":\"middle\",\"number\":2,\"offset\":33,\"octets\":2,\"apdu\":\"Expired\",\"refused\":{\"cause\":\"Missing\",\"offset\":2,\"kind\":\"invalid\",\"part\":\"Expired.protocol-version-num\"}}\n{\"file\":\"A\",\"number\":1,\"offset\":0,\"octets\":33,\"apdu\":\"Expired\",\"normal\":true,\"digest\":\"41b0dca84b6db1db587880995cae8f2ae640c5af026d4d9745a5bc56ba11a782\"}\n",
+            b"{\"file\":\"middle\",\"number\":1,\"offset\":0,\"octets\":33,\"apdu\":\"Expired\",\"normal\":true,\"digest\":\"41b0dca84b6db1db587880995cae8f2ae640c5af026d4d9745a5bc56ba11a782\"}\n{\"file\":\"middle\",\"number\":2,\"offset\":33,\"octets\":2,\"apdu\":\"Expired\",\"refused\":{\"cause\":\"Missing\",\"offset\":2,\"kind\":\"invalid\",\"part\":\"Expired.protocol-version-num\",\"path\":\"Expired\",\"found\":\"the end of the element\",\"due\":[\"[UNIVERSAL 16] SEQUENCE\",\"[0] protocol-version-num\"]}}\n{\"file\":\"A\",\"number\":1,\"offset\":0,\"octets\":33,\"apdu\":\"Expired\",\"normal\":true,\"digest\":\"41b0dca84b6db1db587880995cae8f2ae640c5af026d4d9745a5bc56ba11a782\"}\n",
         ),
         errors: "illcanon: cannot open O: no such file\n",
         ..QUIET
@@ -79,7 +79,7 @@ static ROWS: [Row; 18] = [
         words: "check --json --summary E middle",
         status: 1,
         output: Text(
-            b"{\"file\":\"E\",\"number\":1,\"offset\":0,\"octets\":47,\"apdu\":\"Expired\",\"refused\":{\"cause\":\"LeftOut\",\"offset\":33,\"kind\":\"not read\",\"part\":\"Expired.expired-extensions\"}}\n{\"file\":\"middle\",\"number\":1,\"offset\":0,\"octets\":33,\"apdu\":\"Expired\",\"normal\":true}\n{\"file\":\"middle\",\"number\":2,\"offset\":33,\"octets\":2,\"apdu\":\"Expired\",\"refused\":{\"cause\":\"Missing\",\"offset\":2,\"kind\":\"invalid\",\"part\":\"Expired.protocol-version-num\"}}\n{\"summary\":{\"files\":2,\"messages\":3,\"normal\":1,\"not_normal\":0,\"refused\":2,\"not_read\":1,\"invalid\":1,\"octets\":82,\"not_opened\":0,\"left\":2}}\n",
+            b"{\"file\":\"E\",\"number\":1,\"offset\":0,\"octets\":47,\"apdu\":\"Expired\",\"refused\":{\"cause\":\"LeftOut\",\"offset\":33,\"kind\":\"not read\",\"part\":\"Expired.expired-extensions\",\"path\":\"Expired.expired-extensions\",\"found\":\"[49] constructed: bf 31\"}}\n{\"file\":\"middle\",\"number\":1,\"offset\":0,\"octets\":33,\"apdu\":\"Expired\",\"normal\":true}\n{\"file\":\"middle\",\"number\":2,\"offset\":33,\"octets\":2,\"apdu\":\"Expired\",\"refused\":{\"cause\":\"Missing\",\"offset\":2,\"kind\":\"invalid\",\"part\":\"Expired.protocol-version-num\",\"path\":\"Expired\",\"found\":\"the end of the element\",\"due\":[\"[UNIVERSAL 16] SEQUENCE\",\"[0] protocol-version-num\"]}}\n{\"summary\":{\"files\":2,\"messages\":3,\"normal\":1,\"not_normal\":0,\"refused\":2,\"not_read\":1,\"invalid\":1,\"octets\":82,\"not_opened\":0,\"left\":2}}\n",
         ),
         errors: "illcanon: E: left at message 1, which begins at octet 0\nillcanon: middle: left at message 2, which begins at octet 33\n",
         ..QUIET
@@ -88,7 +88,7 @@ static ROWS: [Row; 18] = [
         words: "check --json --summary --keep-going B first",
         status: 1,
         output: Text(
-            b"{\"file\":\"B\",\"number\":1,\"offset\":0,\"octets\":47,\"apdu\":\"Expired\",\"normal\":false}\n{\"file\":\"first\",\"number\":1,\"offset\":0,\"octets\":2,\"apdu\":\"Expired\",\"refused\":{\"cause\":\"Missing\",\"offset\":2,\"kind\":\"invalid\",\"part\":\"Expired.protocol-version-num\"}}\n{\"file\":\"first\",\"number\":2,\"offset\":2,\"octets\":33,\"apdu\":\"Expired\",\"normal\":true}\n{\"file\":\"first\",\"number\":3,\"offset\":35,\"octets\":47,\"apdu\":\"Expired\",\"normal\":false}\n{\"summary\":{\"files\":2,\"messages\":4,\"normal\":1,\"not_normal\":2,\"refused\":1,\"not_read\":0,\"invalid\":1,\"octets\":129,\"not_opened\":0,\"left\":0}}\n",
+            b"{\"file\":\"B\",\"number\":1,\"offset\":0,\"octets\":47,\"apdu\":\"Expired\",\"normal\":false}\n{\"file\":\"first\",\"number\":1,\"offset\":0,\"octets\":2,\"apdu\":\"Expired\",\"refused\":{\"cause\":\"Missing\",\"offset\":2,\"kind\":\"invalid\",\"part\":\"Expired.protocol-version-num\",\"path\":\"Expired\",\"found\":\"the end of the element\",\"due\":[\"[UNIVERSAL 16] SEQUENCE\",\"[0] protocol-version-num\"]}}\n{\"file\":\"first\",\"number\":2,\"offset\":2,\"octets\":33,\"apdu\":\"Expired\",\"normal\":true}\n{\"file\":\"first\",\"number\":3,\"offset\":35,\"octets\":47,\"apdu\":\"Expired\",\"normal\":false}\n{\"summary\":{\"files\":2,\"messages\":4,\"normal\":1,\"not_normal\":2,\"refused\":1,\"not_read\":0,\"invalid\":1,\"octets\":129,\"not_opened\":0,\"left\":0}}\n",
         ),
         ..QUIET
     },
@@ -110,7 +110,7 @@ static ROWS: [Row; 18] = [
         words: "check --json --hex hex",
         status: 1,
         output: Text(
-            b"{\"number\":1,\"offset\":0,\"octets\":33,\"apdu\":\"Expired\",\"normal\":true}\n{\"number\":2,\"offset\":33,\"octets\":2,\"apdu\":\"Expired\",\"refused\":{\"cause\":\"Missing\",\"offset\":2,\"kind\":\"invalid\",\"part\":\"Expired.protocol-version-num\"}}\n",
+            b"{\"number\":1,\"offset\":0,\"octets\":33,\"apdu\":\"Expired\",\"normal\":true}\n{\"number\":2,\"offset\":33,\"octets\":2,\"apdu\":\"Expired\",\"refused\":{\"cause\":\"Missing\",\"offset\":2,\"kind\":\"invalid\",\"part\":\"Expired.protocol-version-num\",\"path\":\"Expired\",\"found\":\"the end of the element\",\"due\":[\"[UNIVERSAL 16] SEQUENCE\",\"[0] protocol-version-num\"]}}\n",
         ),
         ..QUIET
     },
@@ -118,7 +118,7 @@ static ROWS: [Row; 18] = [
         words: "check --json --hex --keep-going hex",
         status: 1,
         output: Text(
-            b"{\"number\":1,\"offset\":0,\"octets\":33,\"apdu\":\"Expired\",\"normal\":true}\n{\"number\":2,\"offset\":33,\"octets\":2,\"apdu\":\"Expired\",\"refused\":{\"cause\":\"Missing\",\"offset\":2,\"kind\":\"invalid\",\"part\":\"Expired.protocol-version-num\"}}\n{\"number\":3,\"offset\":35,\"octets\":33,\"apdu\":\"Expired\",\"normal\":true}\n",
+            b"{\"number\":1,\"offset\":0,\"octets\":33,\"apdu\":\"Expired\",\"normal\":true}\n{\"number\":2,\"offset\":33,\"octets\":2,\"apdu\":\"Expired\",\"refused\":{\"cause\":\"Missing\",\"offset\":2,\"kind\":\"invalid\",\"part\":\"Expired.protocol-version-num\",\"path\":\"Expired\",\"found\":\"the end of the element\",\"due\":[\"[UNIVERSAL 16] SEQUENCE\",\"[0] protocol-version-num\"]}}\n{\"number\":3,\"offset\":35,\"octets\":33,\"apdu\":\"Expired\",\"normal\":true}\n",
         ),
         ..QUIET
     },

@@ -1,6 +1,6 @@
 //! Names of files as they are printed, and words that are long.
 use super::runs::run;
-use ill_files::Name;
+use ill_files::FileName;
 use std::alloc::{AllocError, Global};
 use std::test::Fail;
 use test_host::{NO_FAULTS, Start};
@@ -26,7 +26,7 @@ static NAMES: [(&[u8], &[u8]); 13] = [
 
 /// Tells whether a name is printed so.
 fn is_printed(alloc: Global, octets: &[u8], want: &[u8]) -> Result<bool, AllocError> {
-    let name = Name(octets.to_vec(alloc)?);
+    let name = FileName(octets.to_vec(alloc)?);
     let line = format!(in alloc; "{name}")?;
     Ok(line.as_bytes() == want)
 }

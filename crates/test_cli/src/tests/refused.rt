@@ -70,7 +70,7 @@ static ROWS: [Kept; 12] = [
             words: "check --json --keep-going --refused R E",
             status: 1,
             output: Text(
-                b"{\"number\":1,\"offset\":0,\"octets\":47,\"apdu\":\"Expired\",\"refused\":{\"cause\":\"LeftOut\",\"offset\":33,\"kind\":\"not read\",\"part\":\"Expired.expired-extensions\"}}\n",
+                b"{\"number\":1,\"offset\":0,\"octets\":47,\"apdu\":\"Expired\",\"refused\":{\"cause\":\"LeftOut\",\"offset\":33,\"kind\":\"not read\",\"part\":\"Expired.expired-extensions\",\"path\":\"Expired.expired-extensions\",\"found\":\"[49] constructed: bf 31\"}}\n",
             ),
             ..QUIET
         },

@@ -1,5 +1,6 @@
-//! Lines of `refused_json`, row by row.
+//! Lines of `refused_json` with the place in words, row by row.
 use ill_commands::{Job, JobOptions, RefusalReport, refused_json};
+use ill_dump::place_of_refusal;
 use ill_normal::{Failure, Refusal, decode_normal_as};
 use ill_schema::Profile;
 use std::alloc::Global;
@@ -8,14 +9,14 @@ use test_support::octets_of;
 
 /// The octets of a message that is refused, its profile, the name of its file, how many octets it has, where that is known, and the line of it
 /// as message 7 after 100 octets.
-const ROWS: [(&str, Profile, Option<&str>, Option<u64>, &str); 11] = [
+const ROWS: [(&str, Profile, Option<&str>, Option<u64>, &str); 12] = [
     // nothing in it
     (
         "7400",
         Profile::Two,
         None,
         Some(2),
-        "{\"number\":7,\"offset\":100,\"octets\":2,\"apdu\":\"Expired\",\"refused\":{\"cause\":\"Missing\",\"offset\":2,\"kind\":\"invalid\",\"part\":\"Expired.protocol-version-num\"}}\n",
+        "{\"number\":7,\"offset\":100,\"octets\":2,\"apdu\":\"Expired\",\"refused\":{\"cause\":\"Missing\",\"offset\":2,\"kind\":\"invalid\",\"part\":\"Expired.protocol-version-num\",\"path\":\"Expired\",\"found\":\"the end of the element\",\"due\":[\"[UNIVERSAL 16] SEQUENCE\",\"[0] protocol-version-num\"]}}\n",
     ),
     // an end that isn't known, and a name with a line end and a letter beyond ASCII
     (
@@ -23,7 +24,7 @@ const ROWS: [(&str, Profile, Option<&str>, Option<u64>, &str); 11] = [
         Profile::Two,
         Some("a\n\u{e9}"),
         None,
-        "{\"file\":\"a\\n\\u00e9\",\"number\":7,\"offset\":100,\"apdu\":\"Expired\",\"refused\":{\"cause\":\"Truncated\",\"offset\":2,\"kind\":\"invalid\"}}\n",
+        "{\"file\":\"a\\n\\u00e9\",\"number\":7,\"offset\":100,\"apdu\":\"Expired\",\"refused\":{\"cause\":\"Truncated\",\"offset\":2,\"kind\":\"invalid\",\"path\":\"Expired\",\"found\":\"the end of the input\"}}\n",
     ),
     // an extension, which the module has
     (
@@ -31,7 +32,7 @@ const ROWS: [(&str, Profile, Option<&str>, Option<u64>, &str); 11] = [
         Profile::Two,
         None,
         Some(47),
-        "{\"number\":7,\"offset\":100,\"octets\":47,\"apdu\":\"Expired\",\"refused\":{\"cause\":\"LeftOut\",\"offset\":33,\"kind\":\"not read\",\"part\":\"Expired.expired-extensions\"}}\n",
+        "{\"number\":7,\"offset\":100,\"octets\":47,\"apdu\":\"Expired\",\"refused\":{\"cause\":\"LeftOut\",\"offset\":33,\"kind\":\"not read\",\"part\":\"Expired.expired-extensions\",\"path\":\"Expired.expired-extensions\",\"found\":\"[49] constructed: bf 31\"}}\n",
     ),
     // the extension is primitive, which it isn't in the module
     (
@@ -39,7 +40,7 @@ const ROWS: [(&str, Profile, Option<&str>, Option<u64>, &str); 11] = [
         Profile::Two,
         None,
         Some(36),
-        "{\"number\":7,\"offset\":100,\"octets\":36,\"apdu\":\"Expired\",\"refused\":{\"cause\":\"LeftOut\",\"offset\":33,\"kind\":\"invalid\",\"part\":\"Expired.expired-extensions\"}}\n",
+        "{\"number\":7,\"offset\":100,\"octets\":36,\"apdu\":\"Expired\",\"refused\":{\"cause\":\"LeftOut\",\"offset\":33,\"kind\":\"invalid\",\"part\":\"Expired.expired-extensions\",\"path\":\"Expired.expired-extensions\",\"found\":\"[49] primitive: 9f 31\"}}\n",
     ),
     // an APDU that the module has, with nothing in it
     (
@@ -47,7 +48,7 @@ const ROWS: [(&str, Profile, Option<&str>, Option<u64>, &str); 11] = [
         Profile::Two,
         None,
         Some(2),
-        "{\"number\":7,\"offset\":100,\"octets\":2,\"apdu\":\"Forward-Notification\",\"refused\":{\"cause\":\"LeftOut\",\"offset\":0,\"kind\":\"not read\",\"part\":\"ILL-APDU.Forward-Notification\"}}\n",
+        "{\"number\":7,\"offset\":100,\"octets\":2,\"apdu\":\"Forward-Notification\",\"refused\":{\"cause\":\"LeftOut\",\"offset\":0,\"kind\":\"not read\",\"part\":\"ILL-APDU.Forward-Notification\",\"path\":\"Forward-Notification\",\"found\":\"[APPLICATION 2] constructed: 62\"}}\n",
     ),
     // the same in the module profile
     (
@@ -55,7 +56,7 @@ const ROWS: [(&str, Profile, Option<&str>, Option<u64>, &str); 11] = [
         Profile::Module,
         None,
         Some(2),
-        "{\"number\":7,\"offset\":100,\"octets\":2,\"apdu\":\"Forward-Notification\",\"refused\":{\"cause\":\"Missing\",\"offset\":2,\"kind\":\"invalid\",\"part\":\"Forward-Notification.protocol-version-num\"}}\n",
+        "{\"number\":7,\"offset\":100,\"octets\":2,\"apdu\":\"Forward-Notification\",\"refused\":{\"cause\":\"Missing\",\"offset\":2,\"kind\":\"invalid\",\"part\":\"Forward-Notification.protocol-version-num\",\"path\":\"Forward-Notification\",\"found\":\"the end of the element\",\"due\":[\"[UNIVERSAL 16] SEQUENCE\",\"[0] protocol-version-num\"]}}\n",
     ),
     // a number of nine octets, which neither profile reads
     (
@@ -63,14 +64,14 @@ const ROWS: [(&str, Profile, Option<&str>, Option<u64>, &str); 11] = [
         Profile::Two,
         None,
         Some(15),
-        "{\"number\":7,\"offset\":100,\"octets\":15,\"apdu\":\"Expired\",\"refused\":{\"cause\":\"IntegerTooLong\",\"offset\":4,\"kind\":\"not read\"}}\n",
+        "{\"number\":7,\"offset\":100,\"octets\":15,\"apdu\":\"Expired\",\"refused\":{\"cause\":\"IntegerTooLong\",\"offset\":4,\"kind\":\"not read\",\"path\":\"Expired.protocol-version-num\",\"found\":\"[0] primitive: 80 09 01 00 00 00 00 00 00 00 00\"}}\n",
     ),
     (
         "740d300b8009010000000000000000",
         Profile::Module,
         None,
         Some(15),
-        "{\"number\":7,\"offset\":100,\"octets\":15,\"apdu\":\"Expired\",\"refused\":{\"cause\":\"IntegerTooLong\",\"offset\":4,\"kind\":\"not read\"}}\n",
+        "{\"number\":7,\"offset\":100,\"octets\":15,\"apdu\":\"Expired\",\"refused\":{\"cause\":\"IntegerTooLong\",\"offset\":4,\"kind\":\"not read\",\"path\":\"Expired.protocol-version-num\",\"found\":\"[0] primitive: 80 09 01 00 00 00 00 00 00 00 00\"}}\n",
     ),
     // an escape sequence in a GeneralString
     (
@@ -78,7 +79,15 @@ const ROWS: [(&str, Profile, Option<&str>, Option<u64>, &str); 11] = [
         Profile::Two,
         None,
         Some(34),
-        "{\"number\":7,\"offset\":100,\"octets\":34,\"apdu\":\"Expired\",\"refused\":{\"cause\":\"BadText\",\"offset\":11,\"kind\":\"not read\"}}\n",
+        "{\"number\":7,\"offset\":100,\"octets\":34,\"apdu\":\"Expired\",\"refused\":{\"cause\":\"BadText\",\"offset\":11,\"kind\":\"not read\",\"path\":\"Expired.transaction-id.transaction-group-qualifier\",\"found\":\"[UNIVERSAL 27] primitive: 1b 02 1b 47\"}}\n",
+    ),
+    // a number that is constructed
+    (
+        "7402a000",
+        Profile::Two,
+        None,
+        Some(4),
+        "{\"number\":7,\"offset\":100,\"octets\":4,\"apdu\":\"Expired\",\"refused\":{\"cause\":\"WrongForm\",\"offset\":2,\"kind\":\"invalid\",\"path\":\"Expired.protocol-version-num\",\"found\":\"[0] constructed: a0\",\"due\":[\"[0] primitive: 80\"]}}\n",
     ),
     // a tag that is due nowhere, and one of no APDU
     (
@@ -86,14 +95,14 @@ const ROWS: [(&str, Profile, Option<&str>, Option<u64>, &str); 11] = [
         Profile::Two,
         None,
         Some(2),
-        "{\"number\":7,\"offset\":100,\"octets\":2,\"refused\":{\"cause\":\"UnexpectedTag\",\"offset\":0,\"kind\":\"invalid\"}}\n",
+        "{\"number\":7,\"offset\":100,\"octets\":2,\"refused\":{\"cause\":\"UnexpectedTag\",\"offset\":0,\"kind\":\"invalid\",\"found\":\"[UNIVERSAL 5] primitive: 05\",\"due\":[\"[APPLICATION 1] ILL-Request\",\"[APPLICATION 2] Forward-Notification (not read)\",\"[APPLICATION 3] Shipped\",\"[APPLICATION 4] ILL-Answer\",\"[APPLICATION 5] Conditional-Reply\",\"[APPLICATION 6] Cancel\",\"[APPLICATION 7] Cancel-Reply\",\"[APPLICATION 8] Received\",\"[APPLICATION 9] Recall\",\"[APPLICATION 10] Returned\",\"[APPLICATION 11] Checked-In\",\"[APPLICATION 12] Overdue\",\"[APPLICATION 13] Renew\",\"[APPLICATION 14] Renew-Answer\",\"[APPLICATION 15] Lost\",\"[APPLICATION 16] Damaged\",\"[APPLICATION 17] Message\",\"[APPLICATION 18] Status-Query\",\"[APPLICATION 19] Status-Or-Error-Report (not read)\",\"[APPLICATION 20] Expired\"]}}\n",
     ),
     (
         "7f1f00",
         Profile::Two,
         None,
         Some(3),
-        "{\"number\":7,\"offset\":100,\"octets\":3,\"refused\":{\"cause\":\"UnexpectedTag\",\"offset\":0,\"kind\":\"invalid\"}}\n",
+        "{\"number\":7,\"offset\":100,\"octets\":3,\"refused\":{\"cause\":\"UnexpectedTag\",\"offset\":0,\"kind\":\"invalid\",\"found\":\"[APPLICATION 31] constructed: 7f 1f\",\"due\":[\"[APPLICATION 1] ILL-Request\",\"[APPLICATION 2] Forward-Notification (not read)\",\"[APPLICATION 3] Shipped\",\"[APPLICATION 4] ILL-Answer\",\"[APPLICATION 5] Conditional-Reply\",\"[APPLICATION 6] Cancel\",\"[APPLICATION 7] Cancel-Reply\",\"[APPLICATION 8] Received\",\"[APPLICATION 9] Recall\",\"[APPLICATION 10] Returned\",\"[APPLICATION 11] Checked-In\",\"[APPLICATION 12] Overdue\",\"[APPLICATION 13] Renew\",\"[APPLICATION 14] Renew-Answer\",\"[APPLICATION 15] Lost\",\"[APPLICATION 16] Damaged\",\"[APPLICATION 17] Message\",\"[APPLICATION 18] Status-Query\",\"[APPLICATION 19] Status-Or-Error-Report (not read)\",\"[APPLICATION 20] Expired\"]}}\n",
     ),
 ];
 
@@ -122,7 +131,8 @@ fn each_line_of_a_refused_message(rt: HostRuntime) -> Result<(), Fail> {
             names_input: file.is_some(),
             ..JobOptions::new(Job::CheckJson, false)
         };
-        let refused = refused_json(alloc, work, report, &octets, Vec::new(alloc))?;
+        let place = place_of_refusal(alloc, *profile, &octets, report.refusal)?;
+        let refused = refused_json(alloc, work, report, &octets, &place, Vec::new(alloc))?;
         assert!(rt; refused.line.as_slice() == wanted.as_bytes(), "{input}");
     }
     Ok(())

@@ -1,4 +1,4 @@
-use Rattle.std.proofs.Common.{◌≡◌, ◌∙◌, Bool, Some, true, false, sym, subst, rules, inr}
+use Rattle.std.proofs.Common.{◌≡◌, ◌∙◌, Bool, true, sym, subst, rules, inr}
 use Rattle.std.specs.Prelude.{IfErr, IfOk}
 use Rattle.std.proofs.lemmas.Result.{IfErr-weaker, IfOk-weaker}
 use Rattle.ill_normal.specs.Calls.{taking, putting}

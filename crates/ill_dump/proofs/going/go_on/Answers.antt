@@ -49,13 +49,13 @@ pub returns-in_default-clause-through : goal.returns-in_default-clause-through
 returns-in_default-clause-through g c =
     let left' = g.R.Source.left c.take_message.new.source in
     let reported = g.T.ReportRefusals.reported c.loop-before.reports in
-    let reported' = g.T.ReportRefusals.reported c.report-in-Refused.new.self in
+    let reported' = g.T.ReportRefusals.reported c.report.new.self in
     let here = position (c.loop-before.before + 1) c.loop-before.offset in
     let n = rw c.in-Ok-Some.field-0-is at c.in-Ok-Some.ensures.next in
     let bad = rw c.in-Refused.is at n in
     let no_end = subst (λ (e : Option ℕ). MatchOption e (HasNoEnd bad.0 left') (λ n. IsFrame bad.0 × (n ≡ counted (length bad.0)))) c.in_default.is bad.3 in
-    let is_report = c.report.ensures ∙ ap (λ (e : Option ℕ). report here c.in-Refused.refusal e) c.in_default.is in
-    let adds = subst (λ r. Adds reported reported' (r ∷ [])) is_report c.report-in-Refused.ensures in
+    let is_report = c.new.ensures ∙ ap (λ (e : Option ℕ). report here c.in-Refused.refusal e) c.in_default.is in
+    let adds = subst (λ r. Adds reported reported' (r ∷ [])) is_report c.report.ensures in
     over_lost _ _ _ _ _ _ _ _ _ _ _ _ _ c.loop-before.invariant.over _ bad.0 c.in-Refused.refusal c.counts_of-in_default.ensures.messages c.counts_of-in_default.ensures.refused c.loop-before-test.true
     bad.1 bad.2 no_end c.in_ok-put_refused-in-Refused.ensures.begins adds
 
@@ -83,8 +83,8 @@ loop-before-preserved g c =
           let bad = rw w.in-Refused.is at n in
           let put = w.in_ok-put_refused-in-Refused.ensures in
           let end = subst (λ (e : Option ℕ). MatchOption e (HasNoEnd bad.0 left') (λ n. IsFrame bad.0 × (n ≡ counted (length bad.0)))) w.in-Some.is bad.3 in
-          let is_report = w.report.ensures ∙ ap (λ (e : Option ℕ). report here w.in-Refused.refusal e) w.in-Some.is in
-          let adds = subst (λ r. Adds reported (g.T.ReportRefusals.reported w.report-in-Refused.new.self) (r ∷ [])) is_report w.report-in-Refused.ensures in
+          let is_report = w.new.ensures ∙ ap (λ (e : Option ℕ). report here w.in-Refused.refusal e) w.in-Some.is in
+          let adds = subst (λ r. Adds reported (g.T.ReportRefusals.reported w.report.new.self) (r ∷ [])) is_report w.report.ensures in
           let more = over_bad _ _ _ _ _ _ _ _ _ _ _ _ _ is.over bad.0 w.in-Refused.refusal w.in-Some.octets end.1 bad.1 bad.2 end.0 put.begins adds in
           record {
             over = rw (w.sink-is, w.reports-is, w.refused-is, w.offset-is, w.saturating_add-offset-in-Refused.ensures) more;
@@ -98,5 +98,6 @@ loop-before-preserved g c =
 pub returns-clause-halts : goal.returns-clause-halts
 returns-clause-halts g c =
     let over = c.loop-before.invariant.over in
-    over_halts _ _ _ _ _ _ (g.W.Sink.contents c.loop-before.sink) _ _ (g.T.ReportRefusals.reported c.loop-before.reports) _ _ _ over _ _ _
-    (halts_at_last _ _ _ _ _ _ _ _ _ (g.T.ReportRefusals.reported c.loop-before.reports) _ _ _ over _ _ c.in-Err-end_of_input.fault (omega arith) refl c.in-Err-end_of_input.ensures.more) refl
+    rw c.fault_of_end.ensures
+    (over_halts _ _ _ _ _ _ (g.W.Sink.contents c.loop-before.sink) _ _ (g.T.ReportRefusals.reported c.loop-before.reports) _ _ _ over _ _ _
+    (halts_at_last _ _ _ _ _ _ _ _ _ (g.T.ReportRefusals.reported c.loop-before.reports) _ _ _ over _ _ c.in-Err-end_of_input.error (omega arith) refl c.in-Err-end_of_input.ensures.more) refl)

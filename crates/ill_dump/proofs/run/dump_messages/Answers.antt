@@ -1,5 +1,5 @@
-use Rattle.std.proofs.Common.{◌+◌, refl, arith}
-use Rattle.ill_dump.proofs.DumpedMessages.{dumps_next, reached_more, reached_none, stops_full, stops_next}
+use Rattle.std.proofs.Common.{refl, arith}
+use Rattle.ill_dump.proofs.DumpedMessages.{dumps_full, dumps_next, reached_more, reached_none, stops_full, stops_next}
 use Rattle.ill_dump.proofs.run.dump_messages.Goals as goal
 
 pub returns-in-Err-clause-stops : goal.returns-in-Err-clause-stops
@@ -27,6 +27,10 @@ loop-before-preserved g c =
       sink_stays = λ t. c.put_message.ensures.stays (c.loop-before.invariant.sink_stays t);
     }
 
-pub returns-in-Ok-clause-stops : goal.returns-in-Ok-clause-stops
-returns-in-Ok-clause-stops g c =
-    stops_full _ _ _ _ _ _ _ c.in-Ok.field-0 _ c.loop-before.invariant.reached (omega arith) (omega (arith, c.in-Ok.field-0-test)) c.in-Ok.ensures.count c.in-Ok.ensures.octets.0
+pub returns-clause-stops : goal.returns-clause-stops
+returns-clause-stops g c =
+    rw c.fault_of_end.ensures
+    (stops_full _ _ _ _ _ _ _ _ c.in-Err-end_of_input.error c.loop-before.invariant.reached (omega arith) c.in-Err-end_of_input.ensures.more)
+
+pub returns-clause-dumps : goal.returns-clause-dumps
+returns-clause-dumps g c = rw c.fault_of_end.ensures (dumps_full _ _ _ _ c.in-Err-end_of_input.error c.loop-before.invariant.reached.dumps (omega arith))

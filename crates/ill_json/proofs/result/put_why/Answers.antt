@@ -4,7 +4,7 @@ use Rattle.ill_schema.specs.declared.part.PartId.{PartId}
 use Rattle.ill_json.specs.Results.{part_text}
 use Rattle.ill_json.specs.code.Adding.{text_tokens}
 use Rattle.ill_json.proofs.Added.{adds_as, adds_then}
-use Rattle.ill_json.proofs.Results.{text_member}
+use Rattle.ill_json.proofs.Results.{place_member, text_member}
 use Rattle.ill_json.proofs.result.put_why.Goals as goal
 
 pub returns : goal.returns
@@ -13,4 +13,4 @@ returns c =
     let kind = adds_as _ _ _ _ (ap (λ (t : List ℕ). string t ∷ []) c.name-2.ensures) c.put-6.ensures in
     let part = adds_as _ _ _ _ (ap (λ (p : Option PartId). text_tokens (codes "part") (part_text p)) c.part_of_cause.ensures) c.put_part.ensures in
     adds_then _ _ _ _ _ c.put.ensures (adds_then _ _ _ _ _ c.put-2.ensures (adds_then _ _ _ _ _ cause (adds_then _ _ _ _ _ c.put-4.ensures (adds_then _ _ _ _ _ c.count.ensures
-    (adds_then _ _ _ _ _ c.put-5.ensures (adds_then _ _ _ _ _ kind (adds_as _ _ _ _ (text_member (codes "part") _ _) (adds_then _ _ _ _ _ part c.put-7.ensures))))))))
+    (adds_then _ _ _ _ _ c.put-5.ensures (adds_then _ _ _ _ _ kind (adds_as _ _ _ _ (text_member (codes "part") _ _) (adds_then _ _ _ _ _ part (adds_as _ _ _ _ (place_member c.args.place.now) (adds_then _ _ _ _ _ c.put_place.ensures c.put-7.ensures))))))))))

@@ -6,4 +6,4 @@ use Rattle.ill_json.proofs.result.refused_line.Goals as goal
 
 pub returns : goal.returns
 returns c =
-    IfOk-weaker c.into_line.result _ _ (λ line k. k.1 ∙ text_of_line (refused_json _ c.args.head _) _ _ c.new-out.ensures.tokens c.put_refused.ensures k.0) c.into_line.ensures
+    IfOk-weaker c.into_line.result _ _ (λ line k. k.1 ∙ text_of_line (refused_json _ c.args.head _ c.args.place.now) _ _ c.new-out.ensures.tokens c.put_refused.ensures k.0) c.into_line.ensures

@@ -55,4 +55,4 @@ loop-whole-init g c = record {
 
 pub returns-in-Err-end_of_input-clause-ends : goal.returns-in-Err-end_of_input-clause-ends
 returns-in-Err-end_of_input-clause-ends g c =
-    rw c.ended-in-Err-end_of_input.ensures (ends_at_last _ _ _ _ _ _ _ _ (g.W.Sink.contents c.loop-whole.sink) _ _ _ _ c.loop-whole.invariant.reached _ _ 1_000_000 c.in-Err-end_of_input.why (omega arith) refl c.in-Err-end_of_input.ensures.more)
+    rw (c.ended-in-Err-end_of_input.ensures, c.why_of_end.ensures) (ends_at_last _ _ _ _ _ _ _ _ (g.W.Sink.contents c.loop-whole.sink) _ _ _ _ c.loop-whole.invariant.reached _ _ 1_000_000 c.in-Err-end_of_input.error (omega arith) refl c.in-Err-end_of_input.ensures.more)

@@ -54,13 +54,13 @@ returns-in_default-clause-through g c =
     let left = g.R.Source.left c.loop-before.source in
     let left' = g.R.Source.left c.take_message.new.source in
     let reported = g.T.ReportRefusals.reported c.loop-before.reports in
-    let reported' = g.T.ReportRefusals.reported c.report-in-Refused.new.self in
+    let reported' = g.T.ReportRefusals.reported c.report.new.self in
     let here = position (c.loop-before.before + 1) c.loop-before.offset in
     let n = rw c.in-Ok-Some.field-0-is at c.in-Ok-Some.ensures.next in
     let bad = subst (IsNext (profile_of (g.M.Render.profile c.args.maker.now)) g.M.Out.Rendered.is (text here) is_good left left') c.in-Refused.is n in
     let no_end = subst (λ (e : Option ℕ). MatchOption e (HasNoEnd bad.0 left') (λ n. IsFrame bad.0 × (n ≡ counted (length bad.0)))) c.in_default.is bad.3 in
-    let is_report = c.report.ensures ∙ ap (λ (e : Option ℕ). report here c.in-Refused.refusal e) c.in_default.is in
-    let adds = subst (λ r. Adds reported reported' (r ∷ [])) is_report c.report-in-Refused.ensures in
+    let is_report = c.new-report.ensures ∙ ap (λ (e : Option ℕ). report here c.in-Refused.refusal e) c.in_default.is in
+    let adds = subst (λ r. Adds reported reported' (r ∷ [])) is_report c.report.ensures in
     rw c.counts_of-in_default.ensures
     (through_lost _ _ _ _ _ _ _ (g.W.Sink.contents c.loop-before.sink) _ _ _ reported' _ _ _ _ _ c.loop-before.invariant.reached _ _ bad.0 c.in-Refused.refusal c.loop-before-test.true bad.1 bad.2 no_end refl adds)
 
@@ -91,8 +91,8 @@ loop-before-preserved g c =
       | in-Refused+in-Some w ↦
           let bad = subst (IsNext (profile_of (g.M.Render.profile c.args.maker.now)) g.M.Out.Rendered.is (text here) is_good left left') w.in-Refused.is n in
           let end = subst (λ (e : Option ℕ). MatchOption e (HasNoEnd bad.0 left') (λ n. IsFrame bad.0 × (n ≡ counted (length bad.0)))) w.in-Some.is bad.3 in
-          let is_report = w.report.ensures ∙ ap (λ (e : Option ℕ). report here w.in-Refused.refusal e) w.in-Some.is in
-          let adds = subst (λ r. Adds reported (g.T.ReportRefusals.reported w.report-in-Refused.new.self) (r ∷ [])) is_report w.report-in-Refused.ensures in
+          let is_report = w.new-report.ensures ∙ ap (λ (e : Option ℕ). report here w.in-Refused.refusal e) w.in-Some.is in
+          let adds = subst (λ r. Adds reported (g.T.ReportRefusals.reported w.report.new.self) (r ∷ [])) is_report w.report.ensures in
           let more = reached_bad _ _ _ _ _ _ _ (g.W.Sink.contents c.loop-before.sink) _ _ _ _ _ _ _ _ _ is.reached bad.0 w.in-Refused.refusal w.in-Some.octets end.1 bad.1 bad.2 end.0 refl adds in
           record {
             reached = rw (w.sink-is, w.reports-is, w.refused-is, w.written-is, w.good-is, w.offset-is, w.saturating_add-offset-in-Refused.ensures) more;
@@ -112,6 +112,6 @@ returns-in-Ok-end_of_input-clause-through g c =
 
 pub returns-clause-halts : goal.returns-clause-halts
 returns-clause-halts g c =
-    rw c.error_at-in-Err-end_of_input.ensures
-    (halts_at_last _ _ _ _ _ _ _ (g.W.Sink.contents c.loop-before.sink) _ _ _ (g.T.ReportRefusals.reported c.loop-before.reports) _ _ _ _ _ c.loop-before.invariant.reached _ _ 1_000_000 c.in-Err-end_of_input.why
+    rw (c.error_at-in-Err-end_of_input.ensures, c.why_of_end.ensures)
+    (halts_at_last _ _ _ _ _ _ _ (g.W.Sink.contents c.loop-before.sink) _ _ _ (g.T.ReportRefusals.reported c.loop-before.reports) _ _ _ _ _ c.loop-before.invariant.reached _ _ 1_000_000 c.in-Err-end_of_input.error
     (omega arith) refl refl refl c.in-Err-end_of_input.ensures.more)

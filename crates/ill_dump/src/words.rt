@@ -1,0 +1,86 @@
+//! The place of a refusal in words, for lines of JSON.
+use crate::due::Due;
+use crate::lines::LineBuffer;
+use crate::markup::DumpFormat;
+use crate::refused_place::RefusedPlace;
+use crate::walk::{ElementWalk, Steps};
+use ill_json::RefusalPlace;
+use ill_schema::{Cause, Profile, Refusal};
+use std::alloc::{AllocError, Global};
+
+/// The place of a refusal of the octets in the profile, in the words of [`run_dump`](crate::run_dump): the names round it, what was found there,
+/// and what was due. Of a message that is only too long in normal form it has no words.
+///
+/// # Errors
+///
+/// Memory ran out.
+///
+/// # Examples
+///
+/// ```
+/// // path "Expired", found "the end of the element", due "[UNIVERSAL 16] SEQUENCE" and "[0] protocol-version-num"
+/// let refusal = Refusal { at: 2, cause: Cause::Missing(part) };
+/// let place = place_of_refusal(alloc, Profile::Two, &[0x74, 0x00], refusal)?;
+/// ```
+pub fn place_of_refusal(
+    alloc: Global,
+    profile: Profile,
+    octets: &[u8],
+    refusal: Refusal,
+) -> Result<RefusalPlace, AllocError> {
+    let mut words = RefusalPlace {
+        path: String::new(alloc),
+        found: String::new(alloc),
+        due: Vec::new(alloc),
+    };
+    if refusal.cause == Cause::NormalTooLong {
+        return Ok(words);
+    }
+    let mut lines = LineBuffer::new(alloc, DumpFormat::Text);
+    let mut walk = ElementWalk::new(alloc, profile, refusal.at as usize);
+    go_through(&mut walk, octets, &mut lines)?;
+    let place = RefusedPlace::new(&walk, octets, refusal);
+    let _ = place.put_path(&mut lines)?;
+    words.path = take_text(alloc, &mut lines)?;
+    place.put_found(&mut lines)?;
+    words.found = take_text(alloc, &mut lines)?;
+    words.due = texts_of(alloc, &place.due(alloc)?, &mut lines)?;
+    if refusal.cause == Cause::WrongForm {
+        place.put_other_form(&mut lines)?;
+        words.due.push(take_text(alloc, &mut lines)?)?;
+    }
+    Ok(words)
+}
+
+/// Goes through the elements on a way, and forgets their lines.
+fn go_through(
+    walk: &mut ElementWalk,
+    octets: &[u8],
+    lines: &mut LineBuffer,
+) -> Result<(), AllocError> {
+    for _ in 0..=octets.len() {
+        let is_there = walk.step(octets, lines)?;
+        lines.octets.clear();
+        if !is_there {
+            return Ok(());
+        }
+    }
+    Ok(())
+}
+
+/// The text of each thing that is due.
+fn texts_of(alloc: Global, due: &[Due], lines: &mut LineBuffer) -> Result<Vec<String>, AllocError> {
+    let mut texts = Vec::new(alloc);
+    for due in due {
+        due.put(lines)?;
+        texts.push(take_text(alloc, lines)?)?;
+    }
+    Ok(texts)
+}
+
+/// The text that was made, which is forgotten.
+fn take_text(alloc: Global, lines: &mut LineBuffer) -> Result<String, AllocError> {
+    let text = String::from_utf8_lossy(alloc, &lines.octets)?;
+    lines.octets.clear();
+    Ok(text)
+}
