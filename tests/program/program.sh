@@ -87,7 +87,7 @@ row dump-of-indefinite 0 'message 1: Expired, 47 octets, not normal, normal form
      45  00 00  end mark
 ' '' dump F
 octets F $CUT
-row dump-of-a-refused-message 1 'message 1: refused
+dumped='refused
       0  74 1f  Expired
       2    30 1d  SEQUENCE
       4      80 01  protocol-version-num = 2
@@ -97,19 +97,10 @@ refused at 7: UnexpectedTag
     found [2] constructed: a2
     due [1] transaction-id
       7      a2  octets  (not judged)
-' 'illcanon: refused at 7 in message 1: UnexpectedTag\n' dump F
+'
+row dump-of-a-refused-message 1 "message 1: $dumped" 'illcanon: refused at 7 in message 1: UnexpectedTag\n' dump F
 { printf '\005\001A' && cat F; } >G
-row dump-of-one-message 1 'message 2: refused
-      0  74 1f  Expired
-      2    30 1d  SEQUENCE
-      4      80 01  protocol-version-num = 2
-refused at 7: UnexpectedTag
-    the tag is not due there
-    path Expired
-    found [2] constructed: a2
-    due [1] transaction-id
-      7      a2  octets  (not judged)
-' 'illcanon: refused at 0 in message 1: UnexpectedTag\nillcanon: refused at 7 in message 2: UnexpectedTag; its end is unknown\n' dump --keep-going --message 2 G
+row dump-of-one-message 1 "message 2: $dumped" 'illcanon: refused at 0 in message 1: UnexpectedTag\nillcanon: refused at 7 in message 2: UnexpectedTag; its end is unknown\n' dump --keep-going --message 2 G
 row dump-of-one-message-after-a-refused-one 1 '' 'illcanon: refused at 0 in message 1: UnexpectedTag\n' dump --message 2 G
 row dump-of-no-such-message 1 '' 'illcanon: refused at 0 in message 1: UnexpectedTag\nillcanon: refused at 7 in message 2: UnexpectedTag; its end is unknown\nillcanon: no message 3: the input has 2 messages\n' dump --keep-going --message 3 G
 row dump-of-no-file 3 '' 'illcanon: cannot open NAME\n' dump NAME

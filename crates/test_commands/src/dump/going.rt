@@ -115,7 +115,7 @@ fn come_in_order(text: &[u8], parts: &[&str]) -> bool {
     true
 }
 
-/// The report of a message at this offset of the input, which is refused at an offset of its own, and has so many octets, if its end is known.
+/// The report of a message that begins at `offset` in the input and is refused at `at` in the message. `octets` is its size, if its end is known.
 const fn report(
     message: u32,
     offset: u64,
