@@ -139,7 +139,7 @@ class Messages(unittest.TestCase):
         rest = text.partition("\nrefused at 33: TrailingBytes\n")[2].splitlines()
         self.assertEqual(rest[-2:], ["     33  74 00  [APPLICATION 20]  (not judged)", "     35  05  octets  (not judged)"])
         text, refusal = illcanon.dump(bytes(3 << 20))
-        octets = "00" + " 00" * (1 << 20)
+        octets = "00" + " 00" * ((1 << 20) - 1)
         self.assertEqual((refusal.cause, text.splitlines()[-1] == f"      0  {octets}  octets  (not judged)"), ("BadTag", True))
 
     def test_a_message_is_a_dict(self):

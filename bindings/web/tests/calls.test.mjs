@@ -154,10 +154,10 @@ test("memory that runs out is said, and the next call works", () => {
   assert.ok(calls.memorySize < 16000000, String(calls.memorySize));
 });
 
-test("no more octets are listed than the greatest message has, and one", () => {
+test("no more octets are listed than the greatest message has", () => {
   const { text, refusal } = calls.dump(new Uint8Array(900000000));
   assert.deepEqual([refusal.cause, refusal.offset], ["BadTag", 0]);
-  assert.equal(text.match(/^ +0 {2}((00 )*00) {2}octets/m)[1].length, 3 * (LIMIT + 1) - 1);
+  assert.equal(text.match(/^ +0 {2}((00 )*00) {2}octets/m)[1].length, 3 * LIMIT - 1);
 });
 
 test("a module that stops is said, and begins anew", async () => {

@@ -37,16 +37,13 @@ function checkTree(elements, octets, vector) {
 function checkRest(elements, octets, vector) {
   const [, place, cause] = /^refused at (\d+): (\w+)/.exec(elements.refusal[0]);
   assert.deepEqual([Number(place), cause], [vector.offset, vector.cause], vector.id);
-  let at = vector.offset, isIndefinite = false;
+  let at = vector.offset;
   for (let i = elements.judged; i < elements.count; i++) {
-    const { offset, header, size, value, isMark } = elements.element(i);
+    const { offset, header, value, isMark } = elements.element(i);
     assert.equal(offset, at, `${vector.id}: ${i} follows the one before it`);
-    isIndefinite ||= size === null;
     at = value === null && !isMark ? offset + header.length : elements.end(i, octets.length);
   }
-  // The end mark of an element of indefinite length may be missing.
-  const open = Array.from({ length: elements.judged }, (_, i) => elements.element(i).size);
-  if (!isIndefinite && !open.includes(null)) assert.equal(at, octets.length, `${vector.id}: the last octet`);
+  assert.equal(at, octets.length, `${vector.id}: the last octet`);
   return elements.count - elements.judged;
 }
 
@@ -92,8 +89,8 @@ test("what follows the place of a refusal is in the tree, and is not judged", ()
 test("octets that begin no element are one line", () => {
   const octets = Uint8Array.from({ length: 1048577 }), elements = new Elements(calls.dump(octets).text), { name, value, size, notes } = elements.element(0);
   assert.deepEqual([elements.judged, elements.count], [0, 1]);
-  assert.deepEqual([name, size, value.length, notes], ["octets", 1048577, 3145730, ["not judged"]]);
-  assert.deepEqual([elements.end(0, 1048577), elements.at(500), elements.path(0)], [1048577, 0, ["octets"]]);
+  assert.deepEqual([name, size, value.length, notes], ["octets", 1048576, 3145727, ["not judged"]]);
+  assert.deepEqual([elements.end(0, 1048577), elements.at(500), elements.path(0)], [1048576, 0, ["octets"]]);
 });
 
 test("an element of the indefinite form ends with its end mark", () => {
