@@ -177,7 +177,7 @@ uint32_t illcanon_normalise_next(const uint8_t *octets, size_t octets_size, size
 /* Writes the message that the octets are as it is spelled, under a number: a line that says what it is, and one for each element, as
  * `illcanon dump` does. Each line ends with a newline, and no zero follows. This call also writes where the octets are refused: the
  * elements before the place, then the refusal in words, and then the elements from there on by their identifiers and lengths alone, each
- * marked as not judged. The text is tested; all else is proved.
+ * marked as not judged. At most ILLCANON_LIMIT octets are listed. The text is tested; all else is proved.
  *
  *   DONE           the text is the first *size octets of the buffer. No octet after it is touched.
  *   REFUSED        the same, and *refusal says why the octets are not exactly one message.

@@ -41,8 +41,7 @@ export class Stopped extends Error {}
 /** A message as it is spelled. */
 export interface Dump {
   /** A line of the message, and one for each element. Where a message is refused, the refusal in words follows the elements before the
-   * place, and then come the other ones, by their identifiers and lengths alone, each marked as not judged. At most LIMIT + 1 octets are
-   * listed. */
+   * place, and then come the other ones, by their identifiers and lengths alone, each marked as not judged. At most LIMIT octets are listed. */
   text: string;
   refusal: Refused | null;
 }

@@ -137,7 +137,7 @@ export class Illcanon {
 
   /** The message as it is spelled, a line for each element, and why it is refused, or null. */
   dump(octets, options) {
-    // Why octets are refused doesn't depend on those after the greatest message, which would all be listed.
+    // Octets after the greatest message aren't listed, and the first of them says as much as all.
     const view = viewOf(octets).subarray(0, LIMIT + 1);
     const made = this.#made("illcanon_dump_as", view, options, [messageNumber(options)], 16 * view.length + 4096);
     return { text: ASCII.decode(made.octets), refusal: made.refusal };

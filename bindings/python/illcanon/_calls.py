@@ -219,7 +219,7 @@ def dump(octets: Octets, number: int = 1, *, profile: Profile = "2") -> Tuple[st
     Of octets that are not exactly one message: the elements before the place, the refusal in words, the elements from there on by their
     identifiers and lengths alone, each marked as not judged; and the refusal.
     """
-    # Why octets are refused doesn't depend on those after the greatest message, which would all be listed.
+    # Octets after the greatest message aren't listed, and the first of them says as much as all.
     profile_number, octets = _number_of(profile), _bytes(octets)[: LIMIT + 1]
     if not 0 <= number < 2**32:
         raise ValueError("number")
