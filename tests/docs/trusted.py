@@ -258,7 +258,7 @@ Mark | Claim | Functions whose contracts say it | Files | Lines
 
 Claims 1 to 4 are those of the [README](../README.md#what-is-proved). Together they need {claim_lines} lines in {claim_files} files, without comments and blank lines.
 
-Not listed, but to be believed: the types that the Rust code declares, and the definitions of std, `jiff`, `json`, `hex` and `sha2` that are cited. The functions of `ill_refusals/specs/Reading.antt` are not listed and need not be believed: the law `ill_refusals::headers_are_read` says what they read, and the list has the words of that law.
+Not listed, but to be believed: the types that the Rust code declares, and the definitions of std, `jiff`, `json`, `hex` and `sha2` that are cited. The functions of `ber_core/specs/Reading.antt` are not listed and need not be believed: the law `ber_core::headers_are_read` says what they read, and the list has the words of that law.
 
 ## Files
 
@@ -273,8 +273,8 @@ For each file of `crates/`: how many of its lines are needed, and for which clai
 NAMES = {"feed": "Decoder::feed"}
 
 # Definitions that a law states in the words of others, so that nobody has to believe them: the law, and what they are.
-READING = "Rattle.ill_refusals.specs.Reading"
-LAWS = {(READING, name): ("ill_refusals", "headers_are_read") for name in ("class_of", "tagged", "read_digits", "read_number", "read_identifier", "read_length")}
+READING = "Rattle.ber_core.specs.Reading"
+LAWS = {(READING, name): ("ber_core", "headers_are_read") for name in ("class_of", "tagged", "read_digits", "read_number", "read_identifier", "read_length")}
 PRODUCT = "ber_core ber_framing ber_leaf ill_schema ill_refusals ill_read ill_write ill_normal ill_text ill_json ill_commands ill_dump ill_lines ill_args ill_files ill_cli ill_c ill_typed ill_parts ill_apdu".split()
 
 

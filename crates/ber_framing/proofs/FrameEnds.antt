@@ -20,33 +20,33 @@ marks_close : (marks deep : ℕ) → (x : List ℕ) × Closes marks deep x
 marks_close zero deep = ([], refl)
 marks_close (suc marks) deep = let m = marks_close marks (suc deep) in (0 ∷ 0 ∷ m.0, ([], m.0, none, m.1, refl))
 
-contents_finish : (left marks deep : ℕ) → (x : List ℕ) × (left ≤ length x) × IsContentsThen left marks deep x
-contents_finish left marks deep =
+contents_finish : (missing_len marks deep : ℕ) → (x : List ℕ) × (missing_len ≤ length x) × IsContentsThen missing_len marks deep x
+contents_finish missing_len marks deep =
     let m = marks_close marks deep in
-    let size : length {A = ℕ} (replicate left 0) ≡ left = length-replicate left 0 in (
-      replicate left 0 ++ m.0,
-      omega (arith, length-append (replicate left 0) m.0, size),
-      record { contents = replicate left 0; rest = m.0; size = size; closes = m.1; joined = refl },
+    let size : length {A = ℕ} (replicate missing_len 0) ≡ missing_len = length-replicate missing_len 0 in (
+      replicate missing_len 0 ++ m.0,
+      omega (arith, length-append (replicate missing_len 0) m.0, size),
+      record { contents = replicate missing_len 0; rest = m.0; size = size; closes = m.1; joined = refl },
     )
 
 length_finish : (f : Bool) (marks deep : ℕ) → (x : List ℕ) × IsLengthThen f marks deep (0 ∷ x)
 length_finish f marks deep = let c = contents_finish 0 marks deep in (c.0, definite 0 (short (lit≤ tt)) (lit≤ tt) c.2 refl)
 
-after_zeros : (left value : ℕ) → number_from_digits_after 256 value (replicate left 0) ≡ value * 256 ^ left
+after_zeros : (missing_len value : ℕ) → number_from_digits_after 256 value (replicate missing_len 0) ≡ value * 256 ^ missing_len
 after_zeros zero value = omega arith
-after_zeros (suc left) value =
-    let power : 256 ^ suc left ≡ 256 * 256 ^ left = pow-succ' 256 left in
-    let rest = after_zeros left (value * 256 + 0) in
+after_zeros (suc missing_len) value =
+    let power : 256 ^ suc missing_len ≡ 256 * 256 ^ missing_len = pow-succ' 256 missing_len in
+    let rest = after_zeros missing_len (value * 256 + 0) in
     omega (arith, rest, ap (λ (k : ℕ). value * k) power)
 
 small_zeros : (n : ℕ) → AllBelowBase 256 (replicate n 0)
 small_zeros zero = tt
 small_zeros (suc n) = (lit< tt, small_zeros n)
 
-long_finish : (left value marks deep : ℕ) → 0 < left → value * 256 ^ left ≤ 4_294_967_294 → (x : List ℕ) × (0 < length x) × IsLongThen left value marks deep x
-long_finish left value marks deep some fits =
-    let octets : List ℕ = replicate left 0 in
-    let size : length octets ≡ left = length-replicate left 0 in
+long_finish : (missing_len value marks deep : ℕ) → 0 < missing_len → value * 256 ^ missing_len ≤ 4_294_967_294 → (x : List ℕ) × (0 < length x) × IsLongThen missing_len value marks deep x
+long_finish missing_len value marks deep some fits =
+    let octets : List ℕ = replicate missing_len 0 in
+    let size : length octets ≡ missing_len = length-replicate missing_len 0 in
     let c = contents_finish (number_from_digits_after 256 value octets) marks deep in (
       octets ++ c.0,
       omega (arith, length-append octets c.0, size, some),
@@ -54,8 +54,8 @@ long_finish left value marks deep some fits =
         octets = octets;
         rest = c.0;
         size = size;
-        small = small_zeros left;
-        fits = omega (arith, after_zeros left value, fits);
+        small = small_zeros missing_len;
+        fits = omega (arith, after_zeros missing_len value, fits);
         contents = c.2;
         joined = refl;
       },
@@ -83,18 +83,18 @@ between_finish zero deep some = absurd (omega arith)
 between_finish (suc marks) deep some = let m = marks_close marks (suc deep) in (0 ∷ 0 ∷ m.0, omega arith, ([], m.0, none, m.1, refl))
 
 -- something more finishes an element at each stage but the last ones
-pub can_finish : (s : Stage) (marks deep : ℕ) → ((left : ℕ) → s ≡ Unframed left → ⊥) → (s ≡ BetweenElements → 0 < marks) → CanFinish s marks deep
+pub can_finish : (s : Stage) (marks deep : ℕ) → ((missing_len : ℕ) → s ≡ Unframed missing_len → ⊥) → (s ≡ BetweenElements → 0 < marks) → CanFinish s marks deep
 can_finish Identifier marks deep known some = element_finish marks deep
 can_finish BetweenElements marks deep known some = between_finish marks deep (some refl)
 can_finish (Number f) marks deep known some =
     let l = length_finish f marks deep in
     (0 ∷ 0 ∷ l.0, omega arith, record { number = 0 ∷ []; rest = 0 ∷ l.0; is_number = last (lit< tt); length_then = l.1; joined = refl })
 can_finish (Length f) marks deep known some = let l = length_finish f marks deep in (0 ∷ l.0, omega arith, l.1)
-can_finish (stage.LongLength l) marks deep known some = long_finish l.left l.value marks deep l.some l.fits
+can_finish (stage.LongLength l) marks deep known some = long_finish l.missing_len l.value marks deep l.some l.fits
 can_finish (stage.Contents c) marks deep known some =
-    let k = contents_finish c.left marks deep in (k.0, omega (arith, k.1, c.some), k.2)
+    let k = contents_finish c.missing_len marks deep in (k.0, omega (arith, k.1, c.some), k.2)
 can_finish EndOfContents marks deep known some = let m = marks_close marks deep in (0 ∷ m.0, omega arith, record { rest = m.0; closes = m.1; joined = refl })
-can_finish (Unframed left) marks deep known some = absurd (known left refl)
+can_finish (Unframed missing_len) marks deep known some = absurd (known missing_len refl)
 
 -- what each stage needs
 abbrev pub Needs : Stage → ℕ → ℕ → Type 0
@@ -102,10 +102,10 @@ Needs Identifier marks n = n ≤ 1
 Needs BetweenElements marks n = (n ≤ 1) × (marks ≡ 0 → n ≡ 0)
 Needs (Number f) marks n = n ≤ 1
 Needs (Length f) marks n = n ≤ 1
-Needs (stage.LongLength l) marks n = n ≤ l.left
-Needs (stage.Contents c) marks n = n ≤ c.left
+Needs (stage.LongLength l) marks n = n ≤ l.missing_len
+Needs (stage.Contents c) marks n = n ≤ c.missing_len
 Needs EndOfContents marks n = n ≤ 1
-Needs (Unframed left) marks n = Unit {0}
+Needs (Unframed missing_len) marks n = Unit {0}
 
 longer : (a x y : List ℕ) → x ≡ a ++ y → length a ≤ length x
 longer a x y e = omega (arith, ap length e, length-append a y)
@@ -142,7 +142,7 @@ needs (Length f) marks deep n x le h = omega (arith, le, length_needs f marks de
 needs (stage.LongLength l) marks deep n x le h = omega (arith, le, h.size, longer h.octets x h.rest h.joined)
 needs (stage.Contents c) marks deep n x le h = omega (arith, le, h.size, longer h.contents x h.rest h.joined)
 needs EndOfContents marks deep n x le h = omega (arith, le, ap length h.joined)
-needs (Unframed left) marks deep n x le h = absurd h
+needs (Unframed missing_len) marks deep n x le h = absurd h
 
 -- ---- the framer that was fed some octets
 
@@ -172,15 +172,15 @@ first_element deep x = (
   (λ h. subst (IsFramed deep) (sym (h.joined ∙ ap (λ z. h.element ++ z) h.closes ∙ append-nil h.element)) h.framed),
 )
 
-pub is_part : (f : Framer) (b : List ℕ) → IsFed f b → ((left : ℕ) → f.stage ≡ Unframed left → ⊥) → (f.stage ≡ BetweenElements → 0 < f.marks) → IsPart b
+pub is_part : (f : Framer) (b : List ℕ) → IsFed f b → ((missing_len : ℕ) → f.stage ≡ Unframed missing_len → ⊥) → (f.stage ≡ BetweenElements → 0 < f.marks) → IsPart b
 unfolding IsFed
 is_part f b h known some =
     let c = can_finish f.stage f.marks (18_446_744_073_709_551_615 - f.marks) known some in
     (c.0, (λ e. omega (arith, c.1, ap length e)), (h c.0).1 c.2)
 
-pub is_unframed : (f : Framer) (b : List ℕ) (left : ℕ) → IsFed f b → f.stage ≡ Unframed left → IsUnframed b
+pub is_unframed : (f : Framer) (b : List ℕ) (missing_len : ℕ) → IsFed f b → f.stage ≡ Unframed missing_len → IsUnframed b
 unfolding IsFed
-is_unframed f b left h e rest k = subst (λ s. FinishesAt s f.marks (18_446_744_073_709_551_615 - f.marks) rest) e ((h rest).0 k)
+is_unframed f b missing_len h e rest k = subst (λ s. FinishesAt s f.marks (18_446_744_073_709_551_615 - f.marks) rest) e ((h rest).0 k)
 
 ended : (f : Framer) (x : List ℕ) → f.stage ≡ BetweenElements → f.marks ≡ 0 → Finishes f x ↔ (x ≡ [])
 ended f x e z =
@@ -208,11 +208,11 @@ needs_one (Length f) marks b c = lit≤ tt
 needs_one (stage.LongLength l) marks b c = omega (arith, l.some)
 needs_one (stage.Contents k) marks b c = absurd (c k refl)
 needs_one EndOfContents marks b c = lit≤ tt
-needs_one (Unframed left) marks b c = tt
+needs_one (Unframed missing_len) marks b c = tt
 
 -- no octet more is part of an element whose end can't be known
-pub no_more : (f : Framer) (b : List ℕ) (left : ℕ) → IsFed f b → f.stage ≡ Unframed left → IsPart b → ⊥
-no_more f b left h e p = is_unframed f b left h e p.0 p.2
+pub no_more : (f : Framer) (b : List ℕ) (missing_len : ℕ) → IsFed f b → f.stage ≡ Unframed missing_len → IsPart b → ⊥
+no_more f b missing_len h e p = is_unframed f b missing_len h e p.0 p.2
 
 -- some first octets, and then the first ones of the rest
 two_parts : (xs : List ℕ) (m n : ℕ) → take m xs ++ take n (take (length xs - m) (drop m xs)) ≡ take (m + n) xs
@@ -224,14 +224,14 @@ pub next_octets : (f : Framer) (b xs : List ℕ) (m n : ℕ) → IsFed f (b ++ t
 next_octets f b xs m n h = subst (IsFed f) (append_assoc b (take m xs) (take n (take (length xs - m) (drop m xs))) ∙ ap (λ z. b ++ z) (two_parts xs m n)) h
 
 -- fewer octets than the contents still have leave it part of an element
-pub within_contents : (f : Framer) (c : Contents) (b w : List ℕ) → f.stage ≡ stage.Contents c → length w < c.left → IsFed f b → IsPart (b ++ w)
+pub within_contents : (f : Framer) (c : Contents) (b w : List ℕ) → f.stage ≡ stage.Contents c → length w < c.missing_len → IsFed f b → IsPart (b ++ w)
 within_contents f c b w e lt h =
     let deep = 18_446_744_073_709_551_615 - f.marks in
-    let rest : Contents = record { left = c.left - length w; some = omega arith } in
+    let rest : Contents = record { missing_len = c.missing_len - length w; some = omega arith } in
     let g : Framer = record { stage = stage.Contents rest; marks = f.marks } in
     let same : (x : List ℕ) → Finishes f (w ++ x) ↔ Finishes g x = λ x.
-    subst (λ s. FinishesAt s f.marks deep (w ++ x) ↔ IsContentsThen (c.left - length w) f.marks deep x) (sym e)
-    (contents_more c.left f.marks deep w x (omega arith)) in
+    subst (λ s. FinishesAt s f.marks deep (w ++ x) ↔ IsContentsThen (c.missing_len - length w) f.marks deep x) (sym e)
+    (contents_more c.missing_len f.marks deep w x (omega arith)) in
     is_part g (b ++ w) (fed_all f g w same b h) (λ _ k. cc) (λ k. cc)
 
 -- no octets leave it so

@@ -196,8 +196,8 @@ front_of (o ∷ w) (p ∷ c) x r le e =
     let t = front_of w c x r (omega (arith, le)) f.1 in
     (t.0, ap₂ (λ (k : ℕ) (l : List ℕ). k ∷ l) (sym f.0) t.1, t.2)
 
-pub contents_more : (left marks deep : ℕ) (w x : List ℕ) → length w ≤ left → IsContentsThen left marks deep (w ++ x) ↔ IsContentsThen (left - length w) marks deep x
-contents_more left marks deep w x le = (
+pub contents_more : (missing_len marks deep : ℕ) (w x : List ℕ) → length w ≤ missing_len → IsContentsThen missing_len marks deep (w ++ x) ↔ IsContentsThen (missing_len - length w) marks deep x
+contents_more missing_len marks deep w x le = (
   (λ h.
       let t = front_of w h.contents x h.rest (omega (arith, le, h.size)) h.joined in
       let size : length h.contents ≡ length w + length t.0 = ap length t.1 ∙ length-append w t.0 in
@@ -215,8 +215,8 @@ no_contents : (contents rest x : List ℕ) → length contents ≡ 0 → x ≡ c
 no_contents [] rest x z e = sym e
 no_contents (o ∷ os) rest x z e = absurd (omega (arith, z))
 
-pub contents_end : (left marks deep : ℕ) (x : List ℕ) → left ≡ 0 → IsContentsThen left marks deep x ↔ Closes marks deep x
-contents_end left marks deep x z = (
+pub contents_end : (missing_len marks deep : ℕ) (x : List ℕ) → missing_len ≡ 0 → IsContentsThen missing_len marks deep x ↔ Closes marks deep x
+contents_end missing_len marks deep x z = (
   (λ h. subst (λ w. Closes marks deep w) (no_contents h.contents h.rest x (h.size ∙ z) h.joined) h.closes),
   (λ h. record { contents = []; rest = x; size = sym z; closes = h; joined = refl }),
 )

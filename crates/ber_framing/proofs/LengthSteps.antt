@@ -46,10 +46,10 @@ module _ (f : Bool) (marks deep o : ℕ) (x : List ℕ) where
     (λ h. indefinite d g q (subst (λ (i : ℕ). Closes i d x) p h) (ap (λ (i : ℕ). i ∷ x) z)),
   )
 
-  long_parts : (left n : ℕ) (octets rest : List ℕ) → 128 < o → o ≡ 128 + left → n ≤ 4_294_967_294 → IsLength n octets → IsContentsThen n marks deep rest → o ∷ x ≡ octets ++ rest
-      → IsLongThen left 0 marks deep x
-  long_parts left n octets rest lt e le (short h) c j = let p = cells j in absurd (omega (arith, p.0))
-  long_parts left n octets rest lt e le (long {octets = os} _ _ b v) c j =
+  long_parts : (missing_len n : ℕ) (octets rest : List ℕ) → 128 < o → o ≡ 128 + missing_len → n ≤ 4_294_967_294 → IsLength n octets → IsContentsThen n marks deep rest → o ∷ x ≡ octets ++ rest
+      → IsLongThen missing_len 0 marks deep x
+  long_parts missing_len n octets rest lt e le (short h) c j = let p = cells j in absurd (omega (arith, p.0))
+  long_parts missing_len n octets rest lt e le (long {octets = os} _ _ b v) c j =
       let p = cells j in
       record {
         octets = os;
@@ -61,22 +61,22 @@ module _ (f : Bool) (marks deep o : ℕ) (x : List ℕ) where
         joined = p.1;
       }
 
-  long_then : (left : ℕ) → 128 < o → o ≡ 128 + left → IsLengthThen f marks deep (o ∷ x) → IsLongThen left 0 marks deep x
-  long_then left lt e (definite {octets = os} {rest = r} n l le c j) = long_parts left n os r lt e le l c j
-  long_then left lt e (indefinite inner _ _ _ j) = let p = cells j in absurd (omega (arith, p.0))
+  long_then : (missing_len : ℕ) → 128 < o → o ≡ 128 + missing_len → IsLengthThen f marks deep (o ∷ x) → IsLongThen missing_len 0 marks deep x
+  long_then missing_len lt e (definite {octets = os} {rest = r} n l le c j) = long_parts missing_len n os r lt e le l c j
+  long_then missing_len lt e (indefinite inner _ _ _ j) = let p = cells j in absurd (omega (arith, p.0))
 
-  pub long_length : (left : ℕ) → 128 < o → o < 255 → o ≡ 128 + left → IsLengthThen f marks deep (o ∷ x) ↔ IsLongThen left 0 marks deep x
-  long_length left lt less e = (
-    long_then left lt e,
+  pub long_length : (missing_len : ℕ) → 128 < o → o < 255 → o ≡ 128 + missing_len → IsLengthThen f marks deep (o ∷ x) ↔ IsLongThen missing_len 0 marks deep x
+  long_length missing_len lt less e = (
+    long_then missing_len lt e,
     (λ h. definite (number_from_digits 256 h.octets) (long (omega (arith, h.size)) (omega (arith, h.size)) h.small refl) h.fits h.contents
         (ap (λ (k : ℕ). k ∷ x) (e ∙ ap (λ (k : ℕ). 128 + k) (sym h.size)) ∙ ap (λ z. (128 + length h.octets) ∷ z) h.joined)),
   )
 
 module _ (marks deep o : ℕ) (x : List ℕ) where
-  long_octet : (left value : ℕ) (octets rest : List ℕ) → length octets ≡ suc left → AllBelowBase 256 octets → number_from_digits_after 256 value octets ≤ 4_294_967_294
-      → IsContentsThen (number_from_digits_after 256 value octets) marks deep rest → o ∷ x ≡ octets ++ rest → IsLongThen left (value * 256 + o) marks deep x
-  long_octet left value [] rest size b fits c j = absurd (omega (arith, size))
-  long_octet left value (d ∷ ds) rest size b fits c j =
+  long_octet : (missing_len value : ℕ) (octets rest : List ℕ) → length octets ≡ suc missing_len → AllBelowBase 256 octets → number_from_digits_after 256 value octets ≤ 4_294_967_294
+      → IsContentsThen (number_from_digits_after 256 value octets) marks deep rest → o ∷ x ≡ octets ++ rest → IsLongThen missing_len (value * 256 + o) marks deep x
+  long_octet missing_len value [] rest size b fits c j = absurd (omega (arith, size))
+  long_octet missing_len value (d ∷ ds) rest size b fits c j =
       let p = cells j in
       let same : d ≡ o = sym p.0 in
       let value_is : value * 256 + d ≡ value * 256 + o = ap (λ (k : ℕ). value * 256 + k) same in
@@ -90,9 +90,9 @@ module _ (marks deep o : ℕ) (x : List ℕ) where
         joined = p.1;
       }
 
-  long_more : (left value : ℕ) → o < 256 → IsLongThen (suc left) value marks deep (o ∷ x) ↔ IsLongThen left (value * 256 + o) marks deep x
-  long_more left value lt = (
-    (λ h. long_octet left value h.octets h.rest h.size h.small h.fits h.contents h.joined),
+  long_more : (missing_len value : ℕ) → o < 256 → IsLongThen (suc missing_len) value marks deep (o ∷ x) ↔ IsLongThen missing_len (value * 256 + o) marks deep x
+  long_more missing_len value lt = (
+    (λ h. long_octet missing_len value h.octets h.rest h.size h.small h.fits h.contents h.joined),
     (λ h. record {
       octets = o ∷ h.octets;
       rest = h.rest;
@@ -104,8 +104,8 @@ module _ (marks deep o : ℕ) (x : List ℕ) where
     }),
   )
 
-  pub long_next : (left value rest next : ℕ) → o < 256 → left ≡ suc rest → next ≡ value * 256 + o → IsLongThen left value marks deep (o ∷ x) ↔ IsLongThen rest next marks deep x
-  long_next left value rest next lt p q =
+  pub long_next : (missing_len value rest next : ℕ) → o < 256 → missing_len ≡ suc rest → next ≡ value * 256 + o → IsLongThen missing_len value marks deep (o ∷ x) ↔ IsLongThen rest next marks deep x
+  long_next missing_len value rest next lt p q =
       subst (λ (k : ℕ). IsLongThen k value marks deep (o ∷ x) ↔ IsLongThen rest next marks deep x) (sym p)
       (subst (λ (k : ℕ). IsLongThen (suc rest) value marks deep (o ∷ x) ↔ IsLongThen rest k marks deep x) (sym q) (long_more rest value lt))
 
@@ -115,8 +115,8 @@ last_parts value marks deep [] rest x size c j = subst (λ z. IsContentsThen val
 last_parts value marks deep (o ∷ os) rest x size c j = absurd (omega (arith, size))
 
 -- after the last octet of a length
-pub long_end : (left value marks deep : ℕ) (x : List ℕ) → left ≡ 0 → value ≤ 4_294_967_294 → IsLongThen left value marks deep x ↔ IsContentsThen value marks deep x
-long_end left value marks deep x z le = (
+pub long_end : (missing_len value marks deep : ℕ) (x : List ℕ) → missing_len ≡ 0 → value ≤ 4_294_967_294 → IsLongThen missing_len value marks deep x ↔ IsContentsThen value marks deep x
+long_end missing_len value marks deep x z le = (
   (λ h. last_parts value marks deep h.octets h.rest x (h.size ∙ z) h.contents h.joined),
   (λ h. record { octets = []; rest = x; size = sym z; small = tt; fits = le; contents = h; joined = refl }),
 )
@@ -129,25 +129,25 @@ after_least value (d ∷ ds) =
     let power : 256 ^ suc (length ds) ≡ 256 * 256 ^ length ds = pow-succ' 256 (length ds) in
     omega (arith, more, after_least (value * 256 + d) ds, ap (λ (k : ℕ). value * k) power)
 
-pub too_long : (left value marks deep : ℕ) (x : List ℕ) → (value * 256 ^ left ≤ 4_294_967_294 → ⊥) → IsLongThen left value marks deep x → ⊥
-too_long left value marks deep x more h =
+pub too_long : (missing_len value marks deep : ℕ) (x : List ℕ) → (value * 256 ^ missing_len ≤ 4_294_967_294 → ⊥) → IsLongThen missing_len value marks deep x → ⊥
+too_long missing_len value marks deep x more h =
     more (subst (λ (k : ℕ). value * 256 ^ k ≤ 4_294_967_294) h.size (omega (arith, after_least value h.octets, h.fits)))
 
 -- a length that fits has further octets below it that fit
-pub long_small : (value left : ℕ) → 0 < left → value * 256 ^ left ≤ 4_294_967_294 → value * 256 ≤ 4_294_967_294
-long_small value left some fits =
-    let power : 256 ^ 1 ≤ 256 ^ left = pow-le-pow_right (lit< tt) some in
+pub long_small : (value missing_len : ℕ) → 0 < missing_len → value * 256 ^ missing_len ≤ 4_294_967_294 → value * 256 ≤ 4_294_967_294
+long_small value missing_len some fits =
+    let power : 256 ^ 1 ≤ 256 ^ missing_len = pow-le-pow_right (lit< tt) some in
     omega (arith, fits, mul-le-mul_left value power)
 
-none_fits : (value left : ℕ) → 4 ≤ left → value * 256 ^ left ≤ 4_294_967_294 → nat_eq value 0 ≡ true
-none_fits zero left four h = refl
-none_fits (suc value) left four h =
-    let power : 256 ^ 4 ≤ 256 ^ left = pow-le-pow_right (lit< tt) four in
-    let large : 256 ^ left ≤ suc value * 256 ^ left = omega arith in
+none_fits : (value missing_len : ℕ) → 4 ≤ missing_len → value * 256 ^ missing_len ≤ 4_294_967_294 → nat_eq value 0 ≡ true
+none_fits zero missing_len four h = refl
+none_fits (suc value) missing_len four h =
+    let power : 256 ^ 4 ≤ 256 ^ missing_len = pow-le-pow_right (lit< tt) four in
+    let large : 256 ^ missing_len ≤ suc value * 256 ^ missing_len = omega arith in
     absurd (omega (arith, power, large, h))
 
-pub fits_none : (value left : ℕ) → 4 ≤ left → IsTrue (nat_eq value 0) ↔ (value * 256 ^ left ≤ 4_294_967_294)
-fits_none value left four = (
-  (λ t. subst (λ (k : ℕ). k * 256 ^ left ≤ 4_294_967_294) (sym (eqb-true value 0 t)) (omega arith)),
-  none_fits value left four,
+pub fits_none : (value missing_len : ℕ) → 4 ≤ missing_len → IsTrue (nat_eq value 0) ↔ (value * 256 ^ missing_len ≤ 4_294_967_294)
+fits_none value missing_len four = (
+  (λ t. subst (λ (k : ℕ). k * 256 ^ missing_len ≤ 4_294_967_294) (sym (eqb-true value 0 t)) (omega arith)),
+  none_fits value missing_len four,
 )

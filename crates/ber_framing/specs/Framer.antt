@@ -30,18 +30,18 @@ pub record IsElementThen (marks deep : ℕ) (x : List ℕ) : Type 0 where
   pub joined : x ≡ element ++ rest
 
 -- this many octets, and then what closes the open elements
-pub record IsContentsThen (left marks deep : ℕ) (x : List ℕ) : Type 0 where
+pub record IsContentsThen (missing_len marks deep : ℕ) (x : List ℕ) : Type 0 where
   pub contents : List ℕ
   pub rest : List ℕ
-  pub size : length contents ≡ left
+  pub size : length contents ≡ missing_len
   pub closes : Closes marks deep rest
   pub joined : x ≡ contents ++ rest
 
--- the last `left` octets of a length, after octets that say `value`, and then its contents and what closes the open elements
-pub record IsLongThen (left value marks deep : ℕ) (x : List ℕ) : Type 0 where
+-- the last `missing_len` octets of a length, after octets that say `value`, and then its contents and what closes the open elements
+pub record IsLongThen (missing_len value marks deep : ℕ) (x : List ℕ) : Type 0 where
   pub octets : List ℕ
   pub rest : List ℕ
-  pub size : length octets ≡ left
+  pub size : length octets ≡ missing_len
   pub small : AllBelowBase 256 octets
   pub fits : number_from_digits_after 256 value octets ≤ 4_294_967_294
   pub contents : IsContentsThen (number_from_digits_after 256 value octets) marks deep rest
@@ -74,10 +74,10 @@ FinishesAt Identifier marks deep x = IsElementThen marks deep x
 FinishesAt BetweenElements marks deep x = Closes marks deep x
 FinishesAt (Number constructed) marks deep x = IsNumberThen constructed marks deep x
 FinishesAt (Length constructed) marks deep x = IsLengthThen constructed marks deep x
-FinishesAt (LongLength long) marks deep x = IsLongThen long.left long.value marks deep x
-FinishesAt (Contents contents) marks deep x = IsContentsThen contents.left marks deep x
+FinishesAt (LongLength long) marks deep x = IsLongThen long.missing_len long.value marks deep x
+FinishesAt (Contents contents) marks deep x = IsContentsThen contents.missing_len marks deep x
 FinishesAt EndOfContents marks deep x = IsMarkThen marks deep x
-FinishesAt (Unframed left) marks deep x = ⊥
+FinishesAt (Unframed missing_len) marks deep x = ⊥
 
 abbrev pub Finishes : Framer → List ℕ → Type 0
 Finishes framer x = FinishesAt framer.stage framer.marks (18_446_744_073_709_551_615 - framer.marks) x

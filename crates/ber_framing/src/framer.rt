@@ -58,17 +58,17 @@ enum Stage {
 /// Further octets of a length, and what those before say.
 #[derive(Clone, Copy, Debug)]
 struct LongLength {
-    left: u8,
+    missing_len: u8,
     value: u32,
-    ghost some: { 0 < left },
-    ghost fits: { value * 256 ^ left ≤ 4_294_967_294 },
+    ghost some: { 0 < missing_len },
+    ghost fits: { value * 256 ^ missing_len ≤ 4_294_967_294 },
 }
 
 /// Octets of an element of definite length.
 #[derive(Clone, Copy, Debug)]
 struct Contents {
-    left: u32,
-    ghost some: { 0 < left },
+    missing_len: u32,
+    ghost some: { 0 < missing_len },
 }
 
 impl Framer {
@@ -115,7 +115,7 @@ impl Framer {
         match self.stage {
             Stage::Unframed(_) => 0,
             Stage::BetweenElements => { if self.marks == 0 { 0 } else { 1 } }
-            Stage::Contents(contents) => contents.left,
+            Stage::Contents(contents) => contents.missing_len,
             _ => 1,
         }
     }
@@ -126,7 +126,7 @@ impl Framer {
         ensures { (b : List ℕ) → IsFed self.now b → (IsUnframed b → ⊥) → result ≡ 0 }
     {
         match self.stage {
-            Stage::Unframed(left) => left,
+            Stage::Unframed(missing_len) => missing_len,
             _ => 0,
         }
     }
@@ -169,8 +169,8 @@ impl Framer {
             self.push(octets[0]);
             return 1;
         };
-        let count = octets.len().min(contents.left as usize);
-        *self = self.contents(contents.left - count as u32);
+        let count = octets.len().min(contents.missing_len as usize);
+        *self = self.contents(contents.missing_len - count as u32);
         count
     }
 
@@ -179,12 +179,12 @@ impl Framer {
         ensures { (x : List ℕ) → Finishes self (octet ∷ x) ↔ Finishes result x }
     {
         match self.stage {
-            Stage::Identifier => self.after_first(octet),
+            Stage::Identifier => self.after_leading_octet(octet),
             Stage::BetweenElements => self.after_between(octet),
             Stage::Number(constructed) => self.after_number(constructed, octet),
             Stage::Length(constructed) => self.after_length(constructed, octet),
             Stage::LongLength(long) => self.after_long(long, octet),
-            Stage::Contents(contents) => self.contents(contents.left - 1),
+            Stage::Contents(contents) => self.contents(contents.missing_len - 1),
             Stage::EndOfContents => self.after_mark(octet),
             Stage::Unframed(_) => self,
         }
@@ -200,20 +200,20 @@ impl Framer {
         }
     }
 
-    /// Before contents of `left` octets.
-    fn contents(self, left: u32) -> Framer
-        ensures { (x : List ℕ) → IsContentsThen left self.marks
+    /// Before contents of `missing_len` octets.
+    fn contents(self, missing_len: u32) -> Framer
+        ensures { (x : List ℕ) → IsContentsThen missing_len self.marks
             (18_446_744_073_709_551_615 - self.marks) x ↔ Finishes result x }
     {
-        if left == 0 {
+        if missing_len == 0 {
             self.at(Stage::BetweenElements)
         } else {
-            self.at(Stage::Contents(Contents { left }))
+            self.at(Stage::Contents(Contents { missing_len }))
         }
     }
 
     /// After the first octet of an element.
-    fn after_first(self, octet: u8) -> Framer
+    fn after_leading_octet(self, octet: u8) -> Framer
         ensures { (x : List ℕ) → IsElementThen self.marks (18_446_744_073_709_551_615 - self.marks)
             (octet ∷ x) ↔ Finishes result x }
     {
@@ -240,7 +240,7 @@ impl Framer {
                 marks: self.marks - 1,
             }
         } else {
-            self.after_first(octet)
+            self.after_leading_octet(octet)
         }
     }
 
@@ -268,7 +268,7 @@ impl Framer {
             },
             128 | 255 => self.at(Stage::Unframed(0)),
             _ => self.at(Stage::LongLength(LongLength {
-                left: octet - 128,
+                missing_len: octet - 128,
                 value: 0,
             })),
         }
@@ -276,17 +276,17 @@ impl Framer {
 
     /// After one octet more of a length.
     fn after_long(self, long: LongLength, octet: u8) -> Framer
-        ensures { (x : List ℕ) → IsLongThen long.left long.value self.marks
+        ensures { (x : List ℕ) → IsLongThen long.missing_len long.value self.marks
             (18_446_744_073_709_551_615 - self.marks) (octet ∷ x) ↔ Finishes result x }
     {
-        let left = long.left - 1;
+        let missing_len = long.missing_len - 1;
         let value = long.value * 256 + u32::from(octet);
-        if !fits(value, left) {
-            self.at(Stage::Unframed(left))
-        } else if left == 0 {
+        if !fits(value, missing_len) {
+            self.at(Stage::Unframed(missing_len))
+        } else if missing_len == 0 {
             self.contents(value)
         } else {
-            self.at(Stage::LongLength(LongLength { left, value }))
+            self.at(Stage::LongLength(LongLength { missing_len, value }))
         }
     }
 
@@ -303,11 +303,11 @@ impl Framer {
     }
 }
 
-/// Tells whether an element is framed by a length whose first octets say `value`, if each of the `left` octets after them is 00.
-fn fits(value: u32, left: u8) -> bool
-    ensures { IsTrue result ↔ (value * 256 ^ left ≤ 4_294_967_294) }
+/// Tells whether an element is framed by a length whose first octets say `value`, if each of the `missing_len` octets after them is 00.
+fn fits(value: u32, missing_len: u8) -> bool
+    ensures { IsTrue result ↔ (value * 256 ^ missing_len ≤ 4_294_967_294) }
 {
-    match left {
+    match missing_len {
         0 => value <= MAX_LENGTH,
         1 => value < 1 << 24,
         2 => value < 1 << 16,

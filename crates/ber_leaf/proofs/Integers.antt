@@ -15,6 +15,7 @@ use Rattle.ber_core.specs.Octets.{are_octets}
 use Rattle.ber_leaf.specs.Leaf.{integer, normal_content, Holds, integer_of, content_fault, big_endian, octet_count, is_padded}
 use Rattle.ber_leaf.specs.code.Sign.{magnitude, sign_octet}
 use Rattle.ber_leaf.specs.Profile.{Profile}
+use Rattle.ber_core.proofs.Lists.{two_cases}
 
 pub and_parts : (a b : Bool) → IsTrue (a && b) → IsTrue a × IsTrue b
 and_parts true b h = (refl, h)
@@ -42,10 +43,6 @@ big_endian-after (d ∷ ds) h j n =
 
 read_back : (ds : List ℕ) → IsTrue (are_octets ds) → big_endian (length ds) (number_from_digits 256 ds) ≡ ds
 read_back ds h = ap (λ (k : ℕ). big_endian k (number_from_digits 256 ds)) (let e : length ds ≡ length ds + 0 = omega arith in e) ∙ big_endian-after ds h 0 0
-
-two_cases : (b : Bool) → (b ≡ true) ⊎ (b ≡ false)
-two_cases true = inl refl
-two_cases false = inr refl
 
 not_padded : (u v : Bool) → (if u then Some LeafFault.BadInteger else (if v then None else Some LeafFault.IntegerTooLong)) ≡ None → (u ≡ false) × (v ≡ true)
 not_padded true v e = absurd cc

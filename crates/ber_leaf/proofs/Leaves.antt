@@ -12,12 +12,7 @@ use Rattle.ber_leaf.proofs.Bits.{content_octets, content_bits, length-content, s
 use Rattle.ber_leaf.proofs.Integers.{integer_same, and_parts}
 use Rattle.ber_leaf.specs.Bits.{cleared_content}
 
--- numbers below 256, one by one, are octets
-pub octets_fit : (a : List ℕ) → ((i : ℕ) → get_or a i 0 < 256) → IsTrue (are_octets a)
-octets_fit [] h = refl
-octets_fit (x ∷ a) h = let l : x < 256 = h 0 in let q : nat_lt x 256 ≡ true = grind arith in rw q (octets_fit a (λ i. h (suc i)))
-
--- and so are those of a vector
+-- the numbers of a vector that are below 256 are octets
 pub items_are_octets : (a : List ℕ) → ((i d : ℕ) → i < length a → get_or a i d < 256) → IsTrue (are_octets a)
 items_are_octets [] h = refl
 items_are_octets (x ∷ a) h =

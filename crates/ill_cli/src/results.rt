@@ -57,11 +57,7 @@ impl<V: Sink, S: Write + Drop, F: Write + Drop> WriteRefused<'_, V, S, F> {
     fn write(&mut self, report: RefusalReport, octets: &[u8]) -> Result<(), RunFault> {
         let mut buffer = Vec::new(self.alloc);
         std::mem::swap(&mut buffer, &mut self.buffer);
-        let refused = line_of(self.alloc, self.work, report, octets, buffer);
-        let RefusedLine { line, kind } = match refused {
-            Ok(refused) => refused,
-            Err(AllocError) => return Err(RunFault::OutOfMemory),
-        };
+        let RefusedLine { line, kind } = line_of(self.alloc, self.work, report, octets, buffer)?;
         if kind == RefusalKind::NotRead {
             self.not_read = self.not_read.saturating_add(1);
         }

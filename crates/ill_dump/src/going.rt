@@ -77,7 +77,7 @@ fn go_on<R: Source, L: Lookahead<R>, W: Sink, T: ReportRefusals>(
     };
     let mut out = DumpSink::new(alloc, dump.format);
     let mut reader = NormalReader::new(alloc);
-    let mut kept = Vec::new(alloc);
+    let mut recorded = Vec::new(alloc);
     let mut buffer = Vec::new(alloc);
     let mut refused = 0;
     let mut offset: u64 = 0;
@@ -96,7 +96,7 @@ fn go_on<R: Source, L: Lookahead<R>, W: Sink, T: ReportRefusals>(
             &mut reader,
             position,
             source,
-            &mut kept,
+            &mut recorded,
             buffer,
         ) {
             Ok(Some(next)) => next,
@@ -105,14 +105,14 @@ fn go_on<R: Source, L: Lookahead<R>, W: Sink, T: ReportRefusals>(
         };
         match next {
             NextMessage::Read(piece) => {
-                put_message(alloc, dump, message, &kept, &piece.text, &mut out, sink)?;
+                put_message(alloc, dump, message, &recorded, &piece.text, &mut out, sink)?;
                 offset = offset.saturating_add(u64::from(piece.octets));
                 buffer = piece.text;
             }
             NextMessage::Refused { refusal, end } => {
-                put_refused(alloc, dump, message, &kept, refusal, &mut out, sink)?;
+                put_refused(alloc, dump, message, &recorded, refusal, &mut out, sink)?;
                 refused += 1;
-                reports.report(RefusalReport::new(position, refusal, end), &kept);
+                reports.report(RefusalReport::new(position, refusal, end), &recorded);
                 let Some(octets) = end else {
                     return Ok(counts_of(message, refused));
                 };

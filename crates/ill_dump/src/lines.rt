@@ -4,10 +4,9 @@ ghost use Rattle.std.specs.List.{flat_map};
 ghost use Rattle.ill_dump.specs.Markup.{escape, shown_in};
 
 use crate::markup::{DumpFormat, reference};
+use ill_schema::hexadecimal_digits;
 use itoa::Buffer;
 use std::alloc::{AllocError, Global};
-
-const DIGITS: &[u8; 16] = b"0123456789abcdef";
 
 /// The width of the offset of an element, in characters.
 const OCTETS_COLUMN: usize = 7;
@@ -119,9 +118,7 @@ impl LineBuffer {
 
     /// An octet in hexadecimal.
     pub fn octet(&mut self, octet: u8) -> Result<(), AllocError> {
-        let high = DIGITS[(octet / 16) as usize];
-        let low = DIGITS[(octet % 16) as usize];
-        self.octets.extend_from_slice(&[high, low])
+        self.octets.extend_from_slice(&hexadecimal_digits(octet))
     }
 
     /// Octets of a string in quotation marks; those that are no visible character of ASCII are escaped.

@@ -79,17 +79,6 @@ fn send<W: Sink>(lines: &mut LineBuffer, written: &mut u128, sink: &mut W) -> Re
     }
 }
 
-/// Turns a result of memory into a fault of the job.
-fn or_out_of_memory<T: Drop>(or_out_of_memory: Result<T, AllocError>) -> Result<T, RunFault>
-    ensures same { IfOk result (λ value. or_out_of_memory ≡ Ok value) }
-    ensures memory { IfErr result (λ fault. fault ≡ RunFault.OutOfMemory) }
-{
-    match or_out_of_memory {
-        Ok(or_out_of_memory) => Ok(or_out_of_memory),
-        Err(AllocError) => Err(RunFault::OutOfMemory),
-    }
-}
-
 /// Writes the lines of a message, if it is one of those that are written.
 pub fn put_message<W: Sink>(
     alloc: Global,
@@ -158,11 +147,11 @@ fn put_accepted<W: Sink>(
     ensures writes { IfErr result (λ fault. fault ≢ RunFault.ReadFault) }
     ensures stays { IsTrue (W.is_broken sink.old) → IsTrue (W.is_broken sink.new) }
 {
-    or_out_of_memory(put_head(dump, message, &mut out.head))?;
-    or_out_of_memory(put_check(dump, octets, normal, &mut out.lines))?;
+    put_head(dump, message, &mut out.head)?;
+    put_check(dump, octets, normal, &mut out.lines)?;
     let mut walk = ElementWalk::new(alloc, dump.profile, octets.len());
     put_elements(&mut walk, octets, out, sink)?;
-    or_out_of_memory(out.lines.tags(END_OF_MESSAGE))?;
+    out.lines.tags(END_OF_MESSAGE)?;
     out.put(sink)
 }
 
@@ -184,13 +173,13 @@ fn put_place<W: Sink>(
     ensures writes { IfErr result (λ fault. fault ≢ RunFault.ReadFault) }
     ensures stays { IsTrue (W.is_broken sink.old) → IsTrue (W.is_broken sink.new) }
 {
-    or_out_of_memory(put_head(dump, message, &mut out.head))?;
-    or_out_of_memory(put_refused_line(&mut out.lines))?;
+    put_head(dump, message, &mut out.head)?;
+    put_refused_line(&mut out.lines)?;
     let mut walk = ElementWalk::new(alloc, dump.profile, refusal.at as usize);
     put_elements(&mut walk, octets, out, sink)?;
-    or_out_of_memory(refusal::put_lines(alloc, &mut out.lines, &walk, octets, refusal))?;
+    refusal::put_lines(alloc, &mut out.lines, &walk, octets, refusal)?;
     put_rest(&walk, octets, refusal, out, sink)?;
-    or_out_of_memory(out.lines.tags(END_OF_MESSAGE))?;
+    out.lines.tags(END_OF_MESSAGE)?;
     out.put(sink)
 }
 
@@ -213,10 +202,11 @@ fn put_rest<W: Sink>(
     if refusal.cause == Cause::NormalTooLong {
         return Ok(());
     }
-    let mut rest = or_out_of_memory(UnjudgedWalk::from_place(walk, refusal.at as usize))?;
-    or_out_of_memory(out.lines.tags("<div class=\"rest\">"))?;
+    let mut rest = UnjudgedWalk::from_place(walk, refusal.at as usize)?;
+    out.lines.tags("<div class=\"rest\">")?;
     put_elements(&mut rest, octets, out, sink)?;
-    or_out_of_memory(out.lines.tags("</div>"))
+    out.lines.tags("</div>")?;
+    Ok(())
 }
 
 /// Writes the lines of the elements on a way through them.
@@ -234,7 +224,7 @@ fn put_elements<S: Steps, W: Sink>(
     ensures stays { IsTrue (W.is_broken sink.old) → IsTrue (W.is_broken sink.new) }
 {
     for _ in 0..=octets.len() {
-        if !or_out_of_memory(walk.step(octets, &mut out.lines))? {
+        if !walk.step(octets, &mut out.lines)? {
             return Ok(());
         }
         if out.lines.octets.len() >= FLUSH_AT {

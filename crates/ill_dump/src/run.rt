@@ -110,24 +110,32 @@ fn dump_messages<R: Source, L: Lookahead<R>, W: Sink>(
 {
     let mut out = DumpSink::new(alloc, dump.format);
     let mut reader = NormalReader::new(alloc);
-    let mut kept = Vec::new(alloc);
+    let mut recorded = Vec::new(alloc);
     let mut buffer = Vec::new(alloc);
     for before in 0..MAX_MESSAGES {
         if dump.is_enough(before) {
             return Ok(before);
         }
         let message = before + 1;
-        kept.clear();
-        let read = reader.read_recording_as::<R, L>(dump.profile, source, buffer, &mut kept);
+        recorded.clear();
+        let read = reader.read_recording_as::<R, L>(dump.profile, source, buffer, &mut recorded);
         match read {
             Ok(Some(normal)) => {
-                put_message(alloc, dump, message, &kept, &normal.octets, &mut out, sink)?;
+                put_message(
+                    alloc,
+                    dump,
+                    message,
+                    &recorded,
+                    &normal.octets,
+                    &mut out,
+                    sink,
+                )?;
                 buffer = normal.octets;
             }
             Ok(None) => return Ok(before),
             Err(failure) => {
                 return Err(put_failure(
-                    alloc, dump, message, source, kept, failure, &mut out, sink,
+                    alloc, dump, message, source, recorded, failure, &mut out, sink,
                 ));
             }
         }
@@ -148,7 +156,7 @@ fn put_failure<R: Source, W: Sink>(
     dump: DumpOptions<'_>,
     message: u32,
     source: &mut R,
-    kept: Vec<u8>,
+    recorded: Vec<u8>,
     failure: ReadFailure,
     out: &mut DumpSink,
     sink: &mut W,
@@ -167,7 +175,7 @@ fn put_failure<R: Source, W: Sink>(
         ReadFailure::OutOfMemory => return RunFault::OutOfMemory,
         ReadFailure::ReadFault => return RunFault::ReadFault,
     };
-    let mut octets = kept;
+    let mut octets = recorded;
     if dump.is_chosen(message) && take_rest(source, &mut octets).is_err() {
         return RunFault::OutOfMemory;
     }

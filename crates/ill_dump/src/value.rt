@@ -1,26 +1,11 @@
 //! The values of leaves.
 use crate::lines::LineBuffer;
 use ber_leaf::{BitString, Leaf, ObjectIdentifier};
-use ill_grammar::ElementType;
+use ill_grammar::{Element, ModuleLeaf};
 use ill_json::add_identifier;
 use ill_read::{LeafType, Mark};
 use ill_schema::{PartId, Profile, Value, is_default, row};
 use std::alloc::{AllocError, Global};
-
-/// The type of a leaf; None for what is no leaf.
-pub fn leaf_type(element_type: ElementType) -> Option<LeafType> {
-    match element_type {
-        ElementType::Boolean => Some(LeafType::Boolean),
-        ElementType::Integer => Some(LeafType::Integer),
-        ElementType::Enumerated => Some(LeafType::Enumerated),
-        ElementType::General => Some(LeafType::General),
-        ElementType::Visible => Some(LeafType::Visible),
-        ElementType::Printable => Some(LeafType::Printable),
-        ElementType::Date => Some(LeafType::Date),
-        ElementType::Time => Some(LeafType::Time),
-        _ => None,
-    }
-}
 
 /// The value of a leaf with this content, and whether it is the default of its row.
 pub fn put_leaf(
@@ -70,34 +55,28 @@ fn put_value(
     }
 }
 
-/// Tells whether a constructed element is a string in segments.
-pub fn is_string(element_type: ElementType) -> bool {
-    match element_type {
-        ElementType::OctetString | ElementType::BitString | ElementType::ObjectDescriptor => true,
-        _ => leaf_type(element_type).is_some(),
-    }
-}
-
 /// The content of a primitive element that is no leaf of profile 2.
 pub fn put_module_leaf(
     lines: &mut LineBuffer,
     alloc: Global,
-    element_type: ElementType,
+    element: Element,
     content: &[u8],
 ) -> Result<(), AllocError> {
-    match element_type {
-        ElementType::Null if content.is_empty() => lines.text("NULL"),
-        ElementType::ObjectIdentifier if ObjectIdentifier::check(content).is_none() => {
+    match element {
+        Element::ModuleLeaf(ModuleLeaf::Null) if content.is_empty() => lines.text("NULL"),
+        Element::ModuleLeaf(ModuleLeaf::ObjectIdentifier)
+            if ObjectIdentifier::check(content).is_none() => {
             put_identifier(lines, alloc, content)
         }
-        ElementType::BitString | ElementType::BitSegment if BitString::check(content).is_none() => {
+        Element::BitString | Element::BitSegment if BitString::check(content).is_none() => {
             put_bits(lines, content)
         }
-        ElementType::Null
-        | ElementType::ObjectIdentifier
-        | ElementType::BitString
-        | ElementType::BitSegment => { lines.hex(content) }
-        ElementType::OctetString | ElementType::Foreign => lines.content(content),
+        Element::ModuleLeaf(ModuleLeaf::Null | ModuleLeaf::ObjectIdentifier)
+        | Element::BitString
+        | Element::BitSegment => lines.hex(content),
+        Element::ModuleLeaf(ModuleLeaf::OctetString) | Element::Foreign(_) => {
+            lines.content(content)
+        }
         _ => lines.quoted(content),
     }
 }

@@ -3,27 +3,24 @@ use crate::found::{ElementStart, read_start};
 use crate::label::{Label, label_of};
 use crate::lines::LineBuffer;
 use crate::note::DerNotes;
-use crate::value::{has_unused_bits_set, is_string, leaf_type, put_leaf, put_module_leaf};
+use crate::value::{has_unused_bits_set, put_leaf, put_module_leaf};
 use ber_core::{Header, Len};
-use ill_grammar::{ElementType, Found, Place};
-use ill_schema::{LIMIT, Profile};
+use ill_grammar::{Element, Found, Frames, Place};
+use ill_read::{ElementReader, LeafType};
+use ill_schema::Profile;
 use std::alloc::{AllocError, Global};
 
-/// An element that is open.
+/// An element that is open, beside its frame.
 #[derive(Clone, Copy)]
 struct OpenElement {
-    /// The place in it that was reached.
-    place: Place,
     label: Label,
-    /// The offset of its end, if its length says so.
-    end: Option<usize>,
     /// The number of elements that it has so far.
     items: usize,
 }
 
 /// A way through elements.
 pub trait Steps: Drop {
-    /// Makes the line of the next element or end mark, if there is one. Returns whether there was one.
+    /// Makes the line of the next element or end mark, if there is one. Returns whether another one may follow.
     fn step(&mut self, octets: &[u8], lines: &mut LineBuffer) -> Result<bool, AllocError>;
 }
 
@@ -31,9 +28,9 @@ pub trait Steps: Drop {
 #[derive(Drop)]
 pub struct ElementWalk {
     alloc: Global,
-    profile: Profile,
+    reader: ElementReader,
+    /// The open elements, innermost last: one for each frame of the reader.
     open: Vec<OpenElement>,
-    at: usize,
     /// The offset from which on no element is begun.
     stop: usize,
 }
@@ -54,33 +51,42 @@ impl ElementWalk {
     pub fn new(alloc: Global, profile: Profile, stop: usize) -> ElementWalk {
         ElementWalk {
             alloc,
-            profile,
+            reader: ElementReader::new(alloc, profile),
             open: Vec::new(alloc),
-            at: 0,
             stop,
         }
+    }
+
+    /// The frames of the open elements, innermost last.
+    fn frames(&self) -> &Frames {
+        self.reader.frames()
+    }
+
+    /// The offset that it has reached.
+    fn offset(&self) -> usize {
+        self.reader.offset() as usize
     }
 
     /// The offsets where the open elements end, the outermost one first; None for one that an end mark closes.
     pub fn ends(&self) -> Result<Vec<Option<usize>>, AllocError> {
         let mut ends = Vec::new(self.alloc);
-        for open in self.open.as_slice() {
-            ends.push(open.end)?;
+        for frame in self.frames().open.as_slice() {
+            ends.push(match frame.end {
+                Some(end) => Some(end as usize),
+                None => None,
+            })?;
         }
         Ok(ends)
     }
 
-    /// The offset where the next element may begin, once what ended there is closed.
+    /// The place in the innermost element, or that of a message.
     pub fn place(&self) -> Place {
-        match self.open.as_slice().last() {
-            Some(open) => open.place,
-            None => Place::top_of(self.profile),
-        }
+        self.frames().place()
     }
 
     /// The profile that the message is read in.
     pub fn profile(&self) -> Profile {
-        self.profile
+        self.frames().profile
     }
 
     /// The number of elements that the innermost one has so far.
@@ -93,18 +99,12 @@ impl ElementWalk {
 
     /// Tells whether an element is open.
     pub fn is_inside(&self) -> bool {
-        !self.open.is_empty()
+        self.frames().depth() > 0
     }
 
     /// The offset that no octet of the next element may reach.
     pub fn bound(&self) -> usize {
-        let mut bound = LIMIT as usize;
-        for open in self.open.as_slice() {
-            if let Some(end) = open.end {
-                bound = end;
-            }
-        }
-        bound
+        self.frames().bound() as usize
     }
 
     /// The names of the open elements, with points between them. Returns whether there are any.
@@ -125,9 +125,8 @@ impl ElementWalk {
     /// Closes the elements that end here, but for one in which something is missing.
     fn close_ended(&mut self, lines: &mut LineBuffer) -> Result<(), AllocError> {
         for _ in 0..self.open.len() {
-            match self.open.as_slice().last() {
-                Some(open) if open.end == Some(self.at) && !open.place.is_missing() => {}
-                _ => break,
+            if !self.frames().ends_at(self.reader.offset()) || self.reader.step(&[]).is_none() {
+                return Ok(());
             }
             let _ = self.open.pop();
             lines.close()?;
@@ -143,21 +142,18 @@ impl ElementWalk {
         Ok(())
     }
 
-    fn awaits_end_mark(&self) -> bool {
-        match self.open.as_slice().last() {
-            Some(open) => open.end.is_none(),
-            None => false,
+    /// The line of an end mark, which the octets begin with. Returns whether another line may follow.
+    fn end_mark(&mut self, rest: &[u8], lines: &mut LineBuffer) -> Result<bool, AllocError> {
+        let at = self.offset();
+        if self.reader.step(rest).is_none() {
+            return Ok(false);
         }
-    }
-
-    /// The line of an end mark.
-    fn end_mark(&mut self, lines: &mut LineBuffer) -> Result<(), AllocError> {
         let _ = self.open.pop();
         lines.close()?;
-        lines.begin_element(self.at, self.open.len(), false)?;
+        lines.begin_element(at, self.open.len(), false)?;
         lines.text("00 00  end mark")?;
-        self.at = self.at.saturating_add(2);
-        lines.end_element(&[], false)
+        lines.end_element(&[], false)?;
+        Ok(true)
     }
 
     /// The element that a header begins, if one is due.
@@ -183,7 +179,7 @@ impl ElementWalk {
         lines: &mut LineBuffer,
     ) -> Result<(), AllocError> {
         let is_round = element.header.id.constructed();
-        lines.begin_element(self.at, self.open.len(), is_round)?;
+        lines.begin_element(self.offset(), self.open.len(), is_round)?;
         let header = rest.get(..element.size).unwrap_or(&[]);
         let (id, len) = header.split_at(element.id_size.min(header.len()));
         lines.header(element.header.id.class(), id, len)?;
@@ -200,7 +196,7 @@ impl ElementWalk {
         }
         notes.end(lines)?;
         let content = rest
-            .get(element.size..element.end_from(0).min(rest.len()))
+            .get(element.size..element.end().min(rest.len()))
             .unwrap_or(&[]);
         lines.end_element(if is_round { &[] } else { content }, is_round)
     }
@@ -212,13 +208,14 @@ impl ElementWalk {
         lines: &mut LineBuffer,
         notes: &mut DerNotes,
     ) -> Result<(), AllocError> {
-        match element.found.element_type() {
-            ElementType::Segment => notes.note(lines, "segment"),
-            ElementType::LooseWrapper if self.is_bare(element, octets) => {
+        match Element::of(element.found) {
+            Element::Segment | Element::BitSegment => notes.note(lines, "segment"),
+            Element::LooseWrapper(_) if self.is_bare(element, octets) => {
                 notes.note(lines, "without inner SEQUENCE")
             }
-            ElementType::BitSegment => notes.note(lines, "segment"),
-            element_type if is_string(element_type) => notes.note(lines, "in segments"),
+            Element::Leaf(_) | Element::ModuleLeaf(_) | Element::BitString => {
+                notes.note(lines, "in segments")
+            }
             _ => Ok(()),
         }
     }
@@ -228,7 +225,7 @@ impl ElementWalk {
         if element.header.len == Len::Definite(0) {
             return true;
         }
-        let next = self.at.saturating_add(element.size);
+        let next = self.offset().saturating_add(element.size);
         match octets.get(next) {
             Some(octet) => next < self.stop && *octet != 0x30,
             None => false,
@@ -237,37 +234,37 @@ impl ElementWalk {
 
     fn put_primitive(
         &self,
-        element: WalkedElement,
+        walked: WalkedElement,
         rest: &[u8],
         lines: &mut LineBuffer,
         notes: &mut DerNotes,
     ) -> Result<(), AllocError> {
-        let length = element.size.saturating_sub(element.id_size);
-        let Some(content) = rest.get(element.size..element.end_from(0)) else {
-            notes.length(lines, element.header.len, length)?;
+        let length = walked.size.saturating_sub(walked.id_size);
+        let Some(content) = rest.get(walked.size..walked.end()) else {
+            notes.length(lines, walked.header.len, length)?;
             return notes.note(lines, "cut short");
         };
         lines.text(" = ")?;
         lines.tags("<span class=\"value\">")?;
-        let element_type = element.found.element_type();
-        let is_default = match leaf_type(element_type) {
-            Some(leaf) => put_leaf(lines, self.alloc, leaf, element.found.part(), content)?,
-            None => {
-                put_module_leaf(lines, self.alloc, element_type, content)?;
+        let element = Element::of(walked.found);
+        let is_default = match element {
+            Element::Leaf(leaf) => {
+                put_leaf(lines, self.alloc, leaf, walked.found.part(), content)?
+            }
+            _ => {
+                put_module_leaf(lines, self.alloc, element, content)?;
                 false
             }
         };
         lines.tags("</span>")?;
-        notes.length(lines, element.header.len, length)?;
-        match element_type {
-            ElementType::Segment | ElementType::BitSegment => notes.note(lines, "segment")?,
-            ElementType::Boolean => notes.flag(lines, content)?,
+        notes.length(lines, walked.header.len, length)?;
+        match element {
+            Element::Segment | Element::BitSegment => notes.note(lines, "segment")?,
+            Element::Leaf(LeafType::Boolean) => notes.flag(lines, content)?,
             _ => {}
         }
-        if matches!(
-            element_type,
-            ElementType::BitString | ElementType::BitSegment
-        ) && has_unused_bits_set(content)
+        if matches!(&element, Element::BitString | Element::BitSegment)
+            && has_unused_bits_set(content)
         {
             notes.note(lines, "unused bits are not 0")?;
         }
@@ -277,59 +274,53 @@ impl ElementWalk {
         Ok(())
     }
 
-    /// Goes on after a primitive element, at most to the end of the input, or into one that is constructed.
-    fn pass(&mut self, element: WalkedElement, octets: usize) -> Result<(), AllocError> {
+    /// Goes on after a primitive element, or into one that is constructed. Returns whether the octets reach that far.
+    fn pass(&mut self, element: WalkedElement, rest: &[u8]) -> Result<bool, AllocError> {
         let last = self.open.len().saturating_sub(1);
         if let Some(open) = self.open.get_mut(last) {
-            open.place = element.found.after();
             open.items = open.items.saturating_add(1);
         }
-        if !element.header.id.constructed() {
-            self.at = element.end_from(self.at).min(octets);
-            return Ok(());
+        let depth = self.frames().depth();
+        if self.reader.step(rest).is_none() {
+            return Ok(false);
         }
-        let end = match element.header.len {
-            Len::Definite(_) => Some(element.end_from(self.at)),
-            Len::Indefinite => None,
-        };
-        self.at = self.at.saturating_add(element.size);
-        self.open.extend_from_slice(&[OpenElement {
-            place: element.found.first(),
-            label: element.label,
-            end,
-            items: 0,
-        }])
+        if self.frames().depth() > depth {
+            self.open.push(OpenElement {
+                label: element.label,
+                items: 0,
+            })?;
+        }
+        Ok(true)
     }
 }
 
 impl Steps for ElementWalk {
     fn step(&mut self, octets: &[u8], lines: &mut LineBuffer) -> Result<bool, AllocError> {
         self.close_ended(lines)?;
-        if self.at >= self.stop {
+        let at = self.offset();
+        if at >= self.stop {
             return Ok(false);
         }
-        let Some(rest) = octets.get(self.at..) else {
+        let Some(rest) = octets.get(at..) else {
             return Ok(false);
         };
-        if self.awaits_end_mark() && matches!(rest, [0, 0, ..]) {
-            self.end_mark(lines)?;
-            return Ok(true);
+        if self.frames().awaits_end_mark() && matches!(rest, [0, 0, ..]) {
+            return self.end_mark(rest, lines);
         }
         let Some(element) = self.element(read_start(rest)) else {
             return Ok(false);
         };
         self.put_element(element, octets, rest, lines)?;
-        self.pass(element, octets.len())?;
-        Ok(true)
+        self.pass(element, rest)
     }
 }
 
 impl WalkedElement {
-    /// The offset of its end, if it begins there and its length is definite.
-    fn end_from(self, at: usize) -> usize {
+    /// The number of octets that it has, or its header where its length is indefinite.
+    fn end(self) -> usize {
         match self.header.len {
-            Len::Definite(size) => at.saturating_add(self.size).saturating_add(size as usize),
-            Len::Indefinite => at.saturating_add(self.size),
+            Len::Definite(size) => self.size.saturating_add(size as usize),
+            Len::Indefinite => self.size,
         }
     }
 }

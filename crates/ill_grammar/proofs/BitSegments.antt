@@ -49,9 +49,9 @@ join_assoc (u ∷ os) (v ∷ ps) (w ∷ qs) = go (nat_eq u 0) (nat_eq v 0) (is_b
     apart : (b c : Bool) → b ≡ false → (b && c) ≡ false
     apart b c e = ap (λ x. x && c) e
 
-    at_end : (b c : Bool) → c ≡ false → (b && c) ≡ false
-    at_end true c e = e
-    at_end false c e = refl
+    ended : (b c : Bool) → c ≡ false → (b && c) ≡ false
+    ended true c e = e
+    ended false c e = refl
 
     with_none : join_bits (u ∷ os) (join_bits (v ∷ ps) (w ∷ qs)) ≡ join_bits (u ∷ os) no_bits → (d : Bool) → (nat_eq u 0 && is_bits (v ∷ ps)) ≡ d → (d ≡ true → (nat_eq v 0 && is_bits (w ∷ qs)) ≡ false)
         → join_bits (u ∷ os) (join_bits (v ∷ ps) (w ∷ qs)) ≡ join_bits (join_bits (u ∷ os) (v ∷ ps)) (w ∷ qs)
@@ -64,7 +64,7 @@ join_assoc (u ∷ os) (v ∷ ps) (w ∷ qs) = go (nat_eq u 0) (nat_eq v 0) (is_b
         let last : join_bits (v ∷ ps) (w ∷ qs) ≡ w ∷ ps ++ qs = pair v w ps qs true (ap₂ ◌&&◌ y z) in
         ap (join_bits (u ∷ os)) last ∙ pair u w os (ps ++ qs) true (ap₂ ◌&&◌ x (bits_behind w ps qs z)) ∙ ap (λ rest. w ∷ rest) (sym (append_assoc os ps qs))
         ∙ sym (ap (λ a. join_bits a (w ∷ qs)) first ∙ pair v w (os ++ ps) qs true (ap₂ ◌&&◌ y z))
-    go true true false x y z = with_none (ap (join_bits (u ∷ os)) (pair v w ps qs false (at_end (nat_eq v 0) _ z))) _ refl (λ d. at_end (nat_eq v 0) _ z)
+    go true true false x y z = with_none (ap (join_bits (u ∷ os)) (pair v w ps qs false (ended (nat_eq v 0) _ z))) _ refl (λ d. ended (nat_eq v 0) _ z)
     go true false z' x y z = with_none (ap (join_bits (u ∷ os)) (pair v w ps qs false (apart (nat_eq v 0) _ y))) _ refl (λ d. apart (nat_eq v 0) _ y)
     go false y' z' x y z =
         never (join_bits (v ∷ ps) (w ∷ qs)) ∙ sym (ap (λ a. join_bits a (w ∷ qs)) (pair u v os ps false (apart (nat_eq u 0) _ x)) ∙ join_none (w ∷ qs))

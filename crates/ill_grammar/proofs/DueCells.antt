@@ -18,7 +18,7 @@ use Rattle.ill_schema.specs.Tagging.{same_tag, sequence_tag}
 use Rattle.ill_refusals.specs.Element.{Component, Element, Start, components, list, own_starts, sequence, start, starts}
 use Rattle.ill_refusals.specs.Next as next
 use Rattle.ill_refusals.specs.Next.{part, octets, any, rows, items, due, due_in, element_of, start_of}
-use Rattle.ill_refusals.proofs.Rows.{two_cases}
+use Rattle.ber_core.proofs.Lists.{two_cases}
 use Rattle.ill_grammar.specs.Cells as cells
 use Rattle.ill_grammar.specs.Cells.{BeginsDue, is_strict, levels_in, wrapped}
 use Rattle.ill_grammar.specs.Places.{IsAtRow, IsDue, PlaceView, due_of, element_found, next_at, node_in, node_of, part_in, part_of, place_after, row_of, slot_of, type_of}

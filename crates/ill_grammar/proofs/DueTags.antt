@@ -23,7 +23,8 @@ use Rattle.ill_schema.specs.declared.part.Presence.{Presence}
 use Rattle.ill_schema.specs.declared.part.Row.{Row}
 use Rattle.ill_schema.proofs.Tags.{at_row}
 use Rattle.ill_refusals.specs.Element.{Component, Element, foreign, leaf, segment, Start, own_starts, retag, leave_out, tagged_starts, component_starts}
-use Rattle.ill_refusals.proofs.Rows.{same_tag-is, two_cases}
+use Rattle.ill_refusals.proofs.Rows.{same_tag-is}
+use Rattle.ber_core.proofs.Lists.{two_cases}
 use Rattle.ill_grammar.specs.Elements.{component_of, component_at, element_is, element_with, found_is}
 use Rattle.ill_grammar.specs.Cells.{Begins}
 use Rattle.ill_grammar.specs.Due.{Due, IsDueIn, IsDueInRows, IsRowDue}

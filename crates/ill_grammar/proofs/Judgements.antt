@@ -25,24 +25,24 @@ use Rattle.ill_grammar.specs.code.Judging.{IsFormed, judge_identified, unexpecte
 use Rattle.ill_grammar.specs.code.Judging.{IsBegin, IsEnd, IsExtent, content_in}
 use Rattle.ill_refusals.specs.Next.{Due, due, element_of, is_last, missing}
 use Rattle.ill_refusals.specs.Place.{Open, next_in, bound, innermost_end}
-use Rattle.ill_refusals.specs.Reading.{IdentifierRead, identified, part_identifier, no_identifier, read_identifier, read_number, tagged, definite, read_length}
+use Rattle.ber_core.specs.Reading.{IdentifierRead, identified, part_identifier, no_identifier, read_identifier, read_number, tagged, definite, read_length}
 use Rattle.ill_grammar.specs.Standing.{StandsAt, next_at}
 use Rattle.ill_grammar.specs.Due.{Due as CodeDue}
 use Rattle.ill_grammar.specs.Begun.{Begun}
-use Rattle.ill_grammar.specs.HeaderCode.{IsLengthRead, IsWholeLength}
+use Rattle.ber_core.specs.HeaderRead.{IsLengthRead, IsWholeLength}
 use Rattle.ill_grammar.specs.declared.due.Next.{Next}
 use Rattle.ill_grammar.specs.declared.due.Next.TheVariants.{Rows, Inner, Items, Either, Segments, BitSegments, Root, Foreigns, Nothing}
 use Rattle.ill_refusals.specs.Element.{Component, components}
 use Rattle.ill_refusals.specs.Next as following
 use Rattle.ill_grammar.specs.declared.frames.Frames.{Frames}
-use Rattle.ill_grammar.specs.declared.header.LengthRead.{LengthRead}
-use Rattle.ill_grammar.specs.declared.header.LengthRead.TheVariants.{Whole}
+use Rattle.ber_core.specs.declared.header_read.LengthRead.{LengthRead}
+use Rattle.ber_core.specs.declared.header_read.LengthRead.TheVariants.{Whole}
 use Rattle.ill_grammar.specs.declared.judge.Extent.{Extent}
 use Rattle.ill_grammar.proofs.DueCells.{begins-at}
 use Rattle.ill_grammar.proofs.DueElements.{due_element_is, due_more}
 use Rattle.ill_grammar.proofs.OpenFrames.{next_open}
 use Rattle.ill_refusals.proofs.Judgements.{form_judged, length_body}
-use Rattle.ill_refusals.proofs.Headers.{octets_right, read_is_length}
+use Rattle.ber_core.proofs.ReadOctets.{octets_right, read_is_length}
 
 abbrev end_body : (p : Named) → Open → List Open → ℕ → ℕ → Option PartId → Judgement
 end_body p o path at marks x = elim x as (λ _. Judgement) [

@@ -17,7 +17,6 @@ pub mod NormalLeaves
 pub mod Defaults
 pub mod NormalElements
 pub mod NormalEntries
-pub mod HeadersRead
 pub mod OpenFrames
 pub mod OfTwo
 pub mod BitSegments

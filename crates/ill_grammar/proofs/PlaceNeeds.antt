@@ -11,15 +11,15 @@ use Rattle.ber_leaf.specs.Profile.{Profile, profile_two}
 use Rattle.ill_refusals.proofs.FirstFault.{is_judged}
 use Rattle.ill_grammar.specs.declared.frames.Frames.{Frames}
 use Rattle.ill_grammar.specs.Standing.{StandsLast, StandsAt}
-use Rattle.ill_grammar.specs.HeaderCode.{IsHeaderRead, IsLengthRead, need_read}
+use Rattle.ber_core.specs.HeaderRead.{IsHeaderRead, IsLengthRead}
 use Rattle.ill_grammar.specs.code.Judging.{outermost_end}
-use Rattle.ill_grammar.specs.Need.{outermost, in_mark, NeedsOfLength, NeedsOfElement, NeedsAfterMark, NeedsBefore, IsNeed}
+use Rattle.ill_grammar.specs.Need.{outermost, in_mark, NeedsOfLength, NeedsOfElement, NeedsAfterMark, NeedsBefore, IsNeed, need_read}
 use Rattle.ill_refusals.specs.Place.{Open, bound, IsPlace}
-use Rattle.ill_refusals.specs.Reading.{identified, part_identifier, no_identifier, read_identifier, definite, indefinite, part_length, no_length, read_length}
-use Rattle.ill_grammar.specs.declared.header.HeaderRead.{HeaderRead}
-use Rattle.ill_grammar.specs.declared.header.HeaderRead.TheVariants.{NoIdentifier, PartIdentifier, Identified}
-use Rattle.ill_grammar.specs.declared.header.LengthRead.{LengthRead as Length}
-use Rattle.ill_grammar.specs.declared.header.LengthRead.TheVariants.{NoLength, PartLength, Whole}
+use Rattle.ber_core.specs.Reading.{identified, part_identifier, no_identifier, read_identifier, definite, indefinite, part_length, no_length, read_length}
+use Rattle.ber_core.specs.declared.header_read.HeaderRead.{HeaderRead}
+use Rattle.ber_core.specs.declared.header_read.HeaderRead.TheVariants.{NoIdentifier, PartIdentifier, Identified}
+use Rattle.ber_core.specs.declared.header_read.LengthRead.{LengthRead as Length}
+use Rattle.ber_core.specs.declared.header_read.LengthRead.TheVariants.{NoLength, PartLength, Whole}
 use Rattle.ill_refusals.proofs.Continuations.{HasEnd}
 use Rattle.ill_grammar.proofs.OpenFrames.{outermost_open}
 use Rattle.ill_refusals.proofs.Judgements.{bound_some}

@@ -6,7 +6,6 @@ pub mod Elements
 pub mod Due
 pub mod Contents
 pub mod Written
-pub mod HeaderCode
 pub mod Two
 pub mod Standing
 pub mod code

@@ -2,12 +2,16 @@
 use Rattle.ill_schema.specs.Profiles.{profile_of}
 use Rattle.ill_schema.specs.declared.profile.Profile.{Profile as Named}
 use Rattle.ill_schema.specs.declared.profile.Profile.TheVariants.{Two}
-use Rattle.std.specs.Prelude.{◌≡◌, ℕ, ◌+◌, Bool, true, false, ◌&&◌, nat_eq, List, [], ◌∷◌, ◌++◌, length, Option, Some, None}
+use Rattle.std.specs.Prelude.{◌≡◌, ℕ, ◌+◌, ◌-◌, Bool, true, false, ◌&&◌, nat_eq, List, [], ◌∷◌, ◌++◌, length, Option, Some, None}
 use Rattle.ill_schema.specs.declared.refusal.Cause.{Cause}
 use Rattle.ill_refusals.specs.Fault.{fault, is_indefinite, fault_at}
-use Rattle.ill_grammar.specs.HeaderCode.{Lacks}
+use Rattle.ber_core.specs.HeaderRead.{Lacks}
+use Rattle.ber_core.specs.declared.header.Len.TheVariants.{Definite}
+use Rattle.ber_core.specs.declared.header_read.HeaderRead.{HeaderRead}
+use Rattle.ber_core.specs.declared.header_read.HeaderRead.TheVariants.{PartIdentifier, Identified}
+use Rattle.ber_core.specs.declared.header_read.LengthRead.TheVariants.{PartLength, Whole}
 use Rattle.ill_refusals.specs.Place.{Open, IsPlace}
-use Rattle.ill_refusals.specs.Reading.{IdentifierRead, identified, part_identifier, no_identifier, read_identifier, LengthRead, definite, indefinite, part_length, no_length, read_length}
+use Rattle.ber_core.specs.Reading.{IdentifierRead, identified, part_identifier, no_identifier, read_identifier, LengthRead, definite, indefinite, part_length, no_length, read_length}
 
 -- the end of the outermost element of definite length
 abbrev pub outermost : List Open → Option ℕ
@@ -62,3 +66,10 @@ pub record NeedsAfterIn (p : Named) (fed : List ℕ) (n : ℕ) : Type 0 where
 -- the same in profile 2
 abbrev pub NeedsAfter : List ℕ → ℕ → Type 0
 NeedsAfter fed n = NeedsAfterIn Two fed n
+
+-- how many octets at least still belong to an element, by the number of octets in which its header was read
+abbrev pub need_read : HeaderRead → ℕ → ℕ
+need_read PartIdentifier count = 1
+need_read (Identified id (PartLength due)) count = due
+need_read (Identified id (Whole (Definite size) header)) count = size - (count - header)
+need_read _ count = 0

@@ -6,9 +6,8 @@ ghost use Rattle.std.specs.Option.{ForSome};
 use crate::due::Next;
 use crate::form::{form_fault, is_usual};
 use crate::frames::{Frames, MAX_DEPTH};
-use crate::header::LengthRead;
 use crate::place::Found;
-use ber_core::{Id, Len};
+use ber_core::{Id, Len, LengthRead};
 use ill_schema::{Cause, Refusal};
 
 /// A constructed element: the size of its header, and its end.
@@ -51,8 +50,8 @@ impl Frames {
     ghost use Rattle.ber_core.specs.Id.{tag_of_id};
     ghost use Rattle.ill_grammar.specs.Due.{read_as};
     ghost use Rattle.ill_grammar.specs.Elements.{element_is};
-    ghost use Rattle.ill_grammar.specs.HeaderCode.{IsLengthRead};
-    ghost use Rattle.ill_refusals.specs.Reading.{read_length};
+    ghost use Rattle.ber_core.specs.HeaderRead.{IsLengthRead};
+    ghost use Rattle.ber_core.specs.Reading.{read_length};
     ghost use Rattle.ill_schema.specs.Profiles.{profile_of};
     ghost use Rattle.ill_grammar.specs.Two.{is_found_of};
     ghost use Rattle.ill_grammar.specs.declared.element.Element.TheVariants.{Foreign};

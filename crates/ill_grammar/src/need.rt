@@ -1,12 +1,11 @@
 //! The least number of octets that still belong to a message.
 ghost use Rattle.std.specs.Prelude.{◌≡◌, ℕ, ◌≤◌, List, length};
 ghost use Rattle.ill_grammar.specs.Standing.{StandsAt, StandsLast};
-ghost use Rattle.ill_grammar.specs.HeaderCode.{need_read};
+ghost use Rattle.ill_grammar.specs.Need.{need_read};
 ghost use Rattle.ill_grammar.specs.Need.{IsNeed, begins_zero};
 
 use crate::frames::Frames;
-use crate::header::{HeaderRead, LengthRead, read_header};
-use ber_core::Len;
+use ber_core::{HeaderRead, Len, LengthRead, read_header};
 
 /// The least number of octets that still belong to a message, after octets that don't reach the next place.
 pub fn need_at(frames: &Frames, at: u32, octets: &[u8]) -> u32

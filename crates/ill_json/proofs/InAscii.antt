@@ -125,8 +125,8 @@ one_unit c ok h =
     let low : is_low_surrogate c ≡ false = grind (arith, nat_tests, scalar_cases c ok) in
     record { read = λ r. content-unit c r h ∙ rw (high, low) refl; lexed = lex-unit c }
 
-after_first : (u : ℕ) (r : List ℕ) → is_high_surrogate u ≡ true → after_unit r u ≡ content (after_high u) r
-after_first u r e = ap (λ (b : Bool). cond b (content (after_high u) r) (cond (is_low_surrogate u) None (prepend (encode_utf8 u) (content in_text r)))) e
+after_high_unit : (u : ℕ) (r : List ℕ) → is_high_surrogate u ≡ true → after_unit r u ≡ content (after_high u) r
+after_high_unit u r e = ap (λ (b : Bool). cond b (content (after_high u) r) (cond (is_low_surrogate u) None (prepend (encode_utf8 u) (content in_text r)))) e
 
 -- the second unit of a pair
 content-low : (h l : ℕ) (r : List ℕ) → l < 65536 → is_low_surrogate l ≡ true → content (after_high h) (unit_text l ++ r) ≡ prepend (encode_utf8 (surrogate_pair h l)) (content in_text r)
@@ -145,7 +145,7 @@ two_units c ok h =
     let same : surrogate_pair u v ≡ c = omega arith in
     record {
       read = λ r. ap (content in_text) (append_assoc (unit_text u) (unit_text v) r) ∙ content-unit u (unit_text v ++ r) (omega arith)
-          ∙ after_first u (unit_text v ++ r) high ∙ content-low u v r (omega arith) low ∙ ap (λ (x : ℕ). prepend (encode_utf8 x) (content in_text r)) same;
+          ∙ after_high_unit u (unit_text v ++ r) high ∙ content-low u v r (omega arith) low ∙ ap (λ (x : ℕ). prepend (encode_utf8 x) (content in_text r)) same;
       lexed = λ r. ap (lex in_string) (append_assoc (unit_text u) (unit_text v) r) ∙ lex-unit u _ ∙ lex-unit v r;
     }
 

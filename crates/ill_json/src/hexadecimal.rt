@@ -5,9 +5,8 @@ ghost use Rattle.ill_read.specs.Marks.{octets_in};
 ghost use Rattle.ill_schema.specs.Texts.{hexadecimal};
 
 use ill_read::Mark;
+use ill_schema::hexadecimal_digits;
 use std::alloc::AllocError;
-
-const DIGITS: &[u8; 16] = b"0123456789abcdef";
 
 /// Adds the octets of the marks in hexadecimal.
 pub fn add_hexadecimal(text: &mut String, octets: &[Mark]) -> Result<(), AllocError>
@@ -46,14 +45,7 @@ fn add_octet(text: &mut String, octet: u8) -> Result<(), AllocError>
     ensures { OnOk result (string_bytes text.new ≡ string_bytes text.old
         ++ hexadecimal (octet ∷ [])) }
 {
-    text.push(digit(octet / 16))?;
-    text.push(digit(octet % 16))
-}
-
-/// The hexadecimal digit of a number.
-fn digit(number: u8) -> char
-    requires { number < 16 }
-    ensures { encode_utf8 result ≡ slice_index (codes "0123456789abcdef") number ∷ [] }
-{
-    DIGITS[number as usize] as char
+    let [high, low] = hexadecimal_digits(octet);
+    text.push(char::from(high))?;
+    text.push(char::from(low))
 }

@@ -8,7 +8,7 @@ ghost use Rattle.ill_schema.specs.Presence.{default_value};
 ghost use Rattle.ill_schema.specs.Table.{kind_of};
 ghost use Rattle.ill_schema.specs.declared.node.NodeId.{NodeId};
 ghost use Rattle.ill_grammar.specs.LeafTypes.{IsContentIn, leaf_is};
-ghost use Rattle.ill_read.specs.Outline.{IsPassed};
+ghost use Rattle.ill_read.specs.Outline.{IsAbsent};
 ghost use Rattle.ill_schema.specs.Numbers.{number_name};
 ghost use Rattle.ill_read.specs.Marks.{octets_in};
 ghost use Rattle.ill_json.specs.Json.{leaf_json, number_json, text_json};
@@ -37,9 +37,9 @@ pub fn put_leaf(leaf: LeafType, octets: &[Mark], name: &str, out: &mut LineWrite
     }
 }
 
-/// Puts the default of a row that was passed, if it has one.
+/// Puts the default of a row that is absent, if it has one.
 pub fn put_default(part: PartId, name: &str, out: &mut LineWriter)
-    ensures { (e : Option Content) (node : NodeId) → IsPassed part e
+    ensures { (e : Option Content) (node : NodeId) → IsAbsent part e
         → Adds (value_tokens name.now node e) out.old out.new }
 {
     let Some(row) = row(part) else {

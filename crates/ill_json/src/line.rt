@@ -9,7 +9,7 @@ ghost use Rattle.ill_json.specs.code.Adding.{Adds, file_tokens, head_tokens};
 
 use crate::value::put_value;
 use crate::writing::LineWriter;
-use ill_read::{Mark, Outline, after_first, alternative};
+use ill_read::{Mark, Outline, after_leading_mark, alternative};
 use ill_schema::{Profile, row_name, row_node};
 use json::Token;
 use std::alloc::{AllocError, Global};
@@ -113,7 +113,7 @@ fn put_line(
             put_head(head, row_name(root, row as usize), out);
             let node = row_node(root, row as usize);
             out.put(Token::Key("value"));
-            let _ = put_value(after_first(marks), "", node, out);
+            let _ = put_value(after_leading_mark(marks), "", node, out);
             out.put(Token::EndObject);
         }
         None => {}

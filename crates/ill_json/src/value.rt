@@ -6,7 +6,7 @@ ghost use Rattle.ill_read.specs.code.MarkedOctets.{SaysOctets};
 ghost use Rattle.ber_leaf.specs.Leaf.{value};
 ghost use Rattle.ill_schema.specs.Content.{Content, Entries, Items, alternative, list, sequence};
 ghost use Rattle.ill_grammar.specs.LeafTypes.{IsContentIn, leaf_is};
-ghost use Rattle.ill_read.specs.Outline.{AreEntries, AreItems, IsMarked, IsPassed};
+ghost use Rattle.ill_read.specs.Outline.{AreEntries, AreItems, IsMarked, IsAbsent};
 ghost use Rattle.ill_read.specs.declared.mark.Mark.{Mark};
 ghost use Rattle.ill_read.specs.Marks.{IsEntry, octets_in};
 ghost use Rattle.json.specs.Tree.{json_tokens};
@@ -17,7 +17,8 @@ use crate::leaf::{put_default, put_leaf};
 use crate::module_leaf::{put_bits, put_foreign, put_module_leaf};
 use crate::writing::LineWriter;
 use ill_read::{
-    LeafType, Mark, after_first, at_end, first_mark, has_default, leading_octets, passed,
+    LeafType, Mark, absent_row, after_leading_mark, has_default, is_at_end, leading_mark,
+    leading_octets,
 };
 use ill_schema::{NodeId, PartId, row_name, row_node};
 use json::Token;
@@ -36,10 +37,10 @@ pub fn put_value<'m>(
     ensures shorter { 0 < length marks.now → length result.now < length marks.now }
     ensures no_longer { length result.now ≤ length marks.now }
 {
-    let Some(first) = first_mark(marks) else {
+    let Some(first) = leading_mark(marks) else {
         return marks;
     };
-    let rest = after_first(marks);
+    let rest = after_leading_mark(marks);
     match first {
         Mark::Leaf(leaf) => put_marked_leaf(leaf, rest, name, out),
         Mark::ModuleLeaf(_) | Mark::BitString | Mark::Foreign => {
@@ -148,18 +149,18 @@ fn put_entry<'m>(marks: &'m [Mark], node: NodeId, i: usize, out: &mut LineWriter
         × Adds (entry_tokens node i e) out.old out.new }
     ensures shorter { 0 < length marks.now → length result.now < length marks.now }
 {
-    match passed(marks) {
+    match absent_row(marks) {
         Some(part) => {
-            put_passed(part, node, i, out);
-            after_first(marks)
+            put_absent(part, node, i, out);
+            after_leading_mark(marks)
         }
         None => put_part(marks, node, i, out),
     }
 }
 
-/// Puts the member of row i, which was passed, if it has a default.
-fn put_passed(part: PartId, node: NodeId, i: usize, out: &mut LineWriter)
-    ensures { (e : Option Content) → IsPassed part e
+/// Puts the member of row i, which is absent, if it has a default.
+fn put_absent(part: PartId, node: NodeId, i: usize, out: &mut LineWriter)
+    ensures { (e : Option Content) → IsAbsent part e
         → Adds (entry_tokens node i e) out.old out.new }
 {
     if !has_default(part) {
@@ -181,12 +182,12 @@ fn put_entries<'m>(marks: &'m [Mark], node: NodeId, out: &mut LineWriter) -> &'m
     out.put(Token::BeginObject);
     let mut left = marks;
     let mut i = 0;
-    'rows: while !at_end(left) {
+    'rows: while !is_at_end(left) {
         left = put_entry(left, node, i, out);
         i += 1;
     }
     out.put(Token::EndObject);
-    after_first(left)
+    after_leading_mark(left)
 }
 
 /// Puts an array of the items that the marks begin with, up to their end, and returns the marks after it.
@@ -200,9 +201,9 @@ fn put_items<'m>(marks: &'m [Mark], name: &str, node: NodeId, out: &mut LineWrit
     out.put(Token::BeginArray);
     let inner = row_node(node, 0);
     let mut left = marks;
-    'items: while !at_end(left) {
+    'items: while !is_at_end(left) {
         left = put_value(left, name, inner, out);
     }
     out.put(Token::EndArray);
-    after_first(left)
+    after_leading_mark(left)
 }

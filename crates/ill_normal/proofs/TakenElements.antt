@@ -1,4 +1,4 @@
--- Octets of an element that are taken, fed to a framer and kept.
+-- Octets of an element that are taken, fed to a framer and recorded.
 use Rattle.std.proofs.Common.{◌≡◌, ℕ, zero, suc, ◌+◌, ◌-◌, ◌<◌, ◌≤◌, Bool, List, [], ◌∷◌, ◌++◌, length, take, drop, Option, Some, refl, sym, ap, ap₂, subst, ◌∙◌, arith, inl, inr, append_assoc, append-nil, length-append, lit≤}
 use Rattle.std.specs.Prelude.{MatchOption}
 use Rattle.std.proofs.lemmas.Bool.{cases_lt}
@@ -39,10 +39,10 @@ feeds_all f b xs m need le within any fed all = elim (cases_lt m (length xs)) [
   | inr ge ↦ omega arith
 ]
 
-module _ (left left' : Option (List ℕ)) (f f' : Framer) (kept kept' : List ℕ) where
+module _ (left left' : Option (List ℕ)) (f f' : Framer) (recorded recorded' : List ℕ) where
   pub takes_seen : (hand : List ℕ) (n : ℕ) → 0 < n → n ≤ length hand → Consumes left left' (take n hand) → ((b : List ℕ) → IsFed f b → IsFed f' (b ++ take n hand))
-      → ((b : List ℕ) (k : ℕ) → IsFed f b → k < n → IsPart (b ++ take k hand)) → kept' ≡ kept ++ take (1_048_576 - length kept) (take n hand)
-      → Takes left left' f f' kept kept' n
+      → ((b : List ℕ) (k : ℕ) → IsFed f b → k < n → IsPart (b ++ take k hand)) → recorded' ≡ recorded ++ take (1_048_576 - length recorded) (take n hand)
+      → Takes left left' f f' recorded recorded' n
   takes_seen hand n some le taken fed within keeps =
       let size : length (take n hand) ≡ n = length-take-le n hand le in
       record {
@@ -59,7 +59,7 @@ module _ (left left' : Option (List ℕ)) (f f' : Framer) (kept kept' : List ℕ
   pub takes_needed : (xs : List ℕ) (m need : ℕ) → Consumes left left' xs → m ≤ length xs → length xs ≤ need
       → ((b w : List ℕ) → IsFed f b → length w < need → IsPart (b ++ w)) → ((b : List ℕ) → IsFed f b → IsFed f' (b ++ take m xs))
       → ((c : List ℕ) → IsFed f' c → IsPart c → m ≡ length xs) → (length xs ≡ 0 → IsAtEnd left')
-      → kept' ≡ kept ++ take (1_048_576 - length kept) xs → Takes left left' f f' kept kept' (length xs)
+      → recorded' ≡ recorded ++ take (1_048_576 - length recorded) xs → Takes left left' f f' recorded recorded' (length xs)
   takes_needed xs m need taken le most any fed all end keeps = record {
     octets = xs;
     size = refl;
@@ -73,8 +73,8 @@ module _ (left left' : Option (List ℕ)) (f f' : Framer) (kept kept' : List ℕ
   }
 
   -- nothing is needed
-  pub takes_none : Consumes left left' [] → ((b : List ℕ) → IsFed f b → IsFed f' b) → ((b : List ℕ) → IsFed f b → IsPart b → IsAtEnd left') → kept' ≡ kept
-      → Takes left left' f f' kept kept' 0
+  pub takes_none : Consumes left left' [] → ((b : List ℕ) → IsFed f b → IsFed f' b) → ((b : List ℕ) → IsFed f b → IsPart b → IsAtEnd left') → recorded' ≡ recorded
+      → Takes left left' f f' recorded recorded' 0
   takes_none taken fed end keeps = record {
     octets = [];
     size = refl;
@@ -82,7 +82,7 @@ module _ (left left' : Option (List ℕ)) (f f' : Framer) (kept kept' : List ℕ
     fed = λ b h. subst (IsFed f') (sym (append-nil b)) (fed b h);
     within = λ b k h lt. absurd (omega (arith, lt));
     none = λ b _ h p. end b h p;
-    keeps = keeps ∙ sym (append-nil kept) ∙ ap (λ z. kept ++ z) (sym (take_all (1_048_576 - length kept) [] (omega arith)));
+    keeps = keeps ∙ sym (append-nil recorded) ∙ ap (λ z. recorded ++ z) (sym (take_all (1_048_576 - length recorded) [] (omega arith)));
   }
 
 -- a framer that was fed nothing more
@@ -103,14 +103,14 @@ framing_none left f h = record {
 }
 
 -- the first octets of two lists
-kept_more : (m : ℕ) (a b : List ℕ) → take m a ++ take (m - length (take m a)) b ≡ take m (a ++ b)
-kept_more zero a b = refl
-kept_more (suc m) [] b = let e : suc m - 0 ≡ suc m = omega arith in ap (λ (i : ℕ). take i b) e
-kept_more (suc m) (x ∷ a) b =
+recorded_more : (m : ℕ) (a b : List ℕ) → take m a ++ take (m - length (take m a)) b ≡ take m (a ++ b)
+recorded_more zero a b = refl
+recorded_more (suc m) [] b = let e : suc m - 0 ≡ suc m = omega arith in ap (λ (i : ℕ). take i b) e
+recorded_more (suc m) (x ∷ a) b =
     let e : suc m - suc (length (take m a)) ≡ m - length (take m a) = omega arith in
-    ap (λ z. x ∷ z) (ap (λ (i : ℕ). take m a ++ take i b) e ∙ kept_more m a b)
+    ap (λ z. x ∷ z) (ap (λ (i : ℕ). take m a ++ take i b) e ∙ recorded_more m a b)
 
-module _ (left left' left'' : Option (List ℕ)) (f f' : Framer) (kept kept' : List ℕ) (count size n : ℕ) (r : IsFraming left left' f kept count size) (t : Takes left' left'' f f' kept kept' n) where
+module _ (left left' left'' : Option (List ℕ)) (f f' : Framer) (recorded recorded' : List ℕ) (count size n : ℕ) (r : IsFraming left left' f recorded count size) (t : Takes left' left'' f f' recorded recorded' n) where
   within_both : (k : ℕ) → k < length (r.octets ++ t.octets) → IsPart (take k (r.octets ++ t.octets))
   within_both k lt = elim (cases_lt k (length r.octets)) [
     | inl less ↦ subst IsPart (sym (take-append-le k r.octets t.octets (omega (arith, less)))) (r.within k less)
@@ -122,13 +122,13 @@ module _ (left left' left'' : Option (List ℕ)) (f f' : Framer) (kept kept' : L
         subst IsPart e (t.within r.octets (k - length r.octets) r.fed more)
   ]
 
-  pub framing_more : (least : ℕ) → least ≤ count + n → IsFraming left left'' f' kept' least (counted (size + n))
+  pub framing_more : (least : ℕ) → least ≤ count + n → IsFraming left left'' f' recorded' least (counted (size + n))
   framing_more least le = record {
     octets = r.octets ++ t.octets;
     taken = Consumes-trans left left' left'' r.octets t.octets r.taken t.taken;
     fed = t.fed r.octets r.fed;
     within = within_both;
-    keeps = t.keeps ∙ ap (λ z. z ++ take (1_048_576 - length z) t.octets) r.keeps ∙ kept_more 1_048_576 r.octets t.octets;
+    keeps = t.keeps ∙ ap (λ z. z ++ take (1_048_576 - length z) t.octets) r.keeps ∙ recorded_more 1_048_576 r.octets t.octets;
     counts = omega (arith, le, r.counts, t.size, length-append r.octets t.octets);
     size_is = ap₂ (λ (a b : ℕ). counted (a + b)) r.size_is t.size ∙ counted_left (length r.octets) (length t.octets) ∙ ap counted (sym (length-append r.octets t.octets));
   }
@@ -138,7 +138,7 @@ module _ (left left' left'' : Option (List ℕ)) (f f' : Framer) (kept kept' : L
   no_more [] z = refl
   no_more (o ∷ x) z = absurd (omega (arith, z))
 
-  pub element_ends : (frame : Framing) → n ≡ 0 → ((b : List ℕ) → IsFed f' b → Judged b frame) → TakesElement left left'' kept' size frame
+  pub element_ends : (frame : Framing) → n ≡ 0 → ((b : List ℕ) → IsFed f' b → Judged b frame) → TakesElement left left'' recorded' size frame
   unfolding framing_more
   element_ends frame z judged =
       let m = framing_more 0 (omega arith) in
@@ -153,9 +153,9 @@ module _ (left left' left'' : Option (List ℕ)) (f f' : Framer) (kept kept' : L
         size_is = r.size_is ∙ ap (λ x. counted (length x)) (sym none);
       }
 
-pub element_endless : (left left' : Option (List ℕ)) (f : Framer) (kept : List ℕ) (count size : ℕ) (frame : Framing) → IsFraming left left' f kept count size → 18_446_744_073_709_551_615 ≤ count
-    → ((b : List ℕ) → IsFed f b → Judged b frame) → TakesElement left left' kept size frame
-element_endless left left' f kept count size frame r le judged = record {
+pub element_endless : (left left' : Option (List ℕ)) (f : Framer) (recorded : List ℕ) (count size : ℕ) (frame : Framing) → IsFraming left left' f recorded count size → 18_446_744_073_709_551_615 ≤ count
+    → ((b : List ℕ) → IsFed f b → Judged b frame) → TakesElement left left' recorded size frame
+element_endless left left' f recorded count size frame r le judged = record {
   octets = r.octets;
   taken = r.taken;
   judged = judged r.octets r.fed;
@@ -181,9 +181,9 @@ no_message q b p within a n h = elim (cases_lt n (length b)) [
   | inr ge ↦ part_and_whole b p (subst IsFrame (take_all n b ge) (spelling_framed q a (take n b) h.1))
 ]
 
-pub part_taken : (left left' left'' : Option (List ℕ)) (f : Framer) (kept : List ℕ) (count size : ℕ) → IsFraming left left' f kept count size → Keeps left' left'' → ((b : List ℕ) → IsFed f b → IsPart b)
+pub part_taken : (left left' left'' : Option (List ℕ)) (f : Framer) (recorded : List ℕ) (count size : ℕ) → IsFraming left left' f recorded count size → Keeps left' left'' → ((b : List ℕ) → IsFed f b → IsPart b)
     → TakesPart left left''
-part_taken left left' left'' f kept count size r keeps part = record {
+part_taken left left' left'' f recorded count size r keeps part = record {
   octets = r.octets;
   taken = Consumes-kept left left' left'' r.octets r.taken keeps;
   unfinished = λ q. no_message q r.octets (part r.octets r.fed) r.within;
@@ -192,13 +192,13 @@ part_taken left left' left'' f kept count size r keeps part = record {
 none_is_part : IsPart []
 none_is_part = (1 ∷ 0 ∷ [], (λ e. cc), definite [] (low (λ e. omega arith) (λ e. omega arith) refl) (short (lit≤ tt)) (lit≤ tt) refl)
 
-nothing_kept : (m : ℕ) (xs : List ℕ) → take (suc m) xs ≡ [] → xs ≡ []
-nothing_kept m [] e = refl
-nothing_kept m (x ∷ xs) e = let f : x ∷ take m xs ≡ [] = e in cc
+nothing_recorded : (m : ℕ) (xs : List ℕ) → take (suc m) xs ≡ [] → xs ≡ []
+nothing_recorded m [] e = refl
+nothing_recorded m (x ∷ xs) e = let f : x ∷ take m xs ≡ [] = e in cc
 
-module _ (left left' : Option (List ℕ)) (kept : List ℕ) (size : ℕ) (frame : Framing) (t : TakesElement left left' kept size frame) where
+module _ (left left' : Option (List ℕ)) (recorded : List ℕ) (size : ℕ) (frame : Framing) (t : TakesElement left left' recorded size frame) where
   -- a message at the front of an element is the element
-  message_is : (q : Named) (a : Apdu) (m rest : List ℕ) → SpellsApdu (profile_of q) a m → kept ≡ m ++ rest → t.octets ≡ m
+  message_is : (q : Named) (a : Apdu) (m rest : List ℕ) → SpellsApdu (profile_of q) a m → recorded ≡ m ++ rest → t.octets ≡ m
   message_is q a m rest h e =
       let all : t.octets ≡ m ++ (rest ++ drop 1_048_576 t.octets) =
       sym (take-append-drop 1_048_576 t.octets) ∙ ap (λ z. z ++ drop 1_048_576 t.octets) (sym t.keeps ∙ e) ∙ append_assoc m rest (drop 1_048_576 t.octets) in
@@ -212,15 +212,15 @@ module _ (left left' : Option (List ℕ)) (kept : List ℕ) (size : ℕ) (frame 
       none_left [] z = refl
       none_left (o ∷ x) z = absurd (omega (arith, z))
 
-  pub read_next : {T : Type 0} (q : Named) (is : T → List ℕ → Type 0) (text : Spelling → List ℕ) (is_good : Spelling → Bool) (piece : RenderedMessage T) (rest : List ℕ) (m : List ℕ) → Consumes (Some kept) (Some rest) m
+  pub read_next : {T : Type 0} (q : Named) (is : T → List ℕ → Type 0) (text : Spelling → List ℕ) (is_good : Spelling → Bool) (piece : RenderedMessage T) (rest : List ℕ) (m : List ℕ) → Consumes (Some recorded) (Some rest) m
       → MakesIn (profile_of q) is text is_good piece m → IsNext (profile_of q) is text is_good left left' (NextMessage.Read piece)
   read_next q is text is_good piece rest m c h =
       let same = message_is q h.apdu m rest h.spells c in
       (m, subst (Consumes left left') same t.taken, h)
 
-  pub none_next : (rest : List ℕ) → Consumes (Some kept) (Some rest) [] → IsAtEnd (Some rest) → Consumes left left' [] × IsAtEnd left'
+  pub none_next : (rest : List ℕ) → Consumes (Some recorded) (Some rest) [] → IsAtEnd (Some rest) → Consumes left left' [] × IsAtEnd left'
   none_next rest c end =
-      let none : t.octets ≡ [] = nothing_kept 1_048_575 t.octets (sym t.keeps ∙ c ∙ end) in (
+      let none : t.octets ≡ [] = nothing_recorded 1_048_575 t.octets (sym t.keeps ∙ c ∙ end) in (
         subst (Consumes left left') none t.taken,
         elim (t.part (subst IsPart (sym none) none_is_part)) [ inl e ↦ e | inr le ↦ absurd (omega (arith, le, ap length none)) ],
       )
@@ -231,7 +231,7 @@ module _ (left left' : Option (List ℕ)) (kept : List ℕ) (size : ℕ) (frame 
   end_is framed.Part j = inr (j, t.part j)
 
   pub refused_next : {T : Type 0} (q : Named) (is : T → List ℕ → Type 0) (text : Spelling → List ℕ) (is_good : Spelling → Bool) (refusal : Refusal) (end : Option ℕ) → end ≡ end_of frame size
-      → OnlyRefuses (profile_of q) kept (fault_of refusal) → IsNext (profile_of q) {T = T} is text is_good left left' (NextMessage.Refused refusal end)
+      → OnlyRefuses (profile_of q) recorded (fault_of refusal) → IsNext (profile_of q) {T = T} is text is_good left left' (NextMessage.Refused refusal end)
   refused_next q is text is_good refusal end e h = (
     t.octets,
     t.taken,
@@ -241,21 +241,21 @@ module _ (left left' : Option (List ℕ)) (kept : List ℕ) (size : ℕ) (frame 
 
 -- ---- the rest of a length that is too great
 
-pub rest_none : (left : Option (List ℕ)) (kept : List ℕ) → TakesRest left left kept kept
-rest_none left kept = record { more = []; taken = Consumes-nil left; keeps = λ octets e. e ∙ ap (λ z. take 1_048_576 z) (sym (append-nil octets)) }
+pub rest_none : (left : Option (List ℕ)) (recorded : List ℕ) → TakesRest left left recorded recorded
+rest_none left recorded = record { more = []; taken = Consumes-nil left; keeps = λ octets e. e ∙ ap (λ z. take 1_048_576 z) (sym (append-nil octets)) }
 
-pub rest_more : (left left' left'' : Option (List ℕ)) (kept kept' kept'' x : List ℕ) → TakesRest left left' kept kept' → Consumes left' left'' x
-    → kept'' ≡ kept' ++ take (1_048_576 - length kept') x → TakesRest left left'' kept kept''
-rest_more left left' left'' kept kept' kept'' x r c k = record {
+pub rest_more : (left left' left'' : Option (List ℕ)) (recorded recorded' recorded'' x : List ℕ) → TakesRest left left' recorded recorded' → Consumes left' left'' x
+    → recorded'' ≡ recorded' ++ take (1_048_576 - length recorded') x → TakesRest left left'' recorded recorded''
+rest_more left left' left'' recorded recorded' recorded'' x r c k = record {
   more = r.more ++ x;
   taken = Consumes-trans left left' left'' r.more x r.taken c;
   keeps = λ octets e.
-      k ∙ ap (λ z. z ++ take (1_048_576 - length z) x) (r.keeps octets e) ∙ kept_more 1_048_576 (octets ++ r.more) x
+      k ∙ ap (λ z. z ++ take (1_048_576 - length z) x) (r.keeps octets e) ∙ recorded_more 1_048_576 (octets ++ r.more) x
       ∙ ap (λ z. take 1_048_576 z) (append_assoc octets r.more x);
 }
 
-pub took_unframed : (left left' left'' : Option (List ℕ)) (kept kept' : List ℕ) (size : ℕ) → TakesElement left left' kept size framed.Unframed → TakesRest left' left'' kept kept' → TakesUnframed left left'' kept'
-took_unframed left left' left'' kept kept' size t r = record {
+pub took_unframed : (left left' left'' : Option (List ℕ)) (recorded recorded' : List ℕ) (size : ℕ) → TakesElement left left' recorded size framed.Unframed → TakesRest left' left'' recorded recorded' → TakesUnframed left left'' recorded'
+took_unframed left left' left'' recorded recorded' size t r = record {
   octets = t.octets;
   more = r.more;
   taken = Consumes-trans left left' left'' t.octets r.more t.taken r.taken;
@@ -277,19 +277,19 @@ unframed_unfinished : (q : Named) (octets more : List ℕ) → IsUnframed octets
 unframed_unfinished q octets more unframed within a n h =
     none_begins octets more unframed within (take n (octets ++ more)) (drop n (octets ++ more)) (spelling_framed q a (take n (octets ++ more)) h.1) (sym (take-append-drop n (octets ++ more)))
 
-pub unframed_broken : (left left' left'' : Option (List ℕ)) (kept kept' : List ℕ) (size : ℕ) → TakesElement left left' kept size framed.Unframed → TakesRest left' left'' kept kept' → TakesPart left left''
-unframed_broken left left' left'' kept kept' size t r = record {
+pub unframed_broken : (left left' left'' : Option (List ℕ)) (recorded recorded' : List ℕ) (size : ℕ) → TakesElement left left' recorded size framed.Unframed → TakesRest left' left'' recorded recorded' → TakesPart left left''
+unframed_broken left left' left'' recorded recorded' size t r = record {
   octets = t.octets ++ r.more;
   taken = Consumes-trans left left' left'' t.octets r.more t.taken r.taken;
   unfinished = λ q. unframed_unfinished q t.octets r.more t.judged t.within;
 }
 
-module _ (left left' : Option (List ℕ)) (kept : List ℕ) (size : ℕ) where
-  -- what the reader made of what was kept
-  pub read_took : {T : Type 0} (q : Named) (is : T → List ℕ → Type 0) (text : Spelling → List ℕ) (is_good : Spelling → Bool) (frame : Framing) → Took left left' kept size frame → (piece : RenderedMessage T) (rest m : List ℕ)
-      → Consumes (Some kept) (Some rest) m → MakesIn (profile_of q) is text is_good piece m → IsNext (profile_of q) is text is_good left left' (NextMessage.Read piece)
-  read_took q is text is_good framed.Whole t piece rest m c h = read_next left left' kept size framed.Whole t q is text is_good piece rest m c h
-  read_took q is text is_good framed.Part t piece rest m c h = read_next left left' kept size framed.Part t q is text is_good piece rest m c h
+module _ (left left' : Option (List ℕ)) (recorded : List ℕ) (size : ℕ) where
+  -- what the reader made of what was recorded
+  pub read_took : {T : Type 0} (q : Named) (is : T → List ℕ → Type 0) (text : Spelling → List ℕ) (is_good : Spelling → Bool) (frame : Framing) → Took left left' recorded size frame → (piece : RenderedMessage T) (rest m : List ℕ)
+      → Consumes (Some recorded) (Some rest) m → MakesIn (profile_of q) is text is_good piece m → IsNext (profile_of q) is text is_good left left' (NextMessage.Read piece)
+  read_took q is text is_good framed.Whole t piece rest m c h = read_next left left' recorded size framed.Whole t q is text is_good piece rest m c h
+  read_took q is text is_good framed.Part t piece rest m c h = read_next left left' recorded size framed.Part t q is text is_good piece rest m c h
   read_took q is text is_good framed.Unframed t piece rest m c h =
       let all : t.octets ++ t.more ≡ m ++ (rest ++ drop 1_048_576 (t.octets ++ t.more)) =
       sym (take-append-drop 1_048_576 (t.octets ++ t.more)) ∙ ap (λ z. z ++ drop 1_048_576 (t.octets ++ t.more)) (sym t.keeps ∙ c) ∙ append_assoc m rest (drop 1_048_576 (t.octets ++ t.more)) in
@@ -299,17 +299,17 @@ module _ (left left' : Option (List ℕ)) (kept : List ℕ) (size : ℕ) where
   nothing_first [] b e = refl
   nothing_first (x ∷ a) b e = let f : x ∷ (a ++ b) ≡ [] = e in cc
 
-  pub none_took : (frame : Framing) → Took left left' kept size frame → (rest : List ℕ) → Consumes (Some kept) (Some rest) [] → IsAtEnd (Some rest) → Consumes left left' [] × IsAtEnd left'
-  none_took framed.Whole t rest c end = none_next left left' kept size framed.Whole t rest c end
-  none_took framed.Part t rest c end = none_next left left' kept size framed.Part t rest c end
+  pub none_took : (frame : Framing) → Took left left' recorded size frame → (rest : List ℕ) → Consumes (Some recorded) (Some rest) [] → IsAtEnd (Some rest) → Consumes left left' [] × IsAtEnd left'
+  none_took framed.Whole t rest c end = none_next left left' recorded size framed.Whole t rest c end
+  none_took framed.Part t rest c end = none_next left left' recorded size framed.Part t rest c end
   none_took framed.Unframed t rest c end =
-      let none : t.octets ≡ [] = nothing_first t.octets t.more (nothing_kept 1_048_575 (t.octets ++ t.more) (sym t.keeps ∙ c ∙ end)) in
+      let none : t.octets ≡ [] = nothing_first t.octets t.more (nothing_recorded 1_048_575 (t.octets ++ t.more) (sym t.keeps ∙ c ∙ end)) in
       absurd (t.unframed none_is_part.0 (subst (λ z. IsFrame (z ++ none_is_part.0)) (sym none) none_is_part.2))
 
-  pub refused_took : {T : Type 0} (q : Named) (is : T → List ℕ → Type 0) (text : Spelling → List ℕ) (is_good : Spelling → Bool) (frame : Framing) → Took left left' kept size frame → (refusal : Refusal) (end : Option ℕ)
-      → end ≡ end_of frame size → OnlyRefuses (profile_of q) kept (fault_of refusal) → IsNext (profile_of q) {T = T} is text is_good left left' (NextMessage.Refused refusal end)
-  refused_took q is text is_good framed.Whole t refusal end e h = refused_next left left' kept size framed.Whole t q is text is_good refusal end e h
-  refused_took q is text is_good framed.Part t refusal end e h = refused_next left left' kept size framed.Part t q is text is_good refusal end e h
+  pub refused_took : {T : Type 0} (q : Named) (is : T → List ℕ → Type 0) (text : Spelling → List ℕ) (is_good : Spelling → Bool) (frame : Framing) → Took left left' recorded size frame → (refusal : Refusal) (end : Option ℕ)
+      → end ≡ end_of frame size → OnlyRefuses (profile_of q) recorded (fault_of refusal) → IsNext (profile_of q) {T = T} is text is_good left left' (NextMessage.Refused refusal end)
+  refused_took q is text is_good framed.Whole t refusal end e h = refused_next left left' recorded size framed.Whole t q is text is_good refusal end e h
+  refused_took q is text is_good framed.Part t refusal end e h = refused_next left left' recorded size framed.Part t q is text is_good refusal end e h
   refused_took q is text is_good framed.Unframed t refusal end e h = (
     t.octets ++ t.more,
     t.taken,

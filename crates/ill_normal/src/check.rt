@@ -132,15 +132,16 @@ pub fn check_one_in_as<R: Source, L: Lookahead<R>>(
     ensures accepts { IfSome (R.left source.old)
         (λ s. (a : Apdu) (n : ℕ) → Accepts (profile_of profile) s a n → AnswersSome result) }
 {
-    let mut kept = Vec::new(alloc);
-    let Some(normal) = reader.read_recording_as::<R, L>(profile, source, buffer, &mut kept)? else {
+    let mut recorded = Vec::new(alloc);
+    let Some(normal) = reader.read_recording_as::<R, L>(profile, source, buffer, &mut recorded)?
+    else {
         return Ok(None);
     };
     let checked = Checked {
         apdu: apdu_number(&normal.octets),
         octets: normal.input_len,
         normal: normal.octets.len() as u32,
-        is_normal: kept.as_slice() == normal.octets.as_slice(),
+        is_normal: recorded.as_slice() == normal.octets.as_slice(),
     };
     Ok(Some((checked, normal.octets)))
 }

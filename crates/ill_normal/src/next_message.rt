@@ -39,7 +39,7 @@ impl TakeError {
     ghost use Rattle.ill_normal.specs.code.SkippingEnds.{why_of};
 
     /// The reason why the work stops.
-    pub fn why(self) -> SkippingErrorKind
+    pub(crate) fn why(self) -> SkippingErrorKind
         ensures { result ≡ why_of self }
     {
         match self {
@@ -50,10 +50,10 @@ impl TakeError {
 }
 
 /// Reads the next message, and has made of it what is written, or says why it is refused; None at the end of the input. It takes the octets
-/// of one element, as its framing gives it, and keeps the first 1,048,576 of them in `kept`; what was there before is forgotten.
+/// of one element, as its framing gives it, and records the first 1,048,576 of them; `recorded` forgets what it had before.
 ///
 /// ```
-/// let next = take_message::<M, R, L>(alloc, &maker, &mut reader, position, &mut source, &mut kept, buffer)?;
+/// let next = take_message::<M, R, L>(alloc, &maker, &mut reader, position, &mut source, &mut recorded, buffer)?;
 /// ```
 ///
 /// # Errors
@@ -65,7 +65,7 @@ pub fn take_message<M: Render, R: Source, L: Lookahead<R>>(
     reader: &mut M::Reader,
     position: MessagePlace,
     source: &mut R,
-    kept: &mut Vec<u8>,
+    recorded: &mut Vec<u8>,
     buffer: M::Out,
 ) -> Result<Option<NextMessage<M::Out>>, TakeError>
     ensures next { IfOk result (λ found. MatchOption found
@@ -76,11 +76,11 @@ pub fn take_message<M: Render, R: Source, L: Lookahead<R>>(
         × TakesPart (R.left source.old) (R.left source.new)) }
     ensures stays { IsTrue (R.is_broken source.old) → IsTrue (R.is_broken source.new) }
 {
-    let taken = match take_element::<R, L>(source, kept) {
+    let taken = match take_element::<R, L>(source, recorded) {
         Ok(taken) => taken,
         Err(unread) => return Err(unread),
     };
-    let mut octets = FromSlice::new(kept.as_slice());
+    let mut octets = FromSlice::new(recorded.as_slice());
     match maker.next::<FromSlice<'_>, Buffered>(alloc, reader, position, &mut octets, buffer) {
         Ok(Some(piece)) => Ok(Some(NextMessage::Read(piece))),
         Ok(None) => Ok(None),
@@ -110,24 +110,24 @@ fn end_of(taken: TakenElement) -> Option<u64>
     }
 }
 
-/// Takes the next element, up to where its end can't be known or the input ends, and keeps its first 1,048,576 octets.
+/// Takes the next element, up to where its end can't be known or the input ends, and records its first 1,048,576 octets.
 /// Of a length that is too great it takes the rest, so that the reader sees it whole.
 fn take_element<R: Source, L: Lookahead<R>>(
     source: &mut R,
-    kept: &mut Vec<u8>,
+    recorded: &mut Vec<u8>,
 ) -> Result<TakenElement, TakeError>
     ensures element { IfOk result (λ taken. Took (R.left source.old) (R.left source.new)
-        kept.new.items taken.octets taken.framing) }
+        recorded.new.items taken.octets taken.framing) }
     ensures broken { IfErr result (λ e. e ≡ TakeError.Broken → IsTrue (R.is_broken source.new)
         × TakesPart (R.left source.old) (R.left source.new)) }
     ensures stays { IsTrue (R.is_broken source.old) → IsTrue (R.is_broken source.new) }
 {
-    let (framer, octets) = match take_framed::<R, L>(source, kept) {
+    let (framer, octets) = match take_framed::<R, L>(source, recorded) {
         Ok(taken) => taken,
         Err(unread) => return Err(unread),
     };
     match framer.framing() {
-        Framing::Unframed => match take_rest(source, kept, framer.oversized_length_rest()) {
+        Framing::Unframed => match take_rest(source, recorded, framer.oversized_length_rest()) {
             Ok(()) => Ok(TakenElement {
                 framing: Framing::Unframed,
                 octets,
@@ -145,25 +145,25 @@ fn take_element<R: Source, L: Lookahead<R>>(
     }
 }
 
-/// Takes octets and feeds a framer with them, up to where nothing more is needed or the input ends, and keeps the first ones. Returns how
+/// Takes octets and feeds a framer with them, up to where nothing more is needed or the input ends, and records the first ones. Returns how
 /// many they are as well, up to 18,446,744,073,709,551,615.
 fn take_framed<R: Source, L: Lookahead<R>>(
     source: &mut R,
-    kept: &mut Vec<u8>,
+    recorded: &mut Vec<u8>,
 ) -> Result<(Framer, u64), TakeError>
     ensures element { IfOk result (λ taken. (frame : Framing)
         → ((b : List ℕ) → IsFed taken.0 b → Judged b frame)
-        → TakesElement (R.left source.old) (R.left source.new) kept.new.items taken.1 frame) }
+        → TakesElement (R.left source.old) (R.left source.new) recorded.new.items taken.1 frame) }
     ensures broken { IfErr result (λ e. e ≡ TakeError.Broken → IsTrue (R.is_broken source.new)
         × TakesPart (R.left source.old) (R.left source.new)) }
     ensures stays { IsTrue (R.is_broken source.old) → IsTrue (R.is_broken source.new) }
 {
-    kept.clear();
+    recorded.clear();
     let mut framer = Framer::new();
     let mut buffer = [0; READ_LEN];
     let mut octets: u64 = 0;
     'element: for _ in 0..u64::MAX {
-        match take_some::<R, L>(source, &mut framer, kept, &mut buffer) {
+        match take_some::<R, L>(source, &mut framer, recorded, &mut buffer) {
             Ok(0) => return Ok((framer, octets)),
             Ok(count) => octets = octets.saturating_add(count as u64),
             Err(unread) => return Err(unread),
@@ -172,19 +172,19 @@ fn take_framed<R: Source, L: Lookahead<R>>(
     Ok((framer, octets))
 }
 
-/// Takes `count` octets more, or fewer where the input ends, and keeps them.
-fn take_rest<R: Source>(source: &mut R, kept: &mut Vec<u8>, count: u8) -> Result<(), TakeError>
-    ensures rest { OnOk result (TakesRest (R.left source.old) (R.left source.new) kept.old.items
-        kept.new.items) }
+/// Takes `count` octets more, or fewer where the input ends, and records them.
+fn take_rest<R: Source>(source: &mut R, recorded: &mut Vec<u8>, count: u8) -> Result<(), TakeError>
+    ensures rest { OnOk result (TakesRest (R.left source.old) (R.left source.new) recorded.old.items
+        recorded.new.items) }
     ensures broken { IfErr result (λ e. e ≡ TakeError.Broken → IsTrue (R.is_broken source.new)
-        × TakesRest (R.left source.old) (R.left source.new) kept.old.items kept.new.items) }
+        × TakesRest (R.left source.old) (R.left source.new) recorded.old.items recorded.new.items) }
     ensures stays { IsTrue (R.is_broken source.old) → IsTrue (R.is_broken source.new) }
 {
     let mut octet = [0];
     'rest: for _ in 0..count {
         match source.take(&mut octet) {
             Ok(0) => return Ok(()),
-            Ok(_) => match keep(kept, &octet) {
+            Ok(_) => match record_octets(recorded, &octet) {
                 Ok(()) => {}
                 Err(AllocError) => return Err(TakeError::OutOfMemory),
             },
@@ -199,12 +199,12 @@ fn take_rest<R: Source>(source: &mut R, kept: &mut Vec<u8>, count: u8) -> Result
 fn take_some<R: Source, L: Lookahead<R>>(
     source: &mut R,
     framer: &mut Framer,
-    kept: &mut Vec<u8>,
+    recorded: &mut Vec<u8>,
     buffer: &mut [u8],
 ) -> Result<usize, TakeError>
     requires { 0 < length buffer.old }
     ensures takes { IfOk result (Takes (R.left source.old) (R.left source.new) framer.old framer.new
-        kept.old.items kept.new.items) }
+        recorded.old.items recorded.new.items) }
     ensures broken { IfErr result (λ e. e ≡ TakeError.Broken → IsTrue (R.is_broken source.new)
         × Keeps (R.left source.old) (R.left source.new)) }
     ensures part { IfErr result (λ e. e ≡ TakeError.Broken → (b : List ℕ) → IsFed framer.old b
@@ -215,7 +215,7 @@ fn take_some<R: Source, L: Lookahead<R>>(
     let hand = L::buffered(source);
     let seen = framer.feed(hand);
     if seen > 0 {
-        return match keep(kept, &hand[..seen]) {
+        return match record_octets(recorded, &hand[..seen]) {
             Ok(()) => {
                 L::consume(source, seen);
                 Ok(seen)
@@ -232,18 +232,18 @@ fn take_some<R: Source, L: Lookahead<R>>(
     };
     let octets = &buffer[..count];
     let _ = framer.feed(octets);
-    match keep(kept, octets) {
+    match record_octets(recorded, octets) {
         Ok(()) => Ok(count),
         Err(AllocError) => Err(TakeError::OutOfMemory),
     }
 }
 
-/// Keeps octets, as far as a message may have more.
-fn keep(kept: &mut Vec<u8>, octets: &[u8]) -> Result<(), AllocError>
-    ensures { OnOk result (kept.new.items ≡ kept.old.items
-        ++ take (1_048_576 - length kept.old.items) octets.now) }
+/// Records octets, as far as a message may have more.
+fn record_octets(recorded: &mut Vec<u8>, octets: &[u8]) -> Result<(), AllocError>
+    ensures { OnOk result (recorded.new.items ≡ recorded.old.items
+        ++ take (1_048_576 - length recorded.old.items) octets.now) }
 {
-    let room = (LIMIT as usize).saturating_sub(kept.len());
+    let room = (LIMIT as usize).saturating_sub(recorded.len());
     let count = octets.len().min(room);
-    kept.extend_from_slice(&octets[..count])
+    recorded.extend_from_slice(&octets[..count])
 }

@@ -1,6 +1,10 @@
 //! The reasons why a job was not done.
+ghost use Rattle.std.specs.Prelude.{◌≡◌};
+ghost use Rattle.ill_normal.specs.declared.run_fault.RunFault.{RunFault};
+
 use crate::compare::Side;
 use ill_schema::Refusal;
+use std::alloc::AllocError;
 
 /// The reason why a job was not done. Messages are numbered from 1, and a refusal's offset counts from the
 /// first octet of its message.
@@ -25,4 +29,12 @@ pub enum RunFault {
     ReadFault,
     /// The sink is broken: exactly the first n octets of the output were written.
     WriteFault(u128),
+}
+
+impl From<AllocError> for RunFault {
+    ghost from_gives = { λ _ fault. fault ≡ RunFault.OutOfMemory };
+
+    fn from(_error: AllocError) -> RunFault {
+        RunFault::OutOfMemory
+    }
 }

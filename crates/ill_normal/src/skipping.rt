@@ -91,7 +91,7 @@ pub fn for_each_accepted_message<M: Render, R: Source, L: Lookahead<R>, W: Sink,
     let mut offset: u64 = 0;
     let mut written = 0;
     let mut reader = M::reader(alloc);
-    let mut kept = Vec::new(alloc);
+    let mut recorded = Vec::new(alloc);
     let mut buffer = M::Out::empty(alloc);
     for before in 0..MAX_MESSAGES {
         let position = MessagePlace {
@@ -104,7 +104,7 @@ pub fn for_each_accepted_message<M: Render, R: Source, L: Lookahead<R>, W: Sink,
             &mut reader,
             position,
             source,
-            &mut kept,
+            &mut recorded,
             buffer,
         ) {
             Ok(Some(next)) => next,
@@ -132,7 +132,7 @@ pub fn for_each_accepted_message<M: Render, R: Source, L: Lookahead<R>, W: Sink,
             NextMessage::Refused { refusal, end } => {
                 refused += 1;
                 let report = RefusalReport::new(position, refusal, end);
-                reports.report(report, kept.as_slice());
+                reports.report(report, recorded.as_slice());
                 let Some(octets) = end else {
                     return Ok(counts_of(before + 1, refused, good, offset));
                 };

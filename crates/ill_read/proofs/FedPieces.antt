@@ -7,7 +7,7 @@ use Rattle.ill_schema.specs.declared.profile.Profile.TheVariants.{Two}
 use Rattle.ill_schema.specs.Apdu.{Apdu, Accepts, SpellsApdu}
 use Rattle.ill_schema.specs.Message.{apdu_of, octets_of}
 use Rattle.ill_schema.specs.declared.message.Message.{Message}
-use Rattle.ill_refusals.proofs.Headers.{octets_join}
+use Rattle.ber_core.proofs.ReadOctets.{octets_join}
 use Rattle.ill_read.specs.Answers.{IsRead, IsSpelled}
 use Rattle.ill_read.specs.Feeding.{FeedsTo, IsDone, IsOpenAfter, MayTake}
 use Rattle.ill_read.specs.declared.decoder.Decoder.{Decoder}

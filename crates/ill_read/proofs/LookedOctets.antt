@@ -16,7 +16,7 @@ use Rattle.ill_refusals.specs.Place.{Open, bound}
 use Rattle.ill_refusals.specs.code.Judge.{faulty, judge}
 use Rattle.ill_refusals.proofs.Continuations.{refused_at}
 use Rattle.ill_refusals.proofs.FirstFault.{is_judged}
-use Rattle.ill_refusals.proofs.Headers.{octets_left}
+use Rattle.ber_core.proofs.ReadOctets.{octets_left}
 use Rattle.ill_refusals.proofs.OneOutcome.{accepted_alone, truncated_size}
 use Rattle.ill_refusals.proofs.Truncation.{truncated_at}
 use Rattle.ill_schema.specs.declared.refusal.Refusal.{Refusal}

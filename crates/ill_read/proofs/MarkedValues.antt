@@ -19,11 +19,11 @@ use Rattle.ill_schema.specs.Presence.{default_value}
 use Rattle.ill_schema.specs.Table.{kind_of}
 use Rattle.ill_schema.specs.Content.{Content, simple, sequence, list, alternative, foreign, Entries, no_entries, absent, present, Items, no_items, item}
 use Rattle.ill_grammar.specs.LeafTypes.{IsContentIn, leaf_is, module_leaf_is}
-use Rattle.ill_read.specs.Outline.{AreEntries, AreItems, IsMarked, IsPassed, leaf_marked}
+use Rattle.ill_read.specs.Outline.{AreEntries, AreItems, IsMarked, IsAbsent, leaf_marked}
 use Rattle.ill_read.specs.declared.mark.Mark.{Mark}
 use Rattle.ill_read.specs.declared.mark.Mark.TheVariants as mark
 use Rattle.ill_read.specs.code.MarkedOctets.{SaysOctets, is_of_module}
-use Rattle.ill_read.specs.Marks.{IsEntry, leading_octets, is_at_end, is_there, octets_in, passed_in}
+use Rattle.ill_read.specs.Marks.{IsEntry, leading_octets, is_at_end, is_there, octets_in, absent_in}
 use Rattle.ill_schema.specs.declared.part.PartId.{PartId}
 use Rattle.ill_grammar.specs.declared.leaf_type.LeafType.{LeafType}
 use Rattle.ill_grammar.specs.declared.leaf_type.ModuleLeaf.{ModuleLeaf}
@@ -53,7 +53,7 @@ leaf_parts o rest ms n e f =
 
 -- what the marks of a value say, by the first of them
 abbrev pub Says : Mark → Content → List Mark → Type 0
-Says (mark.Absent part) c inside = IsPassed part (Some c) × (inside ≡ [])
+Says (mark.Absent part) c inside = IsAbsent part (Some c) × (inside ≡ [])
 Says (mark.Alternative n) c inside = (d : Content) × (c ≡ alternative n d) × IsMarked d inside
 Says mark.Sequence c inside = (es : Entries) × (own : List Mark) × (c ≡ sequence es) × AreEntries es own × (inside ≡ own ++ mark.End ∷ [])
 Says mark.List c inside = (is : Items) × (own : List Mark) × (c ≡ list is) × AreItems is own × (inside ≡ own ++ mark.End ∷ [])
@@ -226,8 +226,8 @@ says_nothing mark.BitString c octets f b t is = b refl
 says_nothing mark.Foreign c octets f b t is = t refl
 says_nothing _ c octets f b t is = is
 
-pub passed_first : (c : Content) (ms rest tail : List Mark) (p : PartId) → IsMarked c ms → mark.Absent p ∷ tail ≡ ms ++ rest → IsPassed p (Some c) × (tail ≡ rest)
-passed_first c ms rest tail p h e = let b = begun c ms rest tail (mark.Absent p) h e in (b.1.0, b.2 ∙ ap (λ ms. ms ++ rest) b.1.1)
+pub absent_first : (c : Content) (ms rest tail : List Mark) (p : PartId) → IsMarked c ms → mark.Absent p ∷ tail ≡ ms ++ rest → IsAbsent p (Some c) × (tail ≡ rest)
+absent_first c ms rest tail p h e = let b = begun c ms rest tail (mark.Absent p) h e in (b.1.0, b.2 ∙ ap (λ ms. ms ++ rest) b.1.1)
 
 pub alternative_first : (c : Content) (ms rest tail : List Mark) (n : ℕ) → IsMarked c ms → mark.Alternative n ∷ tail ≡ ms ++ rest → (d : Content) × (inside : List Mark) × (c ≡ alternative n d) × IsMarked d inside × (tail ≡ inside ++ rest)
 alternative_first c ms rest tail n h e = let b = begun c ms rest tail (mark.Alternative n) h e in (b.1.0, b.0, b.1.1, b.1.2, b.2)
@@ -246,23 +246,23 @@ nothing_begins c ms rest marks none h e =
     let v = value_says c ms h in
     absurd (let q : None ≡ Some v.0 = sym none ∙ ap (λ x. slice_get x 0) (front ms rest v.1 marks v.0 v.2 e) in cc)
 
-passed_at : (marks : List Mark) (p : PartId) → passed_in marks ≡ Some p → marks ≡ mark.Absent p ∷ drop 1 marks
-passed_at [] p is = absurd cc
-passed_at (mark.Absent q ∷ ms) p is = (let same : q ≡ p = cc in ap (λ x. mark.Absent x ∷ ms) same)
-passed_at (_ ∷ ms) p is = absurd cc
+absent_at : (marks : List Mark) (p : PartId) → absent_in marks ≡ Some p → marks ≡ mark.Absent p ∷ drop 1 marks
+absent_at [] p is = absurd cc
+absent_at (mark.Absent q ∷ ms) p is = (let same : q ≡ p = cc in ap (λ x. mark.Absent x ∷ ms) same)
+absent_at (_ ∷ ms) p is = absurd cc
 
--- an entry whose row was passed, and one that has an element
-passed_alone : (q : PartId) (p : PartId) (ms rest marks : List Mark) → ms ≡ mark.Absent q ∷ [] → marks ≡ ms ++ rest → passed_in marks ≡ Some p → (q ≡ p) × (drop 1 marks ≡ rest)
-passed_alone q p ms rest marks e at is =
+-- an entry whose row is absent, and one that has an element
+absent_alone : (q : PartId) (p : PartId) (ms rest marks : List Mark) → ms ≡ mark.Absent q ∷ [] → marks ≡ ms ++ rest → absent_in marks ≡ Some p → (q ≡ p) × (drop 1 marks ≡ rest)
+absent_alone q p ms rest marks e at is =
     let all : marks ≡ mark.Absent q ∷ rest = front ms rest [] marks (mark.Absent q) e at in
-    (let x : Some q ≡ Some p = sym (ap passed_in all) ∙ is in cc, ap (drop 1) all)
+    (let x : Some q ≡ Some p = sym (ap absent_in all) ∙ is in cc, ap (drop 1) all)
 
-pub entry_passed : (e : Option Content) (ms rest marks : List Mark) (p : PartId) → IsEntry e ms → marks ≡ ms ++ rest → passed_in marks ≡ Some p → IsPassed p e × (drop 1 marks ≡ rest)
-entry_passed None ms rest marks p h e is = let a = passed_alone h.0 p ms rest marks h.1 e is in (subst (λ x. IsPassed x None) a.0 h.2, a.1)
-entry_passed (Some c) ms rest marks p h e is = passed_first c ms rest (drop 1 marks) p h (sym (passed_at marks p is) ∙ e)
+pub entry_absent_first : (e : Option Content) (ms rest marks : List Mark) (p : PartId) → IsEntry e ms → marks ≡ ms ++ rest → absent_in marks ≡ Some p → IsAbsent p e × (drop 1 marks ≡ rest)
+entry_absent_first None ms rest marks p h e is = let a = absent_alone h.0 p ms rest marks h.1 e is in (subst (λ x. IsAbsent x None) a.0 h.2, a.1)
+entry_absent_first (Some c) ms rest marks p h e is = absent_first c ms rest (drop 1 marks) p h (sym (absent_at marks p is) ∙ e)
 
-pub entry_value : (e : Option Content) (ms rest marks : List Mark) → IsEntry e ms → marks ≡ ms ++ rest → passed_in marks ≡ None → (c : Content) × (e ≡ Some c) × IsMarked c ms
-entry_value None ms rest marks h e is = absurd (let x : Some h.0 ≡ None = sym (ap passed_in (front ms rest [] marks (mark.Absent h.0) h.1 e)) ∙ is in cc)
+pub entry_value : (e : Option Content) (ms rest marks : List Mark) → IsEntry e ms → marks ≡ ms ++ rest → absent_in marks ≡ None → (c : Content) × (e ≡ Some c) × IsMarked c ms
+entry_value None ms rest marks h e is = absurd (let x : Some h.0 ≡ None = sym (ap absent_in (front ms rest [] marks (mark.Absent h.0) h.1 e)) ∙ is in cc)
 entry_value (Some c) ms rest marks h e is = (c, refl, h)
 
 pub entry_absent : (e : Option Content) (ms rest marks : List Mark) → IsEntry e ms → marks ≡ ms ++ rest → is_there e ≡ false → (e ≡ None) × (drop 1 marks ≡ rest)

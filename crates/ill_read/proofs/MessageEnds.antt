@@ -31,7 +31,7 @@ use Rattle.ill_read.specs.declared.reader.State.{State}
 use Rattle.ill_read.specs.declared.reader.State.TheVariants as state
 use Rattle.ill_refusals.proofs.Continuations.{refused_at}
 use Rattle.ill_refusals.proofs.Prefixes.{refusal_stays}
-use Rattle.ill_refusals.proofs.Headers.{octets_join}
+use Rattle.ber_core.proofs.ReadOctets.{octets_join}
 use Rattle.ill_refusals.proofs.Truncation.{truncated_at}
 use Rattle.ill_refusals.proofs.OneOutcome.{accepted_alone, long_alone, refused_alone, fault_run}
 

@@ -20,17 +20,17 @@ use Rattle.ill_schema.specs.Apdu.{Apdu, Accepts}
 use Rattle.ill_refusals.specs.Fault.{fault, is_indefinite, fault_at}
 use Rattle.ill_refusals.specs.code.Judge.{Judgement, faulty, closes, opens, reads, judge}
 use Rattle.ill_grammar.specs.Standing.{StandsLast}
-use Rattle.ill_grammar.specs.HeaderCode.{Lacks, IsWholeLength}
+use Rattle.ber_core.specs.HeaderRead.{Lacks, IsWholeLength}
 use Rattle.ill_grammar.specs.Need.{NeedsAfterIn, outermost, begins_zero, in_mark, NeedsOfLength, NeedsOfElement, NeedsAfterMark, NeedsBefore, IsNeed}
 use Rattle.ill_refusals.specs.Place.{Open, bound, IsDue}
-use Rattle.ill_refusals.specs.Reading.{identified, part_identifier, no_identifier, read_identifier, definite, indefinite, part_length, read_length}
+use Rattle.ber_core.specs.Reading.{identified, part_identifier, no_identifier, read_identifier, definite, indefinite, part_length, read_length}
 use Rattle.ill_refusals.specs.code.Step.{close, moved}
 use Rattle.ill_refusals.proofs.Continuations.{Keeps, with_keeps, due_at, ends_before, reads_before}
-use Rattle.ill_grammar.proofs.HeadersRead.{whole_header_read}
+use Rattle.ber_core.proofs.HeadersRead.{whole_header_read}
 use Rattle.ill_refusals.proofs.Judgements.{Judged, judged, bound_some}
-use Rattle.ill_refusals.proofs.Headers.{identifier_longer, length_longer, identifier_read, length_read, octets_right, take-all, drop-all}
+use Rattle.ber_core.proofs.ReadOctets.{identifier_longer, length_longer, identifier_read, length_read, octets_right, take-all, drop-all}
 use Rattle.ill_refusals.proofs.Machine.{step}
-use Rattle.ill_refusals.proofs.Rows.{two_cases}
+use Rattle.ber_core.proofs.Lists.{two_cases}
 use Rattle.ill_refusals.proofs.Truncation.{IsCutShort, in_mark as in_end_mark, in_identifier, in_element, IsLengthCut}
 use Rattle.ill_grammar.proofs.PlaceNeeds.{has_outermost, bound_before, short, few, InElement, wants_element}
 

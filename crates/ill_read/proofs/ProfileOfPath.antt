@@ -17,7 +17,7 @@ use Rattle.ill_grammar.specs.Elements.{element_is, is_two_element}
 use Rattle.ill_grammar.specs.code.Judging.{IsBegin}
 use Rattle.ill_grammar.proofs.Judgements.{headed_judged}
 use Rattle.ill_refusals.specs.Fault.{Fault}
-use Rattle.ill_refusals.specs.Reading.{identified, read_identifier}
+use Rattle.ber_core.specs.Reading.{identified, read_identifier}
 use Rattle.ill_refusals.specs.code.Judge.{judge_element, judge_length}
 use Rattle.ill_schema.specs.Profiles.{profile_of}
 use Rattle.ill_refusals.specs.Place.{Open}

@@ -27,7 +27,7 @@ use Rattle.ill_read.specs.declared.reader.State.{State}
 use Rattle.ill_read.specs.declared.reader.State.TheVariants as state
 use Rattle.ill_read.specs.declared.failure.Failure.{Failure}
 use Rattle.ill_read.proofs.MessageEnds.{ended_ends, ended_longer, failed_ends, is_failed, is_open, is_whole, last_size, stands_part}
-use Rattle.ill_refusals.proofs.Headers.{octets_join}
+use Rattle.ber_core.proofs.ReadOctets.{octets_join}
 
 -- what is returned at the end, of the octets that were fed
 pub finished : {D : Type 0} (p : Named) (holds : D → List Level → List ℕ → Type 0) (has : Named → D → Apdu → ℕ → Type 0) (r : Reader D) (end : Result Bool Failure) → ((fed : List ℕ) → IsOpenAt p holds r fed → end ≡ ended fed) → (r.state ≡ state.Whole → end ≡ Ok true)
@@ -122,7 +122,7 @@ reads_filled p holds has left after broken broken' d end old new h f taken stays
     says_message : (r : Result Bool Failure) → ((s : List ℕ) → IsFed p holds has d s → EndsAs p has d s r)
         → IfOk (read_result d.at r) (λ found. IfSome found (λ n. (b : List ℕ) × Consumes left after b × ((n ≡ length b) × IsReadOf p has d.path.draft b × Appends old new b)))
     says_message (Ok false) f = tt
-    says_message (Ok true) f = let b = h.filled.octets in let x = spelled_by p has d b (f b h.filled.fed) h.filled.exact in (b, h.filled.taken, (x.0, x.1, h.kept))
+    says_message (Ok true) f = let b = h.filled.octets in let x = spelled_by p has d b (f b h.filled.fed) h.filled.exact in (b, h.filled.taken, (x.0, x.1, h.recorded))
     says_message (Err e) f = tt
 
     says_none : (r : Result Bool Failure) → ((s : List ℕ) → IsFed p holds has d s → EndsAs p has d s r)
@@ -153,13 +153,13 @@ reads_filled p holds has left after broken broken' d end old new h f taken stays
     says_fault _ = tt
 
 -- a draft of values that was read is a message
-pub reads_message : (draft : ValueDraft) (kept : List ℕ → Type 0) (left left' : Option (List ℕ)) (broken broken' : Bool) (n : ℕ) (message : Option Message) → message ≡ draft.message
-    → ReadsNext {T = ℕ} left left' broken broken' (λ n octets. (n ≡ length octets) × IsReadOf Two (λ p values a n. AreMessage values a n) draft octets × kept octets) (Ok (Some n))
-    → ReadsNext {T = Message} left left' broken broken' (λ m octets. IsSpelled m octets × kept octets) (Ok message)
-reads_message draft kept left left' broken broken' n message is h =
+pub reads_message : (draft : ValueDraft) (recorded : List ℕ → Type 0) (left left' : Option (List ℕ)) (broken broken' : Bool) (n : ℕ) (message : Option Message) → message ≡ draft.message
+    → ReadsNext {T = ℕ} left left' broken broken' (λ n octets. (n ≡ length octets) × IsReadOf Two (λ p values a n. AreMessage values a n) draft octets × recorded octets) (Ok (Some n))
+    → ReadsNext {T = Message} left left' broken broken' (λ m octets. IsSpelled m octets × recorded octets) (Ok message)
+reads_message draft recorded left left' broken broken' n message is h =
     let read = h.message.2.1 in
     let has = read.2 in
-    subst (λ o. ReadsNext {T = Message} left left' broken broken' (λ m octets. IsSpelled m octets × kept octets) (Ok o)) (sym (is ∙ has.1))
+    subst (λ o. ReadsNext {T = Message} left left' broken broken' (λ m octets. IsSpelled m octets × recorded octets) (Ok o)) (sym (is ∙ has.1))
     (reads_as _ _ left left' broken broken' n has.0 (λ b x. (
       let r = x.1 in let a = r.2 in
           let same : has.0 ≡ a.0 = only has.0 a.0 (sym has.1 ∙ a.1) in

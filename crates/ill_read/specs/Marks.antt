@@ -2,7 +2,7 @@
 use Rattle.std.specs.Prelude.{◌≡◌, ℕ, suc, Bool, true, false, List, [], ◌∷◌, Option, Some, None}
 use Rattle.ill_schema.specs.Content.{Content}
 use Rattle.ill_schema.specs.declared.part.PartId.{PartId}
-use Rattle.ill_read.specs.Outline.{IsMarked, IsPassed}
+use Rattle.ill_read.specs.Outline.{IsMarked, IsAbsent}
 use Rattle.ill_read.specs.declared.mark.Mark.{Mark}
 use Rattle.ill_read.specs.declared.mark.Mark.TheVariants as mark
 
@@ -24,7 +24,7 @@ leading_octets (_ ∷ ms) = 0
 
 -- the marks of a row's entry
 abbrev pub IsEntry : Option Content → List Mark → Type 0
-IsEntry None ms = (part : PartId) × (ms ≡ mark.Absent part ∷ []) × IsPassed part None
+IsEntry None ms = (part : PartId) × (ms ≡ mark.Absent part ∷ []) × IsAbsent part None
 IsEntry (Some c) ms = IsMarked c ms
 
 abbrev pub is_there : Option Content → Bool
@@ -37,10 +37,10 @@ is_at_end [] = true
 is_at_end (mark.End ∷ ms) = true
 is_at_end (_ ∷ ms) = false
 
--- the row that was passed, where its mark comes first
-abbrev pub passed_in : List Mark → Option PartId
-passed_in (mark.Absent part ∷ ms) = Some part
-passed_in _ = None
+-- the row that is absent, where its mark comes first
+abbrev pub absent_in : List Mark → Option PartId
+absent_in (mark.Absent part ∷ ms) = Some part
+absent_in _ = None
 
 -- the alternative, where its mark comes first
 abbrev pub alternative_in : List Mark → Option ℕ

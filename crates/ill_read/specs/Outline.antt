@@ -17,8 +17,8 @@ use Rattle.ill_read.specs.declared.mark.Mark.TheVariants as mark
 use Rattle.ill_read.specs.declared.outline_draft.Outline.{Outline}
 
 -- the row of the part has this entry where it has no element
-abbrev pub IsPassed : PartId → Option Content → Type 0
-IsPassed part entry = (row : Row) × (slice_get (rows_of part.node) part.row ≡ Some row) × (absent_content row ≡ entry)
+abbrev pub IsAbsent : PartId → Option Content → Type 0
+IsAbsent part entry = (row : Row) × (slice_get (rows_of part.node) part.row ≡ Some row) × (absent_content row ≡ entry)
 
 -- the leaf that a mark begins
 abbrev pub leaf_marked : Mark → Option Leaf
@@ -42,9 +42,9 @@ pub record IsLeafRead (v : Simple) (ms : List Mark) : Type 0 where
   pub content : IsContentIn profile leaf octets
   pub holds : v ≡ value leaf octets
 
--- a leaf that was read, or the default of a row that was passed
+-- a leaf that was read, or the default of a row that is absent
 abbrev pub IsLeafMarked : Simple → List Mark → Type 0
-IsLeafMarked v ms = IsLeafRead v ms ⊎ ((part : PartId) × (ms ≡ mark.Absent part ∷ []) × IsPassed part (Some (simple v)))
+IsLeafMarked v ms = IsLeafRead v ms ⊎ ((part : PartId) × (ms ≡ mark.Absent part ∷ []) × IsAbsent part (Some (simple v)))
 
 abbrev mutual
   -- the marks say this value
@@ -58,7 +58,7 @@ abbrev mutual
   -- the entries of a sequence, row by row
   pub AreEntries : Entries → List Mark → Type 0
   AreEntries no_entries ms = ms ≡ []
-  AreEntries (absent es) ms = (part : PartId) × (rest : List Mark) × (ms ≡ mark.Absent part ∷ rest) × IsPassed part None × AreEntries es rest
+  AreEntries (absent es) ms = (part : PartId) × (rest : List Mark) × (ms ≡ mark.Absent part ∷ rest) × IsAbsent part None × AreEntries es rest
   AreEntries (present c es) ms = (first : List Mark) × (rest : List Mark) × (ms ≡ first ++ rest) × IsMarked c first × AreEntries es rest
 
   -- the items of a list

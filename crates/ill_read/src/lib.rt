@@ -12,6 +12,7 @@
 
 mod decoder;
 mod draft;
+mod element_reader;
 mod failure;
 mod laws;
 mod mark;
@@ -30,6 +31,7 @@ mod value_draft;
 mod whole;
 
 pub use decoder::{Decoder, Progress};
+pub use element_reader::ElementReader;
 pub use failure::{Failure, ReadFailure};
 pub use ill_grammar::{LeafType, ModuleLeaf};
 pub use ill_refusals::{
@@ -38,8 +40,8 @@ pub use ill_refusals::{
 pub use laws::decoders_are_apart;
 pub use mark::Mark;
 pub use marks::{
-    after_first, alternative, at_end, first_mark, has_default, is_octet, is_set, leading_octets,
-    number_in, passed,
+    absent_row, after_leading_mark, alternative, has_default, is_at_end, is_octet, is_set,
+    leading_mark, leading_octets, number_in,
 };
 pub use normal::{
     NormalForm, NormalReader, decode_normal, decode_normal_as, read_normal_as, read_normal_in,

@@ -3,8 +3,8 @@ ghost use Rattle.std.specs.Prelude.{◌≡◌, ◌++◌, ◌<◌, ◌≤◌, [],
 ghost use Rattle.std.specs.List.{list_all};
 ghost use Rattle.ber_leaf.specs.Leaf.{integer_of};
 ghost use Rattle.ill_schema.specs.Content.{Content};
-ghost use Rattle.ill_read.specs.Outline.{IsPassed};
-ghost use Rattle.ill_read.specs.Marks.{alternative_in, is_at_end, is_there, is_octet, leading_octets, octets_in, passed_in};
+ghost use Rattle.ill_read.specs.Outline.{IsAbsent};
+ghost use Rattle.ill_read.specs.Marks.{alternative_in, is_at_end, is_there, is_octet, leading_octets, octets_in, absent_in};
 
 use crate::mark::Mark;
 use arrayvec::ArrayVec;
@@ -12,7 +12,7 @@ use ber_leaf::Whole;
 use ill_schema::{PartId, Presence, row};
 
 /// Tells whether no mark is left, or the end comes first.
-pub fn at_end(marks: &[Mark]) -> bool
+pub fn is_at_end(marks: &[Mark]) -> bool
     ensures { result ≡ is_at_end marks.now }
 {
     match marks.first() {
@@ -21,9 +21,9 @@ pub fn at_end(marks: &[Mark]) -> bool
     }
 }
 
-/// The row that was passed, where its mark comes first.
-pub fn passed(marks: &[Mark]) -> Option<PartId>
-    ensures { result ≡ passed_in marks.now }
+/// The row that is absent, where its mark comes first.
+pub fn absent_row(marks: &[Mark]) -> Option<PartId>
+    ensures { result ≡ absent_in marks.now }
 {
     match marks {
         [Mark::Absent(part), ..] => Some(*part),
@@ -31,9 +31,9 @@ pub fn passed(marks: &[Mark]) -> Option<PartId>
     }
 }
 
-/// Tells whether a row that was passed has a default.
+/// Tells whether a row that is absent has a default.
 pub fn has_default(part: PartId) -> bool
-    ensures { (e : Option Content) → IsPassed part e → result ≡ is_there e }
+    ensures { (e : Option Content) → IsAbsent part e → result ≡ is_there e }
 {
     match row(part) {
         Some(row) => matches!(row.presence, Presence::Default(_)),
@@ -52,14 +52,14 @@ pub fn alternative(marks: &[Mark]) -> Option<u8>
 }
 
 /// The first mark, if there is one.
-pub fn first_mark(marks: &[Mark]) -> Option<Mark>
+pub fn leading_mark(marks: &[Mark]) -> Option<Mark>
     ensures { result ≡ slice_get marks.now 0 }
 {
     marks.first().copied()
 }
 
 /// The marks after the first.
-pub fn after_first(marks: &[Mark]) -> &[Mark]
+pub fn after_leading_mark(marks: &[Mark]) -> &[Mark]
     ensures { result.now ≡ drop 1 marks.now }
 {
     match marks.split_first() {

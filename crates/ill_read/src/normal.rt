@@ -94,46 +94,47 @@ impl NormalReader {
         self.read_into::<R, L, NoRecorder>(profile, source, buffer, &mut NoRecorder)
     }
 
-    /// Reads a normal form as [`NormalReader::read`] does, and keeps the octets that the message had at the end of `kept`.
+    /// Reads a normal form as [`NormalReader::read`] does, and appends the octets that the message had to `recorded`.
     ///
     /// # Errors
     ///
-    /// Those of [`read_message`](crate::read_message); some octets may have been kept then.
+    /// Those of [`read_message`](crate::read_message); some octets may have been recorded then.
     #[inline(always)]
     pub fn read_recording<R: Source, L: Lookahead<R>>(
         &mut self,
         source: &mut R,
         buffer: Vec<u8>,
-        kept: &mut Vec<u8>,
+        recorded: &mut Vec<u8>,
     ) -> Result<Option<NormalForm>, ReadFailure>
         ensures next { ReadsNext (R.left source.old) (R.left source.new) (R.is_broken source.old)
             (R.is_broken source.new)
-            (λ n octets. IsNormalOf n octets × (kept.new.items ≡ kept.old.items ++ octets)) result }
+            (λ n octets. IsNormalOf n octets
+            × (recorded.new.items ≡ recorded.old.items ++ octets)) result }
         ensures few { open_count self.new.reader ≤ 32 }
     {
-        self.read_recording_as::<R, L>(Profile::Two, source, buffer, kept)
+        self.read_recording_as::<R, L>(Profile::Two, source, buffer, recorded)
     }
 
     /// Reads a normal form as [`NormalReader::read_recording`] does, of a message in the profile.
     ///
     /// # Errors
     ///
-    /// Those of [`read_message`](crate::read_message), in the profile; some octets may have been kept then.
+    /// Those of [`read_message`](crate::read_message), in the profile; some octets may have been recorded then.
     #[inline(always)]
     pub fn read_recording_as<R: Source, L: Lookahead<R>>(
         &mut self,
         profile: Profile,
         source: &mut R,
         buffer: Vec<u8>,
-        kept: &mut Vec<u8>,
+        recorded: &mut Vec<u8>,
     ) -> Result<Option<NormalForm>, ReadFailure>
         ensures next { ReadsNextIn (profile_of profile) (R.left source.old) (R.left source.new)
             (R.is_broken source.old) (R.is_broken source.new)
             (λ n octets. IsNormalIn (profile_of profile) n octets
-            × (kept.new.items ≡ kept.old.items ++ octets)) result }
+            × (recorded.new.items ≡ recorded.old.items ++ octets)) result }
         ensures few { open_count self.new.reader ≤ 32 }
     {
-        self.read_into::<R, L, Vec<u8>>(profile, source, buffer, kept)
+        self.read_into::<R, L, Vec<u8>>(profile, source, buffer, recorded)
     }
 
     /// Reads a normal form in the memory of `buffer`, and hands the octets that the message had to what keeps them.
@@ -148,7 +149,7 @@ impl NormalReader {
         ensures next { ReadsNextIn (profile_of profile) (R.left source.old) (R.left source.new)
             (R.is_broken source.old) (R.is_broken source.new)
             (λ n octets. IsNormalIn (profile_of profile) n octets
-            × Appends (K.kept recorder.old) (K.kept recorder.new) octets) result }
+            × Appends (K.recorded recorder.old) (K.recorded recorder.new) octets) result }
         ensures few { open_count self.new.reader ≤ 32 }
     {
         self.reader
@@ -271,22 +272,23 @@ pub fn read_normal_in<R: Source, L: Lookahead<R>>(
     NormalReader::new(alloc).read::<R, L>(source, buffer)
 }
 
-/// Reads a normal form as [`read_normal_peeking`] does, and keeps the octets that the message had at the end of `kept`.
+/// Reads a normal form as [`read_normal_peeking`] does, and appends the octets that the message had to `recorded`.
 ///
 /// # Errors
 ///
-/// Those of [`read_message`](crate::read_message); some octets may have been kept then.
+/// Those of [`read_message`](crate::read_message); some octets may have been recorded then.
 pub fn read_normal_recording_peeking<R: Source, L: Lookahead<R>>(
     alloc: Global,
     source: &mut R,
-    kept: &mut Vec<u8>,
+    recorded: &mut Vec<u8>,
 ) -> Result<Option<NormalForm>, ReadFailure>
     ensures next { ReadsNext (R.left source.old) (R.left source.new) (R.is_broken source.old)
         (R.is_broken source.new)
-        (λ n octets. IsNormalOf n octets × (kept.new.items ≡ kept.old.items ++ octets)) result }
+        (λ n octets. IsNormalOf n octets
+        × (recorded.new.items ≡ recorded.old.items ++ octets)) result }
     ensures few { IfSome (R.left source.old) HasFewOpen }
 {
-    NormalReader::new(alloc).read_recording::<R, L>(source, Vec::new(alloc), kept)
+    NormalReader::new(alloc).read_recording::<R, L>(source, Vec::new(alloc), recorded)
 }
 
 /// The normal form of the message that the whole slice is.

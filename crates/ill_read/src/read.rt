@@ -54,40 +54,42 @@ pub fn read_message_peeking<R: Source, L: Lookahead<R>>(
     read_into::<R, L, NoRecorder>(alloc, source, &mut NoRecorder)
 }
 
-/// Reads a message as [`read_message`] does, and keeps its octets at the end of `kept`.
+/// Reads a message as [`read_message`] does, and appends its octets to `recorded`.
 ///
 /// # Errors
 ///
-/// Those of [`read_message`]; some octets may have been kept then.
+/// Those of [`read_message`]; some octets may have been recorded then.
 pub fn read_recording<R: Source>(
     alloc: Global,
     source: &mut R,
-    kept: &mut Vec<u8>,
+    recorded: &mut Vec<u8>,
 ) -> Result<Option<Message>, ReadFailure>
     ensures next { ReadsNext (R.left source.old) (R.left source.new) (R.is_broken source.old)
         (R.is_broken source.new)
-        (λ m octets. IsSpelled m octets × (kept.new.items ≡ kept.old.items ++ octets)) result }
+        (λ m octets. IsSpelled m octets
+        × (recorded.new.items ≡ recorded.old.items ++ octets)) result }
     ensures few { IfSome (R.left source.old) HasFewOpen }
 {
-    read_recording_peeking::<R, Unbuffered>(alloc, source, kept)
+    read_recording_peeking::<R, Unbuffered>(alloc, source, recorded)
 }
 
 /// Reads a message as [`read_recording`] does, by a way to look at the source.
 ///
 /// # Errors
 ///
-/// Those of [`read_message`]; some octets may have been kept then.
+/// Those of [`read_message`]; some octets may have been recorded then.
 pub fn read_recording_peeking<R: Source, L: Lookahead<R>>(
     alloc: Global,
     source: &mut R,
-    kept: &mut Vec<u8>,
+    recorded: &mut Vec<u8>,
 ) -> Result<Option<Message>, ReadFailure>
     ensures next { ReadsNext (R.left source.old) (R.left source.new) (R.is_broken source.old)
         (R.is_broken source.new)
-        (λ m octets. IsSpelled m octets × (kept.new.items ≡ kept.old.items ++ octets)) result }
+        (λ m octets. IsSpelled m octets
+        × (recorded.new.items ≡ recorded.old.items ++ octets)) result }
     ensures few { IfSome (R.left source.old) HasFewOpen }
 {
-    read_into::<R, L, Vec<u8>>(alloc, source, kept)
+    read_into::<R, L, Vec<u8>>(alloc, source, recorded)
 }
 
 /// Reads a message, and hands its octets to what keeps them.
@@ -100,7 +102,7 @@ fn read_into<R: Source, L: Lookahead<R>, K: Recorder>(
     ensures { ReadsNext (R.left source.old) (R.left source.new) (R.is_broken source.old)
         (R.is_broken source.new)
         (λ m octets. IsSpelled m octets
-        × Appends (K.kept recorder.old) (K.kept recorder.new) octets) result }
+        × Appends (K.recorded recorder.old) (K.recorded recorder.new) octets) result }
 {
     let mut reader = Reader::new(alloc, Profile::Two, ValueDraft::new(alloc));
     match read_draft::<ValueDraft, R, L, K>(&mut reader, source, recorder) {
@@ -122,7 +124,7 @@ pub(crate) fn read_draft<D: Draft, R: Source, L: Lookahead<R>, K: Recorder>(
         → ReadsNextIn (profile_of p) (R.left source.old) (R.left source.new)
         (R.is_broken source.old) (R.is_broken source.new)
         (λ n octets. (n ≡ length octets) × IsReadOf p D.has reader.new.path.draft octets
-        × Appends (K.kept recorder.old) (K.kept recorder.new) octets) result }
+        × Appends (K.recorded recorder.old) (K.recorded recorder.new) octets) result }
 {
     match fill::<D, R, L, K>(reader, source, recorder) {
         Ok(()) => match reader.ended() {
@@ -151,7 +153,7 @@ fn fill<D: Draft, R: Source, L: Lookahead<R>, K: Recorder>(
     requires takes { D.takes reader.old.path.frames.profile }
     ensures filled { (p : Named) → IsOpenAt p D.holds reader.old []
         → IfOk result (λ _. HasKept p D.holds D.has (R.left source.old) (R.left source.new)
-        reader.new (K.kept recorder.old) (K.kept recorder.new)) }
+        reader.new (K.recorded recorder.old) (K.recorded recorder.new)) }
     ensures taken { TakesFront (R.left source.old) (R.left source.new) }
     ensures broken { IsErrOf result FillError.Broken → IsTrue (R.is_broken source.new) }
     ensures unfinished { (p : Named) → IsOpenAt p D.holds reader.old []
@@ -187,12 +189,13 @@ fn more<D: Draft, R: Source, L: Lookahead<R>, K: Recorder>(
     requires space { 0 < length buffer.old }
     requires room { 0 < room }
     ensures taken { IfOk result (λ n. (n ≤ room)
-        × HasTaken D.holds D.has (R.left source.old) (R.left source.new) (K.kept recorder.old)
-        (K.kept recorder.new) reader.old reader.new n) }
+        × HasTaken D.holds D.has (R.left source.old) (R.left source.new) (K.recorded recorder.old)
+        (K.recorded recorder.new) reader.old reader.new n) }
     ensures front { IfErr result (λ _. (octets : List ℕ)
         × Consumes (R.left source.old) (R.left source.new) octets × (length octets ≤ room)) }
     ensures broken { IsErrOf result FillError.Broken → IsTrue (R.is_broken source.new) }
-    ensures kept { IsErrOf result FillError.Broken → Keeps (R.left source.old) (R.left source.new) }
+    ensures untaken { IsErrOf result FillError.Broken
+        → Keeps (R.left source.old) (R.left source.new) }
     ensures unfinished { IsErrOf result FillError.Broken → (p : Named) (b : List ℕ)
         → IsFed p D.holds D.has reader.old b → NoneEndsWithin p b
         → IsUnfinishedIn (profile_of p) b }
@@ -234,7 +237,7 @@ fn take_octets<D: Draft, R: Source>(
     ensures count { IfOk result (λ n. (n ≤ room) × (n ≤ length buffer.new)) }
     ensures taken { IfOk result (λ n. Consumes (R.left source.old) (R.left source.new)
         (take n buffer.new)) }
-    ensures kept { IsErr result → Keeps (R.left source.old) (R.left source.new) }
+    ensures untaken { IsErr result → Keeps (R.left source.old) (R.left source.new) }
     ensures unfinished { IsErr result → (p : Named) (b : List ℕ)
         → IsFed p D.holds D.has reader.old b → IsUnfinishedIn (profile_of p) b }
     ensures fed { IfOk result (λ n. (p : Named) (b : List ℕ) → IsFed p D.holds D.has reader.old b

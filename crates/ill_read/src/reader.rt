@@ -6,8 +6,8 @@ mod elements;
 use crate::draft::Draft;
 use crate::failure::Failure;
 use crate::path::Path;
-use ber_core::Id;
-use ill_grammar::{LengthRead, first_identifier, length_after, need_at};
+use ber_core::{Id, LengthRead, first_identifier, length_after};
+use ill_grammar::{Frames, need_at};
 use ill_schema::{Cause, LIMIT, Profile, Refusal};
 use std::alloc::Global;
 use std::mem;
@@ -109,6 +109,13 @@ impl<D: Draft> Reader<D> {
             state: _,
         } = self;
         path.into_draft()
+    }
+
+    /// The elements that are open, innermost last.
+    pub fn frames(&self) -> &Frames
+        ensures { result.now ≡ self.now.path.frames }
+    {
+        &self.path.frames
     }
 
     /// The offset that it has reached.
@@ -272,7 +279,7 @@ impl<D: Draft> Reader<D> {
     }
 
     /// Goes on to the next place, and returns how many octets that took, or None where the rest doesn't reach it or nothing is open.
-    fn step(&mut self, rest: &[u8]) -> Option<usize>
+    pub fn step(&mut self, rest: &[u8]) -> Option<usize>
         requires takes { D.takes self.old.path.frames.profile }
         ensures pending { self.new.pending ≡ self.old.pending }
         ensures progress { Progresses (length rest.now) self.old.path.frames self.new.path.frames

@@ -7,11 +7,11 @@ use std::alloc::AllocError;
 /// A recorder of the octets that a message is read from.
 pub(crate) trait Recorder {
     // The recorded octets, where it records them.
-    ghost kept: { Self → Option (List ℕ) };
+    ghost recorded: { Self → Option (List ℕ) };
 
     /// Appends octets to the recorded ones.
     fn append(&mut self, octets: &[u8]) -> Result<(), AllocError>
-        ensures { OnOk result (Appends (kept self.old) (kept self.new) octets.now) };
+        ensures { OnOk result (Appends (recorded self.old) (recorded self.new) octets.now) };
 }
 
 /// Records nothing.
@@ -19,7 +19,7 @@ pub(crate) trait Recorder {
 pub(crate) struct NoRecorder;
 
 impl Recorder for NoRecorder {
-    ghost kept = { λ _. None };
+    ghost recorded = { λ _. None };
 
     fn append(&mut self, octets: &[u8]) -> Result<(), AllocError> {
         let _ = octets;
@@ -28,7 +28,7 @@ impl Recorder for NoRecorder {
 }
 
 impl Recorder for Vec<u8> {
-    ghost kept = { λ v. Some v.items };
+    ghost recorded = { λ v. Some v.items };
 
     fn append(&mut self, octets: &[u8]) -> Result<(), AllocError> {
         self.extend_from_slice(octets)?;

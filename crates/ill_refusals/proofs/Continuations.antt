@@ -15,7 +15,7 @@ use Rattle.ill_refusals.proofs.Machine.{step, after, Runs, runs-step, runs-trans
 use Rattle.ill_refusals.proofs.OneOutcome.{begin, due_run, encodes_run, refused_alone, accepted_alone, message_encodes}
 use Rattle.ill_refusals.proofs.DueSteps.{IsMessage, Placed, step_placed}
 use Rattle.ill_refusals.proofs.PlaceOrder.{either_leads, due_placed, final_stays}
-use Rattle.ill_refusals.proofs.Headers.{octets_right, take-all, drop-all}
+use Rattle.ber_core.proofs.ReadOctets.{octets_right, take-all, drop-all}
 use Rattle.ill_refusals.proofs.TreeRuns.{step_is}
 
 -- octets that lead to a place, and what follows

@@ -23,7 +23,7 @@ use Rattle.ill_schema.proofs.Tags.{root_choice}
 use Rattle.ill_schema.proofs.Unique.{no_leaf}
 use Rattle.ill_refusals.proofs.WholeElements.{IsProper, IsElement}
 use Rattle.ill_refusals.proofs.OpenElements.{in_body, due_whole, due_proper, read_element, primitive_element}
-use Rattle.ill_refusals.proofs.Headers.{octets_left, octets_right, take-all}
+use Rattle.ber_core.proofs.ReadOctets.{octets_left, octets_right, take-all}
 use Rattle.ill_refusals.proofs.Segments.{segments_octets}
 use Rattle.ill_refusals.proofs.Judgements.{MayEnd, Judged, Closes, Opens, Reads, judged, bound_some, id_size, length_size}
 use Rattle.ill_refusals.specs.code.Step.{Step, refused, goes, whole, stuck, snoc, with_tree, close, opened, moved}

@@ -11,7 +11,7 @@ use Rattle.ill_refusals.specs.Fault.{Fault, fault, Finding, passes, finds, first
 use Rattle.ill_refusals.specs.code.Judge.{Judgement, faulty, closes, opens, reads, or_faulty, judge_end, judge_content, judge_size, judge_length, judge_form, judge_tag, judge_element, judge_mark, judge_octets, judge, fault_in}
 use Rattle.ill_refusals.specs.Next.{Due, element_of, due, missing}
 use Rattle.ill_refusals.specs.Place.{Open, next_in, bound, allows}
-use Rattle.ill_refusals.specs.Reading.{IdentifierRead, identified, part_identifier, no_identifier, read_identifier, LengthRead, definite, indefinite, part_length, no_length, read_length}
+use Rattle.ber_core.specs.Reading.{IdentifierRead, identified, part_identifier, no_identifier, read_identifier, LengthRead, definite, indefinite, part_length, no_length, read_length}
 
 -- an end, whatever conditions come after it
 end_judged : (p : Profile) (path : List Open) (k marks : ℕ) (more : List Finding) → first_fault (innermost_ends p path k ∷ more) ≡ fault_in (judge_end p path k marks)

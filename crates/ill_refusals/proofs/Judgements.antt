@@ -16,10 +16,10 @@ use Rattle.ber_core.specs.Octets.{are_octets}
 use Rattle.ill_refusals.specs.Next.{Next, rows, items, either, segments, anything, foreigns, is_last, Due, element_of, due, missing}
 use Rattle.ill_refusals.specs.Place.{Open, next_in, bound, allows}
 use Rattle.ber_leaf.specs.Profile.{Profile}
-use Rattle.ill_refusals.specs.Reading.{IdentifierRead, identified, part_identifier, no_identifier, read_identifier, LengthRead, definite, indefinite, part_length, no_length, read_length}
-use Rattle.ill_refusals.proofs.Rows.{two_cases}
+use Rattle.ber_core.specs.Reading.{IdentifierRead, identified, part_identifier, no_identifier, read_identifier, LengthRead, definite, indefinite, part_length, no_length, read_length}
+use Rattle.ber_core.proofs.Lists.{two_cases}
 use Rattle.std.proofs.lemmas.Bool.{and_parts}
-use Rattle.ill_refusals.proofs.Headers.{identifier_read, length_read, read_is_identifier, read_is_length, read_is_indefinite, octets_left, octets_right}
+use Rattle.ber_core.proofs.ReadOctets.{identifier_read, length_read, read_is_identifier, read_is_length, read_is_indefinite, octets_left, octets_right}
 
 -- an element that may begin there
 pub record IsStarted (p : Profile) (path : List Open) (tag : Tag) (form : Bool) (d : Due) : Type 0 where

@@ -3,7 +3,6 @@ pub mod Machine
 pub mod Rows
 pub mod WholeElements
 pub mod OpenElements
-pub mod Headers
 pub mod Segments
 pub mod Judgements
 pub mod TreeRuns
@@ -11,11 +10,8 @@ pub mod PlaceRuns
 pub mod DueSteps
 pub mod OneOutcome
 pub mod Prefixes
-pub mod PartHeaders
-pub mod ReadHeaders
 pub mod Continuations
 pub mod PlaceOrder
-pub mod HeaderFaults
 pub mod Truncation
 pub mod Bounds
 pub mod Refusals

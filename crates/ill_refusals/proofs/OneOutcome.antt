@@ -16,11 +16,11 @@ use Rattle.ill_schema.proofs.OneMeaning.{apdu_unique}
 use Rattle.ill_refusals.specs.code.Step.{Step, refused, goes, whole, stuck}
 use Rattle.ill_refusals.proofs.Machine.{step, IsFinal, Runs, runs-step, runs-trans, one_end}
 use Rattle.ill_refusals.proofs.DueSteps.{IsMessage, Placed, ends}
-use Rattle.ill_refusals.proofs.Headers.{take-all}
+use Rattle.ber_core.proofs.ReadOctets.{take-all}
 use Rattle.ill_refusals.proofs.PlaceRuns.{place_run, message_run}
 use Rattle.ill_refusals.proofs.TreeRuns.{step_is}
 use Rattle.ill_refusals.proofs.Truncation.{truncated_at}
-use Rattle.ill_refusals.proofs.Rows.{two_cases}
+use Rattle.ber_core.proofs.Lists.{two_cases}
 
 abbrev pub begin : List ℕ → Step
 begin s = goes [] 0 s

@@ -34,7 +34,8 @@ use Rattle.ill_schema.specs.TableFacts.{node_tags, row_tags}
 use Rattle.ill_schema.proofs.Tags.{is_proper, is_proper_row, is_tagged, Mem, same_tag-refl, tables_proper, at_row}
 use Rattle.std.proofs.lemmas.Bool.{and_parts}
 use Rattle.ill_schema.proofs.Unique.{means_begins, matches_begins, no_leaf, no_any_leaf, proper_untagged, sequence_apart}
-use Rattle.ill_refusals.proofs.Rows.{AreRead, starting, starting_some, two_cases, same_tag-is, sequence_read, tables_started, are_started, same_tags, same_tags-is, tag_at, next_after-more, due-found}
+use Rattle.ill_refusals.proofs.Rows.{AreRead, starting, starting_some, same_tag-is, sequence_read, tables_started, are_started, same_tags, same_tags-is, tag_at, next_after-more, due-found}
+use Rattle.ber_core.proofs.Lists.{two_cases}
 use Rattle.ill_refusals.proofs.WholeElements.{IsElement, IsProper, IsProperComponent, is_carried, component_of, start_element, start_value, start_proper}
 
 abbrev pub AllProper : Profile → List Component → Type 0

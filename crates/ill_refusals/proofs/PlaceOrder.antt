@@ -11,7 +11,7 @@ use Rattle.ill_refusals.specs.code.Step.{Step, refused, goes, whole, stuck, with
 use Rattle.ill_refusals.proofs.Machine.{step, after, after-sum, IsFinal, Runs}
 use Rattle.std.proofs.lemmas.List.{take-append-drop, length-take-le}
 use Rattle.ill_refusals.proofs.DueSteps.{Placed, step_placed}
-use Rattle.ill_refusals.proofs.Headers.{octets_right}
+use Rattle.ber_core.proofs.ReadOctets.{octets_right}
 use Rattle.ill_refusals.proofs.FirstFault.{is_judged}
 use Rattle.ill_refusals.proofs.OneOutcome.{begin, due_run}
 

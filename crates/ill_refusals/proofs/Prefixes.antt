@@ -15,10 +15,10 @@ use Rattle.ill_refusals.specs.Next.{Due, element_of, due}
 use Rattle.ill_refusals.specs.Outcome.{HasOneOutcome}
 use Rattle.ill_refusals.specs.Place.{Open, next_in, bound, allows, IsPlace, IsDue}
 use Rattle.ber_leaf.specs.Profile.{Profile}
-use Rattle.ill_refusals.specs.Reading.{IdentifierRead, identified, part_identifier, no_identifier, read_identifier, LengthRead, definite, indefinite, part_length, no_length, read_length}
+use Rattle.ber_core.specs.Reading.{IdentifierRead, identified, part_identifier, no_identifier, read_identifier, LengthRead, definite, indefinite, part_length, no_length, read_length}
 use Rattle.ill_refusals.proofs.OneOutcome.{encodes_no_fault, one_encoding, one_outcome}
-use Rattle.ill_refusals.proofs.Headers.{identifier_longer, no_identifier_longer, length_longer, indefinite_longer, no_length_longer, octets_left}
-use Rattle.ill_refusals.proofs.Rows.{two_cases}
+use Rattle.ber_core.proofs.ReadOctets.{identifier_longer, no_identifier_longer, length_longer, indefinite_longer, no_length_longer, octets_left}
+use Rattle.ber_core.proofs.Lists.{two_cases}
 
 abbrev truncated : ℕ → Fault
 truncated at = fault Cause.Truncated at

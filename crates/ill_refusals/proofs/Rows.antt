@@ -7,6 +7,7 @@ use Rattle.std.specs.Cmp.{signed_Decides}
 use Rattle.ill_schema.specs.declared.node.LeafKind.{LeafKind}
 use Rattle.ber_core.specs.declared.id.Class.{Class}
 use Rattle.ber_core.specs.Identifier.{Tag, class_bits}
+use Rattle.ber_core.proofs.Lists.{two_cases}
 use Rattle.ber_core.specs.Tree.{Tree, Trees, none, more, tag_of}
 use Rattle.ill_schema.specs.declared.node.Kind.{Kind}
 use Rattle.ill_schema.specs.declared.node.NodeId.{NodeId}
@@ -71,10 +72,6 @@ same_tags-is (s ∷ ss) (t ∷ ts) h = let p = and_parts (same_tag s t) (same_ta
 
 abbrev pub starting : Tag → List Start → Option Start
 starting t ss = find (λ s. same_tag s.tag t) ss
-
-pub two_cases : (b : Bool) → (b ≡ true) ⊎ (b ≡ false)
-two_cases true = inl refl
-two_cases false = inr refl
 
 pub starting_some : (t : Tag) (ss : List Start) → Mem t (map tag_at ss) → (s : Start) × (starting t ss ≡ Some s)
 starting_some t [] m = absurd m

@@ -5,7 +5,7 @@ use Rattle.ber_core.specs.Octets.{are_octets}
 use Rattle.ber_core.specs.Tree.{Tree, Trees, primitive, constructed, none, more, Spells, SpellsAll, text, text_all}
 use Rattle.ber_leaf.specs.Leaf.{Leaf, bit_string, is_bits}
 use Rattle.ber_leaf.specs.Segments.{no_bits, join_bits, tree_bits, bits_after, segments_content}
-use Rattle.ill_refusals.proofs.Headers.{octets_left, octets_right, octets_join}
+use Rattle.ber_core.proofs.ReadOctets.{octets_left, octets_right, octets_join}
 
 -- the contents octets of an encoding that is octets
 contents_octets : (tag : Tag) (ts : Trees) (b : List ℕ) → (h : Spells (constructed tag ts) b) → IsTrue (are_octets b) → IsTrue (are_octets h.0)

@@ -25,7 +25,8 @@ use Rattle.ill_schema.specs.Table.{kind_of, rows_of}
 use Rattle.ill_schema.specs.TableFacts.{own_tags, alternative_tags, tagging_tags}
 use Rattle.ill_schema.proofs.Tags.{is_proper, is_proper_row, is_tagged, Mem, same_place, at_row, tables_proper}
 use Rattle.ill_schema.proofs.Unique.{leaf_at, leaf_is, no_leaf, kind_says, any_proper, means_begins, good_choice, same_tags}
-use Rattle.ill_refusals.proofs.Rows.{same_tag-is, starting, two_cases}
+use Rattle.ill_refusals.proofs.Rows.{same_tag-is, starting}
+use Rattle.ber_core.proofs.Lists.{two_cases}
 
 -- the tree is a whole element of this sort
 abbrev pub IsElement : Profile → Element → Tree → Type 0

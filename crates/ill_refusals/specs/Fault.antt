@@ -13,7 +13,7 @@ use Rattle.ill_refusals.specs.Element.{Element, leaf, left_out}
 use Rattle.ill_refusals.specs.Next.{Due, element_of, due, missing, is_last}
 use Rattle.ill_refusals.specs.Place.{Open, next_in, innermost_end, bound, allows, IsDue}
 use Rattle.ill_schema.specs.Apdu.{Apdu, Encodes, normal_form_in}
-use Rattle.ill_refusals.specs.Reading.{IdentifierRead, read_identifier, identified, part_identifier, no_identifier, LengthRead, read_length, definite, part_length, no_length}
+use Rattle.ber_core.specs.Reading.{IdentifierRead, read_identifier, identified, part_identifier, no_identifier, LengthRead, read_length, definite, part_length, no_length}
 
 -- a cause and an offset
 pub record Fault : Type 0 where

@@ -1,8 +1,6 @@
 pub mod Element
 pub mod Next
 pub mod Place
-pub mod Reading
-pub mod Headers
 pub mod Fault
 pub mod Outcome
 pub mod code

@@ -11,7 +11,6 @@ ghost use Rattle.ill_schema.specs.Tagging.{tagging};
 ghost use Rattle.ill_refusals.specs.Element.{Component, Element, components, starts};
 ghost use Rattle.ill_refusals.specs.Next.{Next, due, missing, opening, next_after};
 ghost use Rattle.ill_refusals.specs.Bounds.{ValuesAreSmall};
-ghost use Rattle.ill_refusals.specs.Headers.{IdentifiersAreRead, LengthsAreRead};
 ghost use Rattle.ill_refusals.specs.Outcome.{OutcomesAreExact, RefusalsStay, PrefixesAreTruncated, TruncatedIsAtTheEnd, PlacesAreApart, FaultsAreLast};
 
 /// Each input is accepted as one APDU of one size, or refused with one fault.
@@ -40,12 +39,6 @@ pub fn one_place()
 /// items and elements.
 pub fn values_are_small()
     ensures { (p : Profile) → ValuesAreSmall p }
-{}
-
-/// Reads at the front of octets an identifier or a length as X.690 spells it (8.1.2, 8.1.3), the front of one, or none.
-pub fn headers_are_read()
-    ensures identifiers { IdentifiersAreRead }
-    ensures lengths { LengthsAreRead }
 {}
 
 /// Two profiles in which tags may be bare, or in which none may, have the same due at each place; so do all those that a program can

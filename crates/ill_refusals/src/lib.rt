@@ -5,6 +5,5 @@
 mod laws;
 
 pub use laws::{
-    due_by_bare_tags, headers_are_read, one_outcome, one_place, refusals_stay,
-    truncated_at_the_end, values_are_small,
+    due_by_bare_tags, one_outcome, one_place, refusals_stay, truncated_at_the_end, values_are_small,
 };

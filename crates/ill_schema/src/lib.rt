@@ -12,6 +12,7 @@
 
 mod entry;
 mod equality;
+mod hexadecimal;
 mod laws;
 mod lookup;
 mod message;
@@ -32,6 +33,7 @@ mod value;
 
 pub use entry::{is_carried, is_default, may_lack};
 pub use equality::equal;
+pub use hexadecimal::hexadecimal_digits;
 pub use laws::{
     named_profiles, no_octets_change_their_meaning, normal_form_is_a_spelling,
     normal_form_is_no_longer, normal_form_is_one_to_one, normal_tree_means_the_value, one_meaning,

@@ -9,7 +9,7 @@ ghost use Rattle.ill_schema.specs.Presence.{default_value};
 ghost use Rattle.ill_schema.specs.Table.{kind_of};
 ghost use Rattle.ill_schema.specs.declared.node.NodeId.{NodeId};
 ghost use Rattle.ill_grammar.specs.LeafTypes.{IsContentIn, leaf_is};
-ghost use Rattle.ill_read.specs.Outline.{IsPassed};
+ghost use Rattle.ill_read.specs.Outline.{IsAbsent};
 ghost use Rattle.ill_schema.specs.Numbers.{number_name};
 ghost use Rattle.ill_text.specs.Shown.{escaped, in_brackets, leaf_text, line};
 ghost use Rattle.ill_text.specs.Shown.{entry_text};
@@ -21,10 +21,10 @@ use crate::field_path::{FieldPath, put_line, put_path};
 use crate::text_sink::TextSink;
 use ber_core::Sink;
 use ill_read::{LeafType, Mark, is_octet, is_set, leading_octets, number_in};
-use ill_schema::{Kind, LeafKind, NodeId, PartId, Presence, kind, number_name, row};
+use ill_schema::{
+    Kind, LeafKind, NodeId, PartId, Presence, hexadecimal_digits, kind, number_name, row,
+};
 use itoa::Buffer;
-
-pub const DIGITS: &[u8; 16] = b"0123456789abcdef";
 
 /// Puts the line of a leaf whose octets the marks begin with, in a row of this name, and returns how many octets it has.
 #[inline(always)]
@@ -61,7 +61,7 @@ pub fn put_leaf<W: Sink>(
     }
 }
 
-/// Puts the line of the default of a row that was passed, if it has one.
+/// Puts the line of the default of a row that is absent, if it has one.
 pub fn put_default<W: Sink>(
     part: PartId,
     path: &FieldPath<'_>,
@@ -69,7 +69,7 @@ pub fn put_default<W: Sink>(
     out: &mut TextSink,
     sink: &mut W,
 )
-    ensures adds { (e : Option Content) (node : NodeId) → IsPassed part e
+    ensures adds { (e : Option Content) (node : NodeId) → IsAbsent part e
         → Adds (entry_text (place_at path.now name.now node) e)
         (sending (W.contents sink.old) (W.is_broken sink.old) out.old)
         (sending (W.contents sink.new) (W.is_broken sink.new) out.new) }
@@ -252,8 +252,7 @@ fn put_escape<W: Sink>(octet: u8, out: &mut TextSink, sink: &mut W)
         b'"' | b'\\' => out.put(sink, &[b'\\', octet]),
         b' '..=b'~' => out.put(sink, &[octet]),
         _ => {
-            let high = DIGITS[(octet / 16) as usize];
-            let low = DIGITS[(octet % 16) as usize];
+            let [high, low] = hexadecimal_digits(octet);
             out.put(sink, &[b'\\', b'x', high, low]);
         }
     }

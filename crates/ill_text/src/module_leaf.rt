@@ -15,11 +15,12 @@ ghost use Rattle.ill_text.specs.code.Sending.{Adds, sending};
 ghost use Rattle.ill_text.specs.code.FieldPaths.{path_of};
 
 use crate::field_path::{FieldPath, put_line, put_path};
-use crate::leaf::{DIGITS, put_escaped, put_quoted};
+use crate::leaf::{put_escaped, put_quoted};
 use crate::text_sink::TextSink;
 use ber_core::Sink;
 use ill_grammar::ModuleLeaf;
 use ill_read::{Mark, leading_octets};
+use ill_schema::hexadecimal_digits;
 use itoa::Buffer;
 
 /// Puts the line of a leaf whose octets the marks begin with, and returns how many octets it has.
@@ -248,9 +249,7 @@ fn put_digits<W: Sink>(octet: u8, out: &mut TextSink, sink: &mut W)
         (sending (W.contents sink.new) (W.is_broken sink.new) out.new) }
     ensures stays { IsTrue (W.is_broken sink.old) → IsTrue (W.is_broken sink.new) }
 {
-    let high = DIGITS[(octet / 16) as usize];
-    let low = DIGITS[(octet % 16) as usize];
-    out.put(sink, &[high, low]);
+    out.put(sink, &hexadecimal_digits(octet));
 }
 
 /// Puts an OBJECT IDENTIFIER: in decimals, or in hexadecimal where a number takes more than 63 bits.

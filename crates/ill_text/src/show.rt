@@ -19,7 +19,9 @@ use crate::leaf::{put_default, put_leaf};
 use crate::module_leaf::{put_bits, put_module_leaf};
 use crate::text_sink::TextSink;
 use ber_core::Sink;
-use ill_read::{LeafType, Mark, after_first, at_end, first_mark, has_default, passed};
+use ill_read::{
+    LeafType, Mark, absent_row, after_leading_mark, has_default, is_at_end, leading_mark,
+};
 use ill_schema::{NodeId, PartId, row_name, row_node};
 
 /// Puts the lines of the value that the marks begin with, of this node in a row of this name, and returns the marks after it.
@@ -42,10 +44,10 @@ pub fn put_value<'m, W: Sink>(
     ensures no_longer { length result.now ≤ length marks.now }
     ensures stays { IsTrue (W.is_broken sink.old) → IsTrue (W.is_broken sink.new) }
 {
-    let Some(first) = first_mark(marks) else {
+    let Some(first) = leading_mark(marks) else {
         return marks;
     };
-    let rest = after_first(marks);
+    let rest = after_leading_mark(marks);
     match first {
         Mark::Leaf(leaf) => put_marked_leaf(leaf, rest, path, name, out, sink),
         Mark::ModuleLeaf(_) | Mark::BitString | Mark::Foreign => {
@@ -180,17 +182,17 @@ fn put_entry<'m, W: Sink>(
     ensures stays { IsTrue (W.is_broken sink.old) → IsTrue (W.is_broken sink.new) }
 {
     if is_absent(marks) {
-        return (after_first(marks), false);
+        return (after_leading_mark(marks), false);
     }
     (put_part(marks, path, node, i, out, sink), true)
 }
 
-/// Tells whether a row that has no default was passed.
+/// Tells whether a row that has no default is absent.
 fn is_absent(marks: &[Mark]) -> bool
     ensures { (e : Option Content) (ms rest : List Mark) → IsEntry e ms → marks.now ≡ ms ++ rest
         → result ≡ not (is_there e) }
 {
-    match passed(marks) {
+    match absent_row(marks) {
         Some(part) => !has_default(part),
         None => false,
     }
@@ -218,17 +220,17 @@ fn put_entries<'m, W: Sink>(
     let mut left = marks;
     let mut i = 0;
     let mut some = false;
-    'rows: while !at_end(left) {
+    'rows: while !is_at_end(left) {
         let (rest, there) = put_entry(left, path, node, i, out, sink);
         left = rest;
         i += 1;
         some = some || there;
     }
     if some {
-        return after_first(left);
+        return after_leading_mark(left);
     }
     put_line(path, b"{}", out, sink);
-    after_first(left)
+    after_leading_mark(left)
 }
 
 /// Puts the lines of the items that the marks begin with, up to their end, and returns the marks after it.
@@ -252,15 +254,15 @@ fn put_items<'m, W: Sink>(
 {
     let mut left = marks;
     let mut i = 0;
-    'items: while !at_end(left) {
+    'items: while !is_at_end(left) {
         left = put_item(left, i, path, name, node, out, sink);
         i += 1;
     }
     if i > 0 {
-        return after_first(left);
+        return after_leading_mark(left);
     }
     put_line(path, b"[]", out, sink);
-    after_first(left)
+    after_leading_mark(left)
 }
 
 /// Puts the lines of an item, which has its list's name.

@@ -14,7 +14,7 @@ use crate::field_path::FieldPath;
 use crate::show::put_value;
 use crate::text_sink::TextSink;
 use ber_core::{Sink, VecSink};
-use ill_read::{Mark, Outline, after_first, alternative};
+use ill_read::{Mark, Outline, after_leading_mark, alternative};
 use ill_schema::{Profile, row_name, row_node};
 use itoa::Buffer;
 use std::alloc::{AllocError, Global};
@@ -151,7 +151,14 @@ fn put_marks<W: Sink>(
             let root = profile.root();
             put_head(number, row_name(root, row as usize), out, sink);
             let node = row_node(root, row as usize);
-            let _ = put_value(after_first(marks), &FieldPath::Start, "", node, out, sink);
+            let _ = put_value(
+                after_leading_mark(marks),
+                &FieldPath::Start,
+                "",
+                node,
+                out,
+                sink,
+            );
         }
         None => {}
     }

@@ -38,13 +38,13 @@ none_refused p s rest xs ys f h k some only = elim (cases_lt (length xs) (length
 ]
 
 -- where no one message is asked for, the last one is at the end
-at_end : (dump : DumpOptions) (n : ℕ) (t : List ℕ) → dump.only ≡ None → IsLast dump n (Some t) → t ≡ []
-at_end dump n t e (inl h) = h
-at_end dump n t e (inr h) = absurd (let no : None ≡ Some n = sym e ∙ h in cc)
+all_taken : (dump : DumpOptions) (n : ℕ) (t : List ℕ) → dump.only ≡ None → IsLast dump n (Some t) → t ≡ []
+all_taken dump n t e (inl h) = h
+all_taken dump n t e (inr h) = absurd (let no : None ≡ Some n = sym e ∙ h in cc)
 
 pub whole : (dump : DumpOptions) (s t : List ℕ) (held held' : Option (List ℕ)) (n : ℕ) → dump.only ≡ None → (d : AreDumped dump (Some s) (Some t) held held' n) → IsStream (profile_of dump.profile) s d.apdus []
 whole dump s t held held' n all d =
-    let e : s ≡ d.octets = d.taken ∙ ap (λ l. d.octets ++ l) (at_end dump n t all d.last) ∙ append-nil d.octets in
+    let e : s ≡ d.octets = d.taken ∙ ap (λ l. d.octets ++ l) (all_taken dump n t all d.last) ∙ append-nil d.octets in
     subst (λ l. IsStream (profile_of dump.profile) l d.apdus []) (sym e) d.stream
 
 pub ends : (dump : DumpOptions) (s t : List ℕ) (held held' : Option (List ℕ)) (n : ℕ) → dump.only ≡ None → AreDumped dump (Some s) (Some t) held held' n → (e : RunFault) → StopsIn (profile_of dump.profile) s e → IsFault e

@@ -37,7 +37,7 @@ fn outcome(alloc: Global, answer: Result<Message, Failure>) -> Result<String, Al
     }
 }
 
-fn at_end(octets: usize, message: Option<Message>) -> Result<Message, Failure> {
+fn message_at_end(octets: usize, message: Option<Message>) -> Result<Message, Failure> {
     match message {
         Some(message) if message.octets() as usize == octets => Ok(message),
         Some(message) => Err(Failure::Refused(Refusal {
@@ -73,7 +73,7 @@ fn in_pieces(alloc: Global, octets: &[u8], max_len: usize) -> Result<Message, Fa
         }
         rest = &rest[size..];
     }
-    at_end(octets.len(), decoder.finish()?)
+    message_at_end(octets.len(), decoder.finish()?)
 }
 
 /// The octets of a row in pieces, and the outcome.

@@ -29,8 +29,8 @@ use Rattle.ill_grammar.specs.declared.judge.Extent.TheVariants.{Opens, Reads}
 use Rattle.ill_grammar.specs.declared.frames.Frames.{Frames}
 use Rattle.ill_refusals.specs.Next.{missing}
 use Rattle.ill_grammar.specs.Places.{first_place}
-use Rattle.ill_grammar.specs.declared.header.LengthRead.{LengthRead}
-use Rattle.ill_grammar.specs.declared.header.LengthRead.TheVariants.{Whole}
+use Rattle.ber_core.specs.declared.header_read.LengthRead.{LengthRead}
+use Rattle.ber_core.specs.declared.header_read.LengthRead.TheVariants.{Whole}
 
 -- the innermost element ends, and no part of it is missing
 pub record IsEnd (p : Named) (place : List Open) (marks : ℕ) (j : Judgement) : Type 0 where

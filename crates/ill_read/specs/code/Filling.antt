@@ -24,12 +24,12 @@ pub record HasPulled {D : Type 0} (p : Named) (holds : D → List Level → List
   pub exact : NoneEndsWithin p (b ++ piece)
   pub ended : piece ≡ [] → (d.state ≢ state.Open) ⊎ IsAtEnd after
 
--- n octets were taken, kept, and fed to the reader
+-- n octets were taken, recorded, and fed to the reader
 pub record HasTaken {D : Type 0} (holds : D → List Level → List ℕ → Type 0) (has : Named → D → Apdu → ℕ → Type 0) (left after held held' : Option (List ℕ)) (d d' : Reader D) (n : ℕ) : Type 0 where
   pub piece : List ℕ
   pub size : length piece ≡ n
   pub taken : Consumes left after piece
-  pub kept : Appends held held' piece
+  pub recorded : Appends held held' piece
   pub fed : (p : Named) (b : List ℕ) → IsFed p holds has d b → NoneEndsWithin p b → HasPulled p holds has after d' b piece
 
 -- it was fed just these octets, which the source gave up, until nothing was open or the source was at its end
@@ -40,7 +40,7 @@ pub record HasFilled {D : Type 0} (p : Named) (holds : D → List Level → List
   pub exact : NoneEndsWithin p octets
   pub ended : (d.state ≢ state.Open) ⊎ IsAtEnd after
 
--- and these octets were kept after those that were kept before
+-- and these octets were recorded after those that were recorded before
 pub record HasKept {D : Type 0} (p : Named) (holds : D → List Level → List ℕ → Type 0) (has : Named → D → Apdu → ℕ → Type 0) (left after : Option (List ℕ)) (d : Reader D) (old new : Option (List ℕ)) : Type 0 where
   pub filled : HasFilled p holds has left after d
-  pub kept : Appends old new filled.octets
+  pub recorded : Appends old new filled.octets

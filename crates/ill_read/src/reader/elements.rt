@@ -4,11 +4,8 @@ ghost use Rattle.std.specs.Prelude.{◌≤◌};
 use super::{Reader, State};
 use crate::draft::Draft;
 use crate::failure::Failure;
-use ber_core::Id;
-use ill_grammar::{
-    Extent, Found, HeaderRead, LengthRead, Opening, Reading, first_identifier, length_after,
-    read_header,
-};
+use ber_core::{HeaderRead, Id, LengthRead, first_identifier, length_after, read_header};
+use ill_grammar::{Extent, Found, Opening, Reading};
 use ill_schema::{Cause, Profile, Refusal};
 
 impl<D: Draft> Reader<D> {
@@ -18,7 +15,7 @@ impl<D: Draft> Reader<D> {
     ghost use Rattle.std.specs.Prelude.{◌≡◌, ℕ, ◌+◌, ◌-◌, ◌<◌, List, ◌++◌, length, drop, take, false, true, IsTrue, Ok, Err, Some, None};
     ghost use Rattle.ill_read.specs.Paths.{HoldsAt};
     ghost use Rattle.ill_grammar.specs.Standing.{StandsBefore};
-    ghost use Rattle.ill_grammar.specs.HeaderCode.{IsHeaderRead};
+    ghost use Rattle.ber_core.specs.HeaderRead.{IsHeaderRead};
     ghost use Rattle.ill_refusals.specs.code.Judge.{judge, judge_element, judge_end, judge_mark};
     ghost use Rattle.ill_read.specs.code.Judged.{IsJudgement};
     ghost use Rattle.ill_grammar.specs.code.Judging.{Fits, IsBegin, IsExtent, IsRoom, WhereItStands, is_usual, lacks_part};

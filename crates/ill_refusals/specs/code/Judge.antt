@@ -9,7 +9,7 @@ use Rattle.ill_refusals.specs.Element.{Element, left_out}
 use Rattle.ill_refusals.specs.Next.{element_of, due, missing}
 use Rattle.ill_refusals.specs.Place.{Open, next_in, bound, allows}
 use Rattle.ill_refusals.specs.Fault.{Fault, fault, ends_at, is_indefinite, past_end, cut_fault, element_fault, string_fault, is_deep}
-use Rattle.ill_refusals.specs.Reading.{read_identifier, identified, part_identifier, no_identifier, read_length, definite, indefinite, part_length, no_length}
+use Rattle.ber_core.specs.Reading.{read_identifier, identified, part_identifier, no_identifier, read_length, definite, indefinite, part_length, no_length}
 
 -- what is done at a place
 pub data Judgement : Type 0 where

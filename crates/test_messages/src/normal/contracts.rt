@@ -102,21 +102,21 @@ fn messages_at_hand_are_taken_whole(
     read_message_peeking::<FromSlice, Buffered>(alloc, source)
 }
 
-/// The normal form of the message at the front is read, and no octet after that message is taken; the octets that it had are kept.
+/// The normal form of the message at the front is read, and no octet after that message is taken; the octets that it had are recorded.
 fn normal_forms_are_of_the_message_at_the_front(
     source: &mut Pieces,
-    kept: &mut Vec<u8>,
+    recorded: &mut Vec<u8>,
     alloc: Global,
 ) -> Result<Option<NormalForm>, ReadFailure>
     ensures { (a : Apdu) (n : ℕ) → Accepts profile_two source.old.octets a n
         → IfOk result (λ found. elim found as (λ _. Type 0) [
           | Some x ↦ (x.octets.items ≡ normal_form a) × (x.input_len ≡ n)
               × (source.new.octets ≡ drop n source.old.octets)
-              × (kept.new.items ≡ kept.old.items ++ take n source.old.octets)
+              × (recorded.new.items ≡ recorded.old.items ++ take n source.old.octets)
           | None ↦ ⊥
         ]) }
 {
-    read_normal_recording_peeking::<Pieces, Unbuffered>(alloc, source, kept)
+    read_normal_recording_peeking::<Pieces, Unbuffered>(alloc, source, recorded)
 }
 
 /// Of octets at hand no more are passed than the message has whose normal form is read.
@@ -150,22 +150,22 @@ fn normal_forms_have_nothing_of_the_room(
     read_normal_in::<FromSlice, Buffered>(alloc, source, buffer)
 }
 
-/// Nothing that is in the buffer, or that the reader read before, comes into a normal form, or among the octets that are kept.
+/// Nothing that is in the buffer, or that the reader read before, comes into a normal form, or among the octets that are recorded.
 fn kept_normal_forms_have_nothing_of_the_room(
     reader: &mut NormalReader,
     source: &mut Pieces,
     buffer: Vec<u8>,
-    kept: &mut Vec<u8>,
+    recorded: &mut Vec<u8>,
 ) -> Result<Option<NormalForm>, ReadFailure>
     ensures { (a : Apdu) (n : ℕ) → Accepts profile_two source.old.octets a n
         → IfOk result (λ found. elim found as (λ _. Type 0) [
           | Some x ↦ (x.octets.items ≡ normal_form a) × (x.input_len ≡ n)
               × (source.new.octets ≡ drop n source.old.octets)
-              × (kept.new.items ≡ kept.old.items ++ take n source.old.octets)
+              × (recorded.new.items ≡ recorded.old.items ++ take n source.old.octets)
           | None ↦ ⊥
         ]) }
 {
-    reader.read_recording::<Pieces, Unbuffered>(source, buffer, kept)
+    reader.read_recording::<Pieces, Unbuffered>(source, buffer, recorded)
 }
 
 /// Nothing that is in the buffer, or that the reader read before, comes into what is written of a message, whatever is made of it.

@@ -3,4 +3,4 @@ use Rattle.ber_framing.proofs.LengthSteps.{fits_none}
 use Rattle.ber_framing.proofs.framer.fits.Goals as goal
 
 pub returns-in_default : goal.returns-in_default
-returns-in_default c = fits_none c.args.value c.args.left (omega arith)
+returns-in_default c = fits_none c.args.value c.args.missing_len (omega arith)

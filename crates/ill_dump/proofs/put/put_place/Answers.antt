@@ -1,5 +1,4 @@
-use Rattle.std.proofs.Common.{◌≡◌, ◌++◌, subst}
-use Rattle.std.specs.Prelude.{OnOk}
+use Rattle.std.proofs.Common.{◌++◌}
 use Rattle.ill_dump.specs.Dumped.{head}
 use Rattle.ill_dump.proofs.DumpedMessages.{on_ok, puts_all, puts_join}
 use Rattle.ill_dump.proofs.put.put_place.Goals as goal
@@ -7,6 +6,6 @@ use Rattle.ill_dump.proofs.put.put_place.Goals as goal
 pub returns-clause-begins : goal.returns-clause-begins
 returns-clause-begins g c =
     let front = c.args.out.now.head.octets.items ++ head c.args.dump c.args.message in
-    let first = subst (λ r. OnOk r (c.put_head.new.lines.octets.items ≡ front)) c.in_ok-or_out_of_memory.ensures.same c.put_head.ensures in
+    let first = c.in_ok-put_head.ensures in
     let both = puts_join _ _ _ _ _ _ c.in_ok-put_elements.ensures.puts c.in_ok-put_rest.ensures.puts in
     on_ok c.put.result _ _ (λ put. puts_all _ (g.W.Sink.contents c.put_rest.new.sink) _ front _ _ _ first both put) c.put.ensures.puts

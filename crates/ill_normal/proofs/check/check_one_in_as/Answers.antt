@@ -28,11 +28,11 @@ returns-clause-next g c =
     let h = rw c.in-Some.is at c.in_ok-normal.ensures.next in
     let eq = slice_eq-Decides Decides-eqb c.as_slice.result.now c.as_slice-2.result.now c.eq.result c.eq.ensures in
     let checked : Checked = record { apdu = c.apdu_number.result; octets = c.in-Some.normal.input_len; normal = c.len.result; is_normal = c.eq.result } in
-    reads_as (λ (n : NormalForm) (b : List ℕ). IsNormalIn p n b × (c.read_recording_as.new.kept.items ≡ c.new-kept.result.items ++ b)) (λ found b. DescribesIn p found.0 b × IsFormIn p found.1.items b)
+    reads_as (λ (n : NormalForm) (b : List ℕ). IsNormalIn p n b × (c.read_recording_as.new.recorded.items ≡ c.new-recorded.result.items ++ b)) (λ found b. DescribesIn p found.0 b × IsFormIn p found.1.items b)
     (g.R.Source.left c.args.source.now) (g.R.Source.left c.read_recording_as.new.source) (g.R.Source.is_broken c.args.source.now) (g.R.Source.is_broken c.read_recording_as.new.source)
     c.in-Some.normal (checked, c.in-Some.normal.octets)
     (λ b is. (
-      described p checked c.in-Some.normal b _ is.0 (is.1 ∙ ap (λ x. x ++ b) c.new-kept.ensures.items)
+      described p checked c.in-Some.normal b _ is.0 (is.1 ∙ ap (λ x. x ++ b) c.new-recorded.ensures.items)
           (λ a s h e. c.apdu_number.ensures c.args.profile a s h (c.deref.ensures.value ∙ e)) refl (c.len.ensures ∙ sym c.as_slice-2.ensures.len ∙ ap length c.as_slice-2.ensures.value)
           (λ t. sym c.as_slice.ensures.value ∙ eq.0 t ∙ c.as_slice-2.ensures.value, λ e. eq.1 (c.as_slice.ensures.value ∙ e ∙ sym c.as_slice-2.ensures.value)),
       λ a s. is.0.2 ∙ ap (normal_form_in p) (spells_once is.0.0 a b is.0.1 s),

@@ -12,6 +12,6 @@ rest-preserved g c =
     let all : take c.in-Ok.field-0 octet ≡ octet = take_all c.in-Ok.field-0 octet (omega arith) in
     record {
       taken = rest_more _ _ _ _ _ _ octet c.rest.invariant.taken
-          (subst (Consumes (g.R.Source.left c.rest.source) (g.R.Source.left c.take.new.self)) all c.in-Ok.ensures.octets.0) c.in-Ok-keep.ensures;
+          (subst (Consumes (g.R.Source.left c.rest.source) (g.R.Source.left c.take.new.self)) all c.in-Ok.ensures.octets.0) c.in-Ok-record_octets.ensures;
       stays = λ h. c.in-Ok.ensures.stays (c.rest.invariant.stays h);
     }

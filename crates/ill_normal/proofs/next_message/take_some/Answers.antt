@@ -22,8 +22,8 @@ returns-then-wanted-eq0-clause-takes g c =
     takes_none _ _ _ _ _ _ (Consumes-nil (g.R.Source.left c.args.source.now)) same
     (λ b h p. let some = c.missing_len.ensures.some b (same b h) p in absurd (omega (arith, some, c.min-wanted.ensures, c.if-wanted-eq0.true, c.requires))) refl
 
-pub returns-in-Ok-keep-clause-takes : goal.returns-in-Ok-keep-clause-takes
-returns-in-Ok-keep-clause-takes g c =
+pub returns-in-Ok-record_octets-clause-takes : goal.returns-in-Ok-record_octets-clause-takes
+returns-in-Ok-record_octets-clause-takes g c =
     let seen = c.feed-seen.ensures in
     let same = fed_no_more c.args.framer.now c.feed-seen.new.self c.buffered-hand.result.now c.feed-seen.result c.if-seen-gt0.false seen.fed in
     let n = c.in-Ok-take.count in
@@ -33,9 +33,9 @@ returns-in-Ok-keep-clause-takes g c =
     let len : length given ≡ c.min-wanted.result = search rules in
     let front : xs ≡ take n given = take-append-le n given (drop c.min-wanted.result c.args.buffer.now) le in
     let size : length xs ≡ n = ap length front ∙ length-take-le n given le in
-    subst (λ k. Takes (g.R.Source.left c.args.source.now) (g.R.Source.left c.take.new.self) c.args.framer.now c.feed.new.self c.args.kept.now.items c.keep-2.new.kept.items k) size
+    subst (λ k. Takes (g.R.Source.left c.args.source.now) (g.R.Source.left c.take.new.self) c.args.framer.now c.feed.new.self c.args.recorded.now.items c.record_octets-2.new.recorded.items k) size
     (takes_needed _ _ _ _ _ _ xs c.feed.result c.missing_len.result
     (subst (Consumes (g.R.Source.left c.args.source.now) (g.R.Source.left c.take.new.self)) (sym front) c.in-Ok-take.ensures.octets.0)
     c.feed.ensures.count (omega (arith, size, le, len, c.min-wanted.ensures))
     (λ b w h lt. c.missing_len.ensures.any b w (same b h) lt) (λ b h. c.feed.ensures.fed b (same b h)) c.feed.ensures.all
-    (λ z. c.in-Ok-take.ensures.octets.1 (omega (arith, size, z)) (omega (arith, len, c.if-wanted-eq0.false))) c.in-Ok-keep.ensures)
+    (λ z. c.in-Ok-take.ensures.octets.1 (omega (arith, size, z)) (omega (arith, len, c.if-wanted-eq0.false))) c.in-Ok-record_octets.ensures)

@@ -14,7 +14,7 @@ returns-in-Ok-eq0-clause-filled g c p opened =
     let none : t.piece ≡ [] = nil_from_length t.piece (omega (arith, t.size, c.in-Ok-eq0.field-0-test)) in
     record {
       filled = record { octets = i.0 ++ t.piece; taken = Consumes-trans _ _ _ i.0 t.piece i.1 t.taken; fed = x.fed; exact = x.exact; ended = x.ended none };
-      kept = Appends-trans _ _ _ i.0 t.piece i.4 t.kept;
+      recorded = Appends-trans _ _ _ i.0 t.piece i.4 t.recorded;
     }
 
 pub returns-in-Ok-eq0-clause-taken : goal.returns-in-Ok-eq0-clause-taken
@@ -37,20 +37,20 @@ returns-in-Err-clause-unfinished g c p opened is_err =
     let is : c.in-Err.failure ≡ Broken = cc in
     let broken = c.in-Err.is ∙ ap Err is in
     let was = i.3 p opened in
-    (i.0, Consumes-kept _ _ _ i.0 i.1 (c.more.ensures.kept broken), c.more.ensures.unfinished broken p i.0 was.0 was.1)
+    (i.0, Consumes-kept _ _ _ i.0 i.1 (c.more.ensures.untaken broken), c.more.ensures.unfinished broken p i.0 was.0 was.1)
 
 pub loop-room-preserved : goal.loop-room-preserved
 loop-room-preserved g c =
     let i = c.loop-room.invariant.0 in
     let t = c.in-Ok.ensures.taken.1 in
     let size = i.2 in let fits = c.in-Ok.ensures.taken.0 in
-    let kept = Appends-trans _ _ _ i.0 t.piece i.4 t.kept in (
+    let recorded = Appends-trans _ _ _ i.0 t.piece i.4 t.recorded in (
       (
         i.0 ++ t.piece,
         Consumes-trans _ _ _ i.0 t.piece i.1 t.taken,
         omega (arith, size, fits, t.size, length-append i.0 t.piece),
         λ p opened. let was = i.3 p opened in let x = t.fed p i.0 was.0 was.1 in (x.fed, x.exact),
-        kept,
+        recorded,
       ),
       λ h. c.in-Ok.ensures.stays (c.loop-room.invariant.1 h),
       c.more.ensures.profile ∙ c.loop-room.invariant.2,
@@ -63,7 +63,7 @@ returns-clause-filled g c p opened =
     let was = i.3 p opened in
     record {
       filled = record { octets = i.0; taken = i.1; fed = was.0; exact = was.1; ended = inl (full_closed p g.D.Draft.holds g.D.Draft.has c.loop-room.reader i.0 was.0 (omega (arith, size, none))) };
-      kept = i.4;
+      recorded = i.4;
     }
 
 pub more-requires-clause-takes : goal.more-requires-clause-takes

@@ -19,7 +19,7 @@ returns-then-seen-gt0-clause-taken g c =
         piece = take n hand;
         size = size;
         taken = subst (λ z. Consumes (g.R.Source.left c.args.source.now) (g.R.Source.left c.consume.new.source) (take n z)) (sym c.buffered-hand.ensures.hand) c.consume.ensures.octets;
-        kept = c.in_default.ensures;
+        recorded = c.in_default.ensures;
         fed = λ p b h exact.
             let looked = subst (λ z. HasLooked p g.D.Draft.holds g.D.Draft.has c.read_buffered-seen.new.self (b ++ z)) (take-take n most hand bound) (c.read_buffered-seen.ensures.looked p b h exact) in
             record { fed = looked.fed; exact = looked.exact; ended = λ e. absurd (omega (arith, ap length e, size, c.if-seen-gt0.true)) };
@@ -34,7 +34,7 @@ returns-in-Ok-append-clause-taken g c =
         piece = take n c.take_octets.new.buffer;
         size = length-take-le n c.take_octets.new.buffer c.in-Ok.ensures.count.1;
         taken = c.in-Ok.ensures.taken;
-        kept = c.in-Ok-append.ensures;
+        recorded = c.in-Ok-append.ensures;
         fed = λ p b h exact.
             let x = looked_nothing p g.D.Draft.holds g.D.Draft.has c.read_buffered-seen.new.self b _ c.read_buffered-seen.result (omega (arith, c.if-seen-gt0.false)) (c.read_buffered-seen.ensures.looked p b h exact) in
             c.in-Ok.ensures.fed p b x.fed x.exact;

@@ -12,7 +12,7 @@ returns-in-Ok-true g c p opened =
     let done = finished p g.D.Draft.holds g.D.Draft.has c.fill.new.reader c.ended.result (c.ended.ensures.«open» p) c.ended.ensures.whole c.ended.ensures.failed in
     let read = reads_filled p g.D.Draft.holds g.D.Draft.has _ _ _ _ c.fill.new.reader c.ended.result _ _ (c.in-Ok.ensures.filled p opened) done c.in-Ok.ensures.taken c.in-Ok.ensures.stays in
     subst (λ e. ReadsNextIn (profile_of p) {T = ℕ} (g.R.Source.left c.args.source.now) (g.R.Source.left c.fill.new.source) (g.R.Source.is_broken c.args.source.now) (g.R.Source.is_broken c.fill.new.source)
-    (λ n octets. (n ≡ length octets) × IsReadOf p g.D.Draft.has c.fill.new.reader.path.draft octets × Appends (g.K.Recorder.kept c.args.recorder.now) (g.K.Recorder.kept c.fill.new.recorder) octets) e)
+    (λ n octets. (n ≡ length octets) × IsReadOf p g.D.Draft.has c.fill.new.reader.path.draft octets × Appends (g.K.Recorder.recorded c.args.recorder.now) (g.K.Recorder.recorded c.fill.new.recorder) octets) e)
     (ap (read_result c.fill.new.reader.at) (c.in-Ok-true.is ∙ ap Ok c.in-Ok-true.field-0-test) ∙ ap (λ n. Ok (Some n)) (sym c.offset.ensures)) read
 
 pub returns-in-Ok-false : goal.returns-in-Ok-false
@@ -20,7 +20,7 @@ returns-in-Ok-false g c p opened =
     let done = finished p g.D.Draft.holds g.D.Draft.has c.fill.new.reader c.ended.result (c.ended.ensures.«open» p) c.ended.ensures.whole c.ended.ensures.failed in
     let read = reads_filled p g.D.Draft.holds g.D.Draft.has _ _ _ _ c.fill.new.reader c.ended.result _ _ (c.in-Ok.ensures.filled p opened) done c.in-Ok.ensures.taken c.in-Ok.ensures.stays in
     subst (λ (e : Result Bool Failure). ReadsNextIn (profile_of p) {T = ℕ} (g.R.Source.left c.args.source.now) (g.R.Source.left c.fill.new.source) (g.R.Source.is_broken c.args.source.now) (g.R.Source.is_broken c.fill.new.source)
-    (λ n octets. (n ≡ length octets) × IsReadOf p g.D.Draft.has c.fill.new.reader.path.draft octets × Appends (g.K.Recorder.kept c.args.recorder.now) (g.K.Recorder.kept c.fill.new.recorder) octets) (read_result c.fill.new.reader.at e))
+    (λ n octets. (n ≡ length octets) × IsReadOf p g.D.Draft.has c.fill.new.reader.path.draft octets × Appends (g.K.Recorder.recorded c.args.recorder.now) (g.K.Recorder.recorded c.fill.new.recorder) octets) (read_result c.fill.new.reader.at e))
     (c.in-Ok-false.is ∙ ap Ok c.in-Ok-false.field-0-test) read
 
 pub returns-in-Err : goal.returns-in-Err
@@ -28,5 +28,5 @@ returns-in-Err g c p opened =
     let done = finished p g.D.Draft.holds g.D.Draft.has c.fill.new.reader c.ended.result (c.ended.ensures.«open» p) c.ended.ensures.whole c.ended.ensures.failed in
     let read = reads_filled p g.D.Draft.holds g.D.Draft.has _ _ _ _ c.fill.new.reader c.ended.result _ _ (c.in-Ok.ensures.filled p opened) done c.in-Ok.ensures.taken c.in-Ok.ensures.stays in
     subst (λ e. ReadsNextIn (profile_of p) {T = ℕ} (g.R.Source.left c.args.source.now) (g.R.Source.left c.fill.new.source) (g.R.Source.is_broken c.args.source.now) (g.R.Source.is_broken c.fill.new.source)
-    (λ n octets. (n ≡ length octets) × IsReadOf p g.D.Draft.has c.fill.new.reader.path.draft octets × Appends (g.K.Recorder.kept c.args.recorder.now) (g.K.Recorder.kept c.fill.new.recorder) octets) e)
+    (λ n octets. (n ≡ length octets) × IsReadOf p g.D.Draft.has c.fill.new.reader.path.draft octets × Appends (g.K.Recorder.recorded c.args.recorder.now) (g.K.Recorder.recorded c.fill.new.recorder) octets) e)
     (ap (read_result c.fill.new.reader.at) c.in-Err.is ∙ ap Err (sym c.from.ensures)) read

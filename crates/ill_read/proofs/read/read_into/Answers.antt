@@ -12,16 +12,16 @@ use Rattle.ill_read.proofs.read.read_into.Goals as goal
 pub returns-in-Ok-Some : goal.returns-in-Ok-Some
 returns-in-Ok-Some g c =
     let draft = c.read_draft.new.reader.path.draft in
-    let kept = Appends (g.K.Recorder.kept c.args.recorder.now) (g.K.Recorder.kept c.read_draft.new.recorder) in
-    let Is : ℕ → List ℕ → Type 0 = λ n octets. (n ≡ length octets) × IsReadOf Two (λ p values a n. AreMessage values a n) draft octets × kept octets in
+    let recorded = Appends (g.K.Recorder.recorded c.args.recorder.now) (g.K.Recorder.recorded c.read_draft.new.recorder) in
+    let Is : ℕ → List ℕ → Type 0 = λ n octets. (n ≡ length octets) × IsReadOf Two (λ p values a n. AreMessage values a n) draft octets × recorded octets in
     let was = subst (λ o. ReadsNext {T = ℕ} (g.R.Source.left c.args.source.now) (g.R.Source.left c.read_draft.new.source) (g.R.Source.is_broken c.args.source.now) (g.R.Source.is_broken c.read_draft.new.source) Is (Ok o)) c.in-Ok-Some.field-0-is
     (c.in-Ok-Some.ensures Two (c.new-reader.ensures.«open» c.new.ensures)) in
-    reads_message draft kept _ _ _ _ _ c.into_message.result (c.into_message.ensures ∙ ap (λ (v : ValueDraft). v.message) c.into_draft.ensures) was
+    reads_message draft recorded _ _ _ _ _ c.into_message.result (c.into_message.ensures ∙ ap (λ (v : ValueDraft). v.message) c.into_draft.ensures) was
 
 pub returns-in-Ok-None : goal.returns-in-Ok-None
 returns-in-Ok-None g c =
-    let kept = Appends (g.K.Recorder.kept c.args.recorder.now) (g.K.Recorder.kept c.read_draft.new.recorder) in
-    let Is : ℕ → List ℕ → Type 0 = λ n octets. (n ≡ length octets) × IsReadOf Two (λ p values a n. AreMessage values a n) c.read_draft.new.reader.path.draft octets × kept octets in
+    let recorded = Appends (g.K.Recorder.recorded c.args.recorder.now) (g.K.Recorder.recorded c.read_draft.new.recorder) in
+    let Is : ℕ → List ℕ → Type 0 = λ n octets. (n ≡ length octets) × IsReadOf Two (λ p values a n. AreMessage values a n) c.read_draft.new.reader.path.draft octets × recorded octets in
     let was = subst (λ o. ReadsNext {T = ℕ} (g.R.Source.left c.args.source.now) (g.R.Source.left c.read_draft.new.source) (g.R.Source.is_broken c.args.source.now) (g.R.Source.is_broken c.read_draft.new.source) Is (Ok o)) c.in-Ok-None.field-0-is
     (c.in-Ok-None.ensures Two (c.new-reader.ensures.«open» c.new.ensures)) in
     reads_none Is _ _ _ _ _ was

@@ -11,7 +11,7 @@ returns-in-Length c x =
 pub returns-in-Contents : goal.returns-in-Contents
 returns-in-Contents c x =
     let rest = 18_446_744_073_709_551_615 - c.args.self.marks in
-    let first = contents_more c.in-Contents.contents.left c.args.self.marks rest (c.args.octet ∷ []) x c.in-Contents.contents.some in
+    let first = contents_more c.in-Contents.contents.missing_len c.args.self.marks rest (c.args.octet ∷ []) x c.in-Contents.contents.some in
     let then = c.contents.ensures x in
     subst (λ s. FinishesAt s c.args.self.marks rest (c.args.octet ∷ x) ↔ Finishes c.contents.result x) (sym c.in-Contents.is)
     ((λ h. then.0 (first.0 h)), (λ h. first.1 (then.1 h)))

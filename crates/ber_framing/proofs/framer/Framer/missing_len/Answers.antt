@@ -16,8 +16,8 @@ returns-else-self-eq0-clause-at_least c =
 
 pub returns-in-Contents-clause-at_least : goal.returns-in-Contents-clause-at_least
 returns-in-Contents-clause-at_least c =
-    let left = c.in-Contents.contents.left in
-    need_least c.args.self.now left (subst (λ s. Needs s c.args.self.now.marks left) (sym c.in-Contents.is) (omega arith))
+    let missing_len = c.in-Contents.contents.missing_len in
+    need_least c.args.self.now missing_len (subst (λ s. Needs s c.args.self.now.marks missing_len) (sym c.in-Contents.is) (omega arith))
 
 pub returns-in_default-clause-at_least : goal.returns-in_default-clause-at_least
 returns-in_default-clause-at_least c =

@@ -1,10 +1,10 @@
 use Rattle.std.proofs.Common.{◌≡◌, ◌<◌, get_or, IsTrue, ap, ◌∙◌, arith}
 use Rattle.ber_core.specs.Octets.{are_octets}
 use Rattle.ber_core.specs.declared.header.Len.TheVariants.{Definite}
-use Rattle.ber_leaf.proofs.Leaves.{octets_fit}
+use Rattle.ber_core.proofs.Octets.{octets_fit}
 use Rattle.ill_schema.specs.Profiles.{profile_of}
 use Rattle.ill_refusals.specs.Fault.{cut_fault}
-use Rattle.ill_grammar.specs.declared.header.LengthRead.TheVariants.{Whole}
+use Rattle.ber_core.specs.declared.header_read.LengthRead.TheVariants.{Whole}
 use Rattle.ill_grammar.proofs.Judgements.{definite_extent}
 use Rattle.ill_grammar.proofs.frames.Frames.judge_length.Goals as goal
 

@@ -1,6 +1,6 @@
-use Rattle.ill_grammar.specs.HeaderCode.{IsHeaderRead, IsLengthRead}
-use Rattle.ill_refusals.specs.Reading.{read_length}
-use Rattle.ill_grammar.specs.declared.header.HeaderRead.TheVariants.{Identified}
+use Rattle.ber_core.specs.HeaderRead.{IsHeaderRead, IsLengthRead}
+use Rattle.ber_core.specs.Reading.{read_length}
+use Rattle.ber_core.specs.declared.header_read.HeaderRead.TheVariants.{Identified}
 use Rattle.ill_schema.specs.Profiles.{profile_of}
 use Rattle.ill_read.proofs.ProfileOfPath.{headed_in, stands_at}
 use Rattle.std.proofs.lemmas.List.{take-append-drop}
@@ -8,11 +8,11 @@ use Rattle.std.proofs.Common.{◌≡◌, ◌<◌, ◌++◌, ◌∙◌, take, dro
 use Rattle.ber_core.specs.Id.{tag_of_id, form_of_id}
 use Rattle.ber_core.specs.Identifier.{identifier}
 use Rattle.ber_core.specs.Octets.{are_octets}
-use Rattle.ber_leaf.proofs.Leaves.{octets_fit}
+use Rattle.ber_core.proofs.Octets.{octets_fit}
 use Rattle.ill_refusals.specs.Fault.{cut_fault}
-use Rattle.ill_refusals.proofs.Headers.{octets_right, read_is_identifier, read_is_indefinite}
+use Rattle.ber_core.proofs.ReadOctets.{octets_right, read_is_identifier, read_is_indefinite}
 use Rattle.ber_core.specs.declared.header.Len.TheVariants.{Indefinite}
-use Rattle.ill_grammar.specs.declared.header.LengthRead.TheVariants.{Whole}
+use Rattle.ber_core.specs.declared.header_read.LengthRead.TheVariants.{Whole}
 use Rattle.ill_grammar.specs.Standing.{StandsAt}
 use Rattle.ill_refusals.specs.code.Judge.{judge_length}
 use Rattle.ill_grammar.specs.Due.{read_as}

@@ -7,9 +7,9 @@ use Rattle.std.proofs.Common.{◌≡◌, ◌<◌, ◌++◌, ◌∙◌, get_or, l
 use Rattle.ber_core.specs.Id.{tag_of_id, form_of_id}
 use Rattle.ber_core.specs.Identifier.{identifier}
 use Rattle.ber_core.specs.Octets.{are_octets}
-use Rattle.ber_leaf.proofs.Leaves.{octets_fit}
+use Rattle.ber_core.proofs.Octets.{octets_fit}
 use Rattle.ill_refusals.specs.Fault.{cut_fault}
-use Rattle.ill_refusals.proofs.Headers.{read_is_identifier}
+use Rattle.ber_core.proofs.ReadOctets.{read_is_identifier}
 use Rattle.ill_grammar.specs.Standing.{StandsAt}
 use Rattle.ill_refusals.specs.code.Judge.{judge_length}
 use Rattle.ill_grammar.specs.Due.{read_as}

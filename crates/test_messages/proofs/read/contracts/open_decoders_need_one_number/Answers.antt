@@ -6,7 +6,7 @@ use Rattle.ill_schema.proofs.Streams.{take_front, drop_front}
 use Rattle.ill_refusals.specs.Fault.{fault, fault_at}
 use Rattle.ill_refusals.specs.Outcome.{PlacesAreApart, FaultsAreLast}
 use Rattle.ill_refusals.specs.Place.{Open, IsPlace, IsDue}
-use Rattle.ill_refusals.specs.Reading.{IdentifierRead, identified, part_identifier, no_identifier, read_identifier, LengthRead, definite, indefinite, part_length, no_length, read_length}
+use Rattle.ber_core.specs.Reading.{IdentifierRead, identified, part_identifier, no_identifier, read_identifier, LengthRead, definite, indefinite, part_length, no_length, read_length}
 use Rattle.ill_grammar.specs.Need.{NeedsOfLength, NeedsOfElement, NeedsAfterMark, NeedsBefore, IsNeed, NeedsAfter, in_mark, outermost}
 use Rattle.test_messages.proofs.read.contracts.open_decoders_need_one_number.Goals as goal
 

@@ -1,0 +1,18 @@
+//! Octets as hexadecimal digits.
+ghost use Rattle.std.specs.Prelude.{◌≡◌};
+ghost use Rattle.ill_schema.specs.Texts.{digits};
+
+/// The two hexadecimal digits of an octet, in small letters.
+///
+/// ```
+/// assert_eq!(hexadecimal_digits(0xA1), [b'a', b'1']);
+/// ```
+pub fn hexadecimal_digits(octet: u8) -> [u8; 2]
+    ensures { result ≡ digits octet }
+{
+    let mut digits = [0; 2];
+    match hex::encode_to_slice(&[octet], &mut digits) {
+        Ok(()) => digits,
+        Err(_) => unreachable!(),
+    }
+}
