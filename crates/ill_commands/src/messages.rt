@@ -176,7 +176,7 @@ pub fn run_counting<R: Source, L: Lookahead<R>, W: Sink>(
     }
     let octets = match read_hex(alloc, source) {
         Ok(octets) => octets,
-        Err(fault) => return ran(Err(fault), counts(0, 0, 0)),
+        Err(fault) => return outcome_of(Err(fault), counts(0, 0, 0)),
     };
     let mut messages = FromSlice::new(&octets);
     run_messages::<FromSlice<'_>, Buffered, W>(alloc, work, &mut messages, sink)
@@ -200,14 +200,14 @@ fn run_messages<R: Source, L: Lookahead<R>, W: Sink>(
     match for_each_message::<JobOptions<'_>, R, L, W>(alloc, &work, source, sink) {
         Ok(passed) => {
             let verdict = verdict(work.job, passed.all_good);
-            ran(
+            outcome_of(
                 Ok(verdict),
                 counts(passed.whole, passed.good, passed.octets),
             )
         }
         Err(stopped) => {
             let fault = fault_of(stopped);
-            ran(
+            outcome_of(
                 Err(fault),
                 counts(stopped.whole, stopped.good, stopped.before),
             )
@@ -216,12 +216,12 @@ fn run_messages<R: Source, L: Lookahead<R>, W: Sink>(
 }
 
 #[inline(always)]
-fn ran(came: Result<Verdict, RunFault>, counts: Counts) -> JobOutcome
-    ensures came { result.result ≡ came }
+fn outcome_of(verdict: Result<Verdict, RunFault>, counts: Counts) -> JobOutcome
+    ensures verdict { result.result ≡ verdict }
     ensures counts { result.counts ≡ counts }
 {
     JobOutcome {
-        result: came,
+        result: verdict,
         counts,
     }
 }

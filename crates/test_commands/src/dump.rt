@@ -72,7 +72,7 @@ const PLAIN: DumpOptions<'static> = DumpOptions {
 
 /// The pieces in which octets come from a source, and go into a sink.
 #[derive(Clone, Copy)]
-struct How {
+struct Transfer {
     /// As many octets a call of the source, and of the sink.
     per_call: (usize, usize),
     source_breaks: Option<usize>,
@@ -80,7 +80,7 @@ struct How {
 }
 
 /// In pieces of up to 64 octets, and nothing breaks.
-const SOUND: How = How {
+const SOUND: Transfer = Transfer {
     per_call: (64, 2048),
     source_breaks: None,
     sink_breaks: None,
@@ -92,10 +92,10 @@ fn dumped(
     dump: DumpOptions<'_>,
     octets: &[u8],
     text: &str,
-    how: How,
+    transfer: Transfer,
 ) -> (Result<u32, RunFault>, Option<usize>) {
-    let mut source = Pieces::new(octets, how.per_call.0.max(1), how.source_breaks);
-    let mut sink: Room<2048> = Room::new(how.per_call.1.max(1), how.sink_breaks);
+    let mut source = Pieces::new(octets, transfer.per_call.0.max(1), transfer.source_breaks);
+    let mut sink: Room<2048> = Room::new(transfer.per_call.1.max(1), transfer.sink_breaks);
     let result = run_dump::<Pieces<'_>, Unbuffered, Room<2048>>(
         alloc,
         dump,
@@ -122,11 +122,11 @@ fn is_refused(done: &Result<u32, RunFault>) -> bool {
 fn a_dump_is_the_same_in_pieces_of_any_size(rt: HostRuntime) -> Result<(), Fail> {
     let octets = octets_of(rt.alloc(), REFUSED)?;
     for size in [1, 2, 7, 64] {
-        let how = How {
+        let transfer = Transfer {
             per_call: (size, 2048),
             ..SOUND
         };
-        let (result, count) = dumped(rt.alloc(), PLAIN, &octets, LINES, how);
+        let (result, count) = dumped(rt.alloc(), PLAIN, &octets, LINES, transfer);
         assert!(rt; is_refused(&result) && count == Some(LINES.len()), "{size}");
     }
     Ok(())
@@ -168,14 +168,14 @@ fn what_is_not_normal_is_noted(rt: HostRuntime) -> Result<(), Fail> {
 fn a_broken_sink_has_the_first_octets(rt: HostRuntime) -> Result<(), Fail> {
     let octets = octets_of(rt.alloc(), REFUSED)?;
     for n in [0, 1, 37, 38, 500, LINES.len() - 1] {
-        let how = How {
+        let transfer = Transfer {
             per_call: (64, 64),
             sink_breaks: Some(n),
             ..SOUND
         };
         let fault = Err(RunFault::WriteFault(n as u128));
         assert!(rt;
-            dumped(rt.alloc(), PLAIN, &octets, LINES, how) == (fault, Some(n)),
+            dumped(rt.alloc(), PLAIN, &octets, LINES, transfer) == (fault, Some(n)),
             "{n}"
         );
     }
@@ -186,11 +186,11 @@ fn a_broken_sink_has_the_first_octets(rt: HostRuntime) -> Result<(), Fail> {
 fn a_broken_source_is_a_read_fault(rt: HostRuntime) -> Result<(), Fail> {
     let octets = octets_of(rt.alloc(), REFUSED)?;
     for n in [0, 1, 32, 33, 39] {
-        let how = How {
+        let transfer = Transfer {
             source_breaks: Some(n),
             ..SOUND
         };
-        let (result, _) = dumped(rt.alloc(), PLAIN, &octets, LINES, how);
+        let (result, _) = dumped(rt.alloc(), PLAIN, &octets, LINES, transfer);
         assert!(rt; result == Err(RunFault::ReadFault), "{n}");
     }
     Ok(())

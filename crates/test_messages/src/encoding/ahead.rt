@@ -117,31 +117,31 @@ static ROWS: [Row; 9] = [
     },
 ];
 
-/// Tells whether as many octets are at hand as must be, and those that are passed are then gone. They are added to those that came before.
+/// Tells whether as many octets are at hand as must be, and those that are passed are then gone. They are added to those that were taken before.
 fn passes<S: BufferedSource>(
     source: &mut S,
     count: usize,
     buffered: usize,
-    came: &mut Vec<u8>,
+    taken: &mut Vec<u8>,
 ) -> Result<bool, AllocError> {
     let shown = source.buffered();
     if shown.len() != buffered || count > buffered {
         return Ok(false);
     }
-    came.extend_from_slice(&shown[..count])?;
+    taken.extend_from_slice(&shown[..count])?;
     source.consume(count);
     Ok(true)
 }
 
-/// Tells whether each call of a row does what it must, on a source that is not broken at first. The octets that came are added.
-fn calls_do(alloc: Global, row: &Row, log: &Log, came: &mut Vec<u8>) -> Result<bool, AllocError> {
+/// Tells whether each call of a row does what it must, on a source that is not broken at first. The octets that it takes are added.
+fn calls_do(alloc: Global, row: &Row, log: &Log, taken: &mut Vec<u8>) -> Result<bool, AllocError> {
     let script = row.script;
     let mut source = FromBuffer::new(alloc, Scripted { script, log })?;
     let mut is_right = !source.broken();
     for call in row.calls {
         let is_next_right = match *call {
-            Takes(size, want) => takes(alloc, &mut source, size, want, came)?,
-            Passes(count, buffered) => passes(&mut source, count, buffered, came)?,
+            Takes(size, want) => takes(alloc, &mut source, size, want, taken)?,
+            Passes(count, buffered) => passes(&mut source, count, buffered, taken)?,
         };
         is_right = is_right && is_next_right;
     }
@@ -151,9 +151,9 @@ fn calls_do(alloc: Global, row: &Row, log: &Log, came: &mut Vec<u8>) -> Result<b
 /// Tells whether a row comes true: what each call does, which octets come, and what reaches the reader.
 fn comes_true(alloc: Global, row: &Row) -> Result<bool, AllocError> {
     let log = Log::new(alloc);
-    let mut came = Vec::new(alloc);
-    let is_right = calls_do(alloc, row, &log, &mut came)?;
-    Ok(is_right && are_first(&came) && log.has_calls(row.reads))
+    let mut taken = Vec::new(alloc);
+    let is_right = calls_do(alloc, row, &log, &mut taken)?;
+    Ok(is_right && are_first(&taken) && log.has_calls(row.reads))
 }
 
 #[test]

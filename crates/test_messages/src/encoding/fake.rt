@@ -137,19 +137,19 @@ impl Write for Scripted<'_> {
 const UNTOUCHED: u8 = 0xEE;
 
 /// Tells whether a `take` with a buffer of this size returns this number of octets, or [`Broken`] for None, and writes no more than these. They
-/// are added to those that came before.
+/// are added to those that were taken before.
 pub fn takes<S: Source>(
     alloc: Global,
     source: &mut S,
     size: usize,
     want: Option<usize>,
-    came: &mut Vec<u8>,
+    taken: &mut Vec<u8>,
 ) -> Result<bool, AllocError> {
     let mut buffer = vec![in alloc; UNTOUCHED; size]?;
     let count = source.take(&mut buffer);
     let is_right = count == want.ok_or(Broken) && source.broken() == want.is_none();
     let (front, rest) = buffer.split_at(want.unwrap_or(0).min(size));
-    came.extend_from_slice(front)?;
+    taken.extend_from_slice(front)?;
     Ok(is_right && are_untouched(rest))
 }
 

@@ -167,13 +167,13 @@ static BROKEN: [Row; 9] = [
     },
 ];
 
-/// Tells whether each `take` of a row does what it must, on a source that is not broken at first. The octets that came are added.
-fn calls_do(alloc: Global, row: &Row, log: &Log, came: &mut Vec<u8>) -> Result<bool, AllocError> {
+/// Tells whether each `take` of a row does what it must, on a source that is not broken at first. The octets that it takes are added.
+fn calls_do(alloc: Global, row: &Row, log: &Log, taken: &mut Vec<u8>) -> Result<bool, AllocError> {
     let script = row.script;
     let mut source = FromRead::new(Scripted { script, log });
     let mut is_right = !source.broken();
     for (size, want) in row.takes {
-        let is_next_right = takes(alloc, &mut source, *size, *want, came)?;
+        let is_next_right = takes(alloc, &mut source, *size, *want, taken)?;
         is_right = is_right && is_next_right;
     }
     Ok(is_right)
@@ -182,9 +182,9 @@ fn calls_do(alloc: Global, row: &Row, log: &Log, came: &mut Vec<u8>) -> Result<b
 /// Tells whether a row comes true: what each `take` does, which octets come, and what reaches the reader.
 fn comes_true(alloc: Global, row: &Row) -> Result<bool, AllocError> {
     let log = Log::new(alloc);
-    let mut came = Vec::new(alloc);
-    let is_right = calls_do(alloc, row, &log, &mut came)?;
-    Ok(is_right && are_first(&came) && log.has_calls(row.reads) && log.has_moved(&came))
+    let mut taken = Vec::new(alloc);
+    let is_right = calls_do(alloc, row, &log, &mut taken)?;
+    Ok(is_right && are_first(&taken) && log.has_calls(row.reads) && log.has_moved(&taken))
 }
 
 #[test]
