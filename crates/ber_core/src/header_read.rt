@@ -8,7 +8,7 @@ ghost use Rattle.ber_core.specs.Reading.{class_of, identified, read_identifier, 
 use crate::header::{HeaderFault, HeaderState, Len};
 use crate::id::{Class, Id};
 
-/// What octets show of the header that they begin with.
+/// A header at the front of octets, as far as they show it.
 #[derive(Clone, Copy)]
 pub enum HeaderRead {
     /// They begin with no identifier.
@@ -19,7 +19,7 @@ pub enum HeaderRead {
     Identified(Id, LengthRead),
 }
 
-/// What the octets after an identifier show of a length.
+/// A length after an identifier, as far as the octets show it.
 #[derive(Clone, Copy)]
 pub enum LengthRead {
     /// They begin with no length.
@@ -82,8 +82,8 @@ fn read_any(octets: &[u8]) -> HeaderRead
     }
 }
 
-/// The length after an identifier of one octet, at the front of octets (X.690, 8.1.3.3 to 8.1.3.6). None where it isn't whole, or where
-/// octets are no length.
+/// The length after an identifier of one octet, at the front of octets (X.690, 8.1.3.3 to 8.1.3.6): a fast path of [`read_header`]. None
+/// says nothing of the octets.
 ///
 /// ```
 /// // Some(LengthRead::Whole(Len::Definite(5), 2))
@@ -148,7 +148,8 @@ fn length_in(octets: &[u8], count: usize) -> Option<LengthRead>
     Some(LengthRead::Whole(Len::Definite(size), count as u32 + 2))
 }
 
-/// The identifier at the front of octets, if it is of one octet (X.690, 8.1.2.2 to 8.1.2.5).
+/// The identifier at the front of octets, of one octet (X.690, 8.1.2.2 to 8.1.2.5): a fast path of [`read_header`]. None says nothing of the
+/// octets.
 ///
 /// ```
 /// // Some(id), of the class Application and the number 20
