@@ -27,7 +27,7 @@ moved m n = up_to m.breaks_after (min m.per_call n)
 abbrev pub broken : Moving → Moving
 broken m = record m { broken = true }
 
--- the first n octets are gone
+-- the first n octets are taken
 abbrev pub without : Moving → ℕ → Moving
 without m n = record m { octets = drop n m.octets; breaks_after = option_map (λ most. most - n) m.breaks_after }
 

@@ -1,9 +1,9 @@
 //! Reads the header at the front of octets, as far as they reach.
-ghost use Rattle.std.specs.Prelude.{◌≡◌, ◌+◌, ◌<◌, ◌≤◌, Bool, Some, length, min, drop, slice_get, IfSome};
+ghost use Rattle.std.specs.Prelude.{◌≡◌, ◌+◌, ◌<◌, ◌≤◌, Bool, Some, length, min, drop, slice_get, MatchOption, false};
 ghost use Rattle.std.specs.Int.Digits.{number_from_digits};
 ghost use Rattle.ber_core.specs.Id.{form_of_id, tag_of_id};
 ghost use Rattle.ber_core.specs.HeaderRead.{IsHeaderRead, IsLengthRead};
-ghost use Rattle.ber_core.specs.Reading.{class_of, identified, read_identifier, read_length};
+ghost use Rattle.ber_core.specs.Reading.{class_of, identified, has_short_identifier, is_whole, read_identifier, read_length};
 
 use crate::header::{HeaderFault, HeaderState, Len};
 use crate::id::{Class, Id};
@@ -83,7 +83,7 @@ fn read_any(octets: &[u8]) -> HeaderRead
 }
 
 /// The length after an identifier of one octet, at the front of octets (X.690, 8.1.3.3 to 8.1.3.6): a fast path of [`read_header`]. None
-/// says nothing of the octets.
+/// where no whole length follows.
 ///
 /// ```
 /// // Some(LengthRead::Whole(Len::Definite(5), 2))
@@ -91,8 +91,8 @@ fn read_any(octets: &[u8]) -> HeaderRead
 /// ```
 #[inline(always)]
 pub fn length_after(octets: &[u8], constructed: bool) -> Option<LengthRead>
-    ensures { IfSome result (λ read. IsLengthRead read (read_length constructed (drop 1 octets.now))
-        octets.now) }
+    ensures { MatchOption result (is_whole (read_length constructed (drop 1 octets.now)) ≡ false)
+        (λ read. IsLengthRead read (read_length constructed (drop 1 octets.now)) octets.now) }
 {
     let first = *octets.get(1)?;
     // Most lengths are of one octet, so that is asked first.
@@ -107,8 +107,8 @@ pub fn length_after(octets: &[u8], constructed: bool) -> Option<LengthRead>
 fn long_length(octets: &[u8], first: u8, constructed: bool) -> Option<LengthRead>
     requires first { slice_get octets.now 1 ≡ Some first }
     requires long { 128 ≤ first }
-    ensures { IfSome result (λ read. IsLengthRead read (read_length constructed (drop 1 octets.now))
-        octets.now) }
+    ensures { MatchOption result (is_whole (read_length constructed (drop 1 octets.now)) ≡ false)
+        (λ read. IsLengthRead read (read_length constructed (drop 1 octets.now)) octets.now) }
 {
     match first {
         132 => length_in_four(octets),
@@ -121,8 +121,9 @@ fn long_length(octets: &[u8], first: u8, constructed: bool) -> Option<LengthRead
 #[inline(always)]
 fn length_in_four(octets: &[u8]) -> Option<LengthRead>
     requires { slice_get octets.now 1 ≡ Some 132 }
-    ensures { IfSome result (λ read. (constructed : Bool)
-        → IsLengthRead read (read_length constructed (drop 1 octets.now)) octets.now) }
+    ensures { (constructed : Bool)
+        → MatchOption result (is_whole (read_length constructed (drop 1 octets.now)) ≡ false)
+        (λ read. IsLengthRead read (read_length constructed (drop 1 octets.now)) octets.now) }
 {
     let [_, _, a, b, c, d, ..] = octets else {
         return None;
@@ -137,8 +138,9 @@ fn length_in(octets: &[u8], count: usize) -> Option<LengthRead>
     requires some { 0 < count }
     requires few { count ≤ 127 }
     requires first { slice_get octets.now 1 ≡ Some (128 + count) }
-    ensures { IfSome result (λ read. (constructed : Bool)
-        → IsLengthRead read (read_length constructed (drop 1 octets.now)) octets.now) }
+    ensures { (constructed : Bool)
+        → MatchOption result (is_whole (read_length constructed (drop 1 octets.now)) ≡ false)
+        (λ read. IsLengthRead read (read_length constructed (drop 1 octets.now)) octets.now) }
 {
     // 127 is no number of octets (X.690, 8.1.3.5).
     if octets.len() < count + 2 || count == 127 {
@@ -148,8 +150,8 @@ fn length_in(octets: &[u8], count: usize) -> Option<LengthRead>
     Some(LengthRead::Whole(Len::Definite(size), count as u32 + 2))
 }
 
-/// The identifier at the front of octets, of one octet (X.690, 8.1.2.2 to 8.1.2.5): a fast path of [`read_header`]. None says nothing of the
-/// octets.
+/// The identifier at the front of octets, of one octet (X.690, 8.1.2.2 to 8.1.2.5): a fast path of [`read_header`]. None where there is no
+/// octet, or the first begins an end mark or a longer identifier.
 ///
 /// ```
 /// // Some(id), of the class Application and the number 20
@@ -157,7 +159,8 @@ fn length_in(octets: &[u8], count: usize) -> Option<LengthRead>
 /// ```
 #[inline(always)]
 pub fn first_identifier(octets: &[u8]) -> Option<Id>
-    ensures { IfSome result (λ id. read_identifier octets.now
+    ensures { MatchOption result (has_short_identifier octets.now ≡ false)
+        (λ id. read_identifier octets.now
         ≡ identified (tag_of_id id) (form_of_id id) (drop 1 octets.now)) }
 {
     let first = *octets.first()?;

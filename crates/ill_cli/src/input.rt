@@ -183,12 +183,12 @@ fn put_accepted_messages<R: Eprint + AllocGlobal, S: BufferedSource, W: Sink, P,
 where
     P: Write + Drop,
     Q: Write + Drop,
-    ensures { IfOk result (λ verdict. (gone : SkippingCounts)
-        × (verdict ≡ verdict_of_counts work.entry.job gone)
+    ensures { IfOk result (λ verdict. (counts : SkippingCounts)
+        × (verdict ≡ verdict_of_counts work.entry.job counts)
         × RunsSkipping work.entry.hex work.entry
         (taking (S.left source.old) (S.left source.new) (S.is_broken source.new))
         (putting (W.contents sink.old) (W.contents sink.new) (W.is_broken sink.new))
-        (reporting None None) gone) }
+        (reporting None None) counts) }
 {
     let mut reports = PrintReports {
         rt,
@@ -208,14 +208,14 @@ where
     reports.kept.add_to(tally);
     tally.left_at = reports.endless;
     match ran {
-        Ok(gone) => {
-            tally.summary.add_skipping(gone);
-            Ok(verdict_of(work.job, gone))
+        Ok(counts) => {
+            tally.summary.add_skipping(counts);
+            Ok(verdict_of(work.job, counts))
         }
-        Err(halt) => {
-            tally.summary.add_skipping(halt.before);
-            tally.left_at = left_at(halt.fault, halt.before.messages, halt.before.octets);
-            Err(ProgramError::from(halt.fault))
+        Err(error) => {
+            tally.summary.add_skipping(error.before);
+            tally.left_at = left_at(error.fault, error.before.messages, error.before.octets);
+            Err(ProgramError::from(error.fault))
         }
     }
 }

@@ -139,7 +139,7 @@ impl<'o, S: Write + Drop, F: Write + Drop> KeepRefused<'o, S, F> {
         }
     }
 
-    /// Adds what came of it to the counts of the command.
+    /// Adds its counts to those of the command.
     pub fn add_to(&self, tally: &mut Tally<'_>) {
         tally.not_kept = tally.not_kept.saturating_add(self.not_kept);
         tally.is_refused_lost = tally.is_refused_lost | self.is_lost;

@@ -116,17 +116,17 @@ pub(crate) fn put_results<'a, S: BufferedSource, W: Sink, V: Sink + Drop, P, Q>(
 where
     P: Write + Drop,
     Q: Write + Drop,
-    ensures { IfOk result (λ verdict. (gone : SkippingCounts)
-        × (verdict ≡ verdict_of_counts work.entry.job gone)
+    ensures { IfOk result (λ verdict. (counts : SkippingCounts)
+        × (verdict ≡ verdict_of_counts work.entry.job counts)
         × RunsSkipping work.entry.hex work.entry
         (taking (S.left source.old) (S.left source.new) (S.is_broken source.new))
         (putting (W.contents sink.old) (W.contents sink.new) (W.is_broken sink.new))
-        (reporting None None) gone) }
+        (reporting None None) counts) }
 {
     let mut reports = reports_to(alloc, work, refused, kept, None);
     match run_skipping_peeking::<S, Buffered, W, _>(alloc, work, source, sink, &mut reports) {
-        Ok(gone) => ended(work, gone, &reports, tally),
-        Err(halt) => Err(halted(halt, &reports, tally)),
+        Ok(counts) => ended(work, counts, &reports, tally),
+        Err(error) => Err(stopped(error, &reports, tally)),
     }
 }
 
@@ -163,8 +163,8 @@ where
         run_skipping(alloc, work, &mut messages, sink, &mut reports)
     };
     match ran {
-        Ok(gone) => ended(work, gone, &reports, tally),
-        Err(halt) => Err(halted(halt, &reports, tally)),
+        Ok(counts) => ended(work, counts, &reports, tally),
+        Err(error) => Err(stopped(error, &reports, tally)),
     }
 }
 
@@ -189,34 +189,34 @@ fn reports_to<'a, V, P: Write + Drop, Q: Write + Drop>(
     }
 }
 
-/// Counts the messages of an input that was gone through, and says what came of it.
+/// Counts the messages of an input that was read to its end, and returns the verdict.
 fn ended<V, P: Write + Drop, Q: Write + Drop>(
     work: JobOptions<'_>,
-    gone: SkippingCounts,
+    counts: SkippingCounts,
     reports: &WriteRefused<'_, V, P, Q>,
     tally: &mut Tally<'_>,
 ) -> Result<Verdict, ProgramError>
-    ensures { IfOk result (λ verdict. verdict ≡ verdict_of_counts work.entry.job gone) }
+    ensures { IfOk result (λ verdict. verdict ≡ verdict_of_counts work.entry.job counts) }
 {
     reports.kept.add_to(tally);
     tally.left_at = reports.last;
     tally.summary.add_not_read(reports.not_read);
-    tally.summary.add_skipping(gone);
+    tally.summary.add_skipping(counts);
     match reports.fault {
         Some(fault) => Err(ProgramError::from(fault)),
-        None => Ok(verdict_of(work.job, gone)),
+        None => Ok(verdict_of(work.job, counts)),
     }
 }
 
 /// Counts the messages before an error, and says what that is.
-fn halted<V, P: Write + Drop, Q: Write + Drop>(
-    halt: JobError,
+fn stopped<V, P: Write + Drop, Q: Write + Drop>(
+    error: JobError,
     reports: &WriteRefused<'_, V, P, Q>,
     tally: &mut Tally<'_>,
 ) -> ProgramError {
     reports.kept.add_to(tally);
-    tally.left_at = left_at(halt.fault, halt.before.messages, halt.before.octets);
+    tally.left_at = left_at(error.fault, error.before.messages, error.before.octets);
     tally.summary.add_not_read(reports.not_read);
-    tally.summary.add_skipping(halt.before);
-    ProgramError::from(halt.fault)
+    tally.summary.add_skipping(error.before);
+    ProgramError::from(error.fault)
 }

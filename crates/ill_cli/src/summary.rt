@@ -72,13 +72,13 @@ impl Summary {
     }
 
     /// Counts messages of which some may be refused.
-    pub fn add_skipping(&mut self, gone: SkippingCounts) {
+    pub fn add_skipping(&mut self, counts: SkippingCounts) {
         self.add(Counts {
-            messages: gone.messages.saturating_sub(gone.refused),
-            good: gone.good,
-            octets: gone.octets,
+            messages: counts.messages.saturating_sub(counts.refused),
+            good: counts.good,
+            octets: counts.octets,
         });
-        self.refused = self.refused.saturating_add(u64::from(gone.refused));
+        self.refused = self.refused.saturating_add(u64::from(counts.refused));
     }
 
     /// Counts refused messages that are only not read.
@@ -168,7 +168,7 @@ impl fmt::Display for JsonSummary {
 /// The place at which the work on a file ended before the end of the file.
 #[derive(Clone, Copy, Debug, PartialEq, Eq)]
 pub struct LeftAt {
-    /// The number of the message that was not gone through.
+    /// The number of the message that was not read.
     pub message: u32,
     /// The number of octets of the input that come before it.
     pub offset: u64,

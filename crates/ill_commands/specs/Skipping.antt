@@ -16,29 +16,29 @@ use Rattle.ill_normal.specs.Inputs.{verdict_if}
 use Rattle.ill_commands.specs.Output.{message_output, is_counted_good}
 use Rattle.ill_normal.specs.Inputs.{TextOf, FailsText}
 
--- how far a job came that was halted, and why no further
+-- where a job stopped, and why
 abbrev pub StopsFor : JobOptions → Taking → Putting → Reporting → JobError → Type 0
-StopsFor work source sink reports halt =
-    (halted : SkippingError) × SkipsAndStops (profile_of work.profile) (message_output work) (is_counted_good work) source sink reports halted
-    × (halt.fault ≡ fault_of_kind halted.written halted.why)
-    × (halt.before ≡ counts_before halted.messages halted.refused halted.good halted.octets)
+StopsFor work source sink reports error =
+    (stop : SkippingError) × SkipsAndStops (profile_of work.profile) (message_output work) (is_counted_good work) source sink reports stop
+    × (error.fault ≡ fault_of_kind stop.written stop.why)
+    × (error.before ≡ counts_before stop.messages stop.refused stop.good stop.octets)
 
--- the messages of an input were gone through, which is read as octets, or as hexadecimal text
+-- the messages of an input were read to its end, which is read as octets, or as hexadecimal text
 abbrev pub RunsSkipping : Bool → JobOptions → Taking → Putting → Reporting → SkippingCounts → Type 0
-RunsSkipping false work source sink reports gone = SkipsToEnd (profile_of work.profile) (message_output work) (is_counted_good work) source sink reports gone
-RunsSkipping true work source sink reports gone =
+RunsSkipping false work source sink reports counts = SkipsToEnd (profile_of work.profile) (message_output work) (is_counted_good work) source sink reports counts
+RunsSkipping true work source sink reports counts =
     (octets : List ℕ) × TextOf source.left source.left' octets
-    × ((rest : List ℕ) × SkipsToEnd (profile_of work.profile) (message_output work) (is_counted_good work) (taking (Some octets) (Some rest) false) sink reports gone)
+    × ((rest : List ℕ) × SkipsToEnd (profile_of work.profile) (message_output work) (is_counted_good work) (taking (Some octets) (Some rest) false) sink reports counts)
 
 -- they were not
 abbrev pub RunsSkippingFails : Bool → JobOptions → Taking → Putting → Reporting → JobError → Type 0
-RunsSkippingFails false work source sink reports halt = StopsFor work source sink reports halt
-RunsSkippingFails true work source sink reports halt =
-    (FailsText source.left source.left' source.broken halt.fault × Keeps sink.held sink.held' × Adds reports.old reports.new [] × (halt.before ≡ counts_before 0 0 0 0))
-    ⊎ ((octets : List ℕ) × TextOf source.left source.left' octets × ((rest : List ℕ) × StopsFor work (taking (Some octets) (Some rest) false) sink reports halt))
+RunsSkippingFails false work source sink reports error = StopsFor work source sink reports error
+RunsSkippingFails true work source sink reports error =
+    (FailsText source.left source.left' source.broken error.fault × Keeps sink.held sink.held' × Adds reports.old reports.new [] × (error.before ≡ counts_before 0 0 0 0))
+    ⊎ ((octets : List ℕ) × TextOf source.left source.left' octets × ((rest : List ℕ) × StopsFor work (taking (Some octets) (Some rest) false) sink reports error))
 
--- what came of a job that was gone through: no message is refused, and what the job asks for holds
+-- the verdict of a job that read its input to the end: no message is refused, and what the job asks for holds
 abbrev pub verdict_of_counts : Job → SkippingCounts → Verdict
-verdict_of_counts Job.Check gone = verdict_if ((gone.refused == 0) && gone.all_good)
-verdict_of_counts Job.CheckJson gone = verdict_if ((gone.refused == 0) && gone.all_good)
-verdict_of_counts _ gone = verdict_if (gone.refused == 0)
+verdict_of_counts Job.Check counts = verdict_if ((counts.refused == 0) && counts.all_good)
+verdict_of_counts Job.CheckJson counts = verdict_if ((counts.refused == 0) && counts.all_good)
+verdict_of_counts _ counts = verdict_if (counts.refused == 0)

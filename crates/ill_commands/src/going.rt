@@ -15,11 +15,11 @@ use ill_normal::{
 use std::alloc::Global;
 
 /// The verdict of a job: good if no message is refused, and for a check each is in normal form.
-pub fn verdict_of(job: Job, gone: SkippingCounts) -> Verdict
-    ensures { result ≡ verdict_of_counts job gone }
+pub fn verdict_of(job: Job, counts: SkippingCounts) -> Verdict
+    ensures { result ≡ verdict_of_counts job counts }
 {
-    if gone.refused == 0 {
-        verdict(job, gone.all_good)
+    if counts.refused == 0 {
+        verdict(job, counts.all_good)
     } else {
         Verdict::NotGood
     }
@@ -32,7 +32,8 @@ pub fn verdict_of(job: Job, gone: SkippingCounts) -> Verdict
 ///
 /// # Errors
 ///
-/// The reason why the job was not done to the end of the input, see [`RunFault`], and what was gone through before; a refused message is no such fault.
+/// The reason why the job stopped before the end of the input, see [`RunFault`], and the counts of what it had read. A refused message is no such
+/// fault.
 pub fn run_skipping<R: Source, W: Sink, T: ReportRefusals>(
     alloc: Global,
     work: JobOptions<'_>,
@@ -110,7 +111,7 @@ fn go_on<R: Source, L: Lookahead<R>, W: Sink, T: ReportRefusals>(
     match for_each_accepted_message::<JobOptions<'_>, R, L, W, T>(
         alloc, &work, source, sink, reports,
     ) {
-        Ok(gone) => Ok(gone),
+        Ok(counts) => Ok(counts),
         Err(error) => Err(JobError::of_skipping(error)),
     }
 }

@@ -1,4 +1,4 @@
--- The messages that a dump has gone over, those that are refused too.
+-- The messages that a dump has read, refused ones included.
 use Rattle.std.proofs.Common.{◌≡◌, ◌+◌, ◌<◌, ◌≤◌, ℕ, Bool, true, List, [], ◌∷◌, Option, None, Some, length, IsTrue, subst, sym, ◌∙◌, refl, inl, inr, arith}
 use Rattle.std.specs.Prelude.{◌⊎◌, ◌≢◌}
 use Rattle.std.specs.Io.KnownBytes.{Consumes, Keeps}
@@ -36,7 +36,7 @@ nothing p m = []
 abbrev every : Spelling → Bool
 every m = true
 
--- `before` messages were gone over, of which some were refused; the next one is at `offset`
+-- `before` messages were read, of which some were refused; the next one is at `offset`
 pub record Over (dump : DumpOptions) (left left' held held' : Option (List ℕ)) (reports : Reporting) (before refused offset : ℕ) : Type 0 where
   pub good_ones : ℕ
   pub reached : Reached dump.profile nothing every left left' None None reports before refused good_ones offset 0

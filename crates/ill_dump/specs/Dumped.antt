@@ -34,7 +34,7 @@ abbrev pub dumped_from : DumpOptions → ℕ → List (List ℕ) → List ℕ
 dumped_from dump i [] = []
 dumped_from dump i (more ∷ others) = dumped dump i more ++ dumped_from dump (suc i) others
 
--- n messages were gone through, from the first one on, and those of them that are chosen were written
+-- n messages were read, from the first one on, and those of them that are chosen were written
 pub record Dumps (dump : DumpOptions) (n : ℕ) (held held' : Option (List ℕ)) : Type 0 where
   pub parts : List (List ℕ)
   pub count : length parts ≡ n
@@ -71,7 +71,7 @@ StopsIn q s RunFault.TooManyMessages =
     (apdus : List Apdu) × (rest : List ℕ) × IsStream q s apdus rest × (length apdus ≡ 1_000_000) × (0 < length rest)
 StopsIn q s fault = IsFault fault
 
--- the messages up to the one that is refused were gone through, and it, too; or 1,000,000 of them
+-- the messages up to the one that is refused were read, and it, too; or 1,000,000 of them
 abbrev pub DumpsUpTo : DumpOptions → RunFault → Option (List ℕ) → Option (List ℕ) → Type 0
 DumpsUpTo dump (RunFault.Refused message refusal) held held' = Dumps dump message held held'
 DumpsUpTo dump RunFault.TooManyMessages held held' = Dumps dump 1_000_000 held held'

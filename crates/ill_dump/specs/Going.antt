@@ -31,13 +31,13 @@ pub record IsEnough (only : Option ℕ) (n : ℕ) (left left' : Option (List ℕ
 abbrev pub Counts : ℕ → ℕ → DumpCounts → Type 0
 Counts messages refused counts = (counts.messages ≡ messages) × (counts.refused ≡ refused)
 
--- what came after these messages: the end of the input, or of what is asked for; or one more that is refused, whose end can't be known
+-- after these messages: the end of the input, or of what is asked for; or one more that is refused, whose end can't be known
 abbrev pub EndsAfter : DumpOptions → Option (List ℕ) → Option (List ℕ) → Reporting → List Item → DumpCounts → Type 0
 EndsAfter dump left left' reports items counts =
     ((IsDone left left' reports ⊎ IsEnough dump.only (length items) left left' reports) × Counts (length items) (length (reports_from first items)) counts)
     ⊎ (LosesEnd (profile_of dump.profile) left left' reports (position_past first items) × Counts (length items + 1) (length (reports_from first items) + 1) counts)
 
--- the input was gone through, as far as the ends of its messages can be known and a message is asked for; those that are chosen were written
+-- the input was read, as far as the ends of its messages can be known and a message is asked for; those that are chosen were written
 pub record DumpsOn (dump : DumpOptions) (left left' held held' : Option (List ℕ)) (reports : Reporting) (counts : DumpCounts) : Type 0 where
   pub items : List Item
   pub rest : Option (List ℕ)
@@ -47,7 +47,7 @@ pub record DumpsOn (dump : DumpOptions) (left left' held held' : Option (List �
   pub few : counts.messages ≤ 1_000_000
   pub dumps : Dumps dump counts.messages held held'
 
--- why no further message was gone through, after `before` of them
+-- why no further message was read, after `before` of them
 abbrev pub HaltsFor : Profile → Taking → Putting → ℕ → RunFault → Type 0
 HaltsFor q source sink before RunFault.TooManyMessages =
     (before ≡ 1_000_000) × ((octet : ℕ) × Consumes source.left source.left' (octet ∷ [])) × Keeps sink.held sink.held'
@@ -57,7 +57,7 @@ HaltsFor q source sink before RunFault.OutOfMemory = before < 1_000_000
 HaltsFor q source sink before (RunFault.WriteFault n) = (before < 1_000_000) × IsTrue sink.broken
 HaltsFor q source sink before _ = ⊥
 
--- the messages before the fault, which were gone through, and why there was one
+-- the messages before the fault, and why there was one
 pub record DumpHalts (dump : DumpOptions) (source : Taking) (sink : Putting) (reports : Reporting) (fault : RunFault) : Type 0 where
   pub items : List Item
   pub rest : Option (List ℕ)
@@ -66,7 +66,7 @@ pub record DumpHalts (dump : DumpOptions) (source : Taking) (sink : Putting) (re
   pub dumps : Dumps dump (length items) sink.held grown
   pub halts : HaltsFor (profile_of dump.profile) (taking rest source.left' source.broken) (putting grown sink.held' sink.broken) (length items) fault
 
--- the messages of an input were gone through, which is read as octets, or as hexadecimal text
+-- the messages of an input were read to its end, which is read as octets, or as hexadecimal text
 abbrev pub DumpOnDone : Bool → DumpOptions → Option (List ℕ) → Option (List ℕ) → Option (List ℕ) → Option (List ℕ) → Reporting → DumpCounts → Type 0
 DumpOnDone false dump left left' held held' reports counts = DumpsOn dump left left' held held' reports counts
 DumpOnDone true dump left left' held held' reports counts =

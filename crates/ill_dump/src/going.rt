@@ -14,10 +14,10 @@ use ill_normal::{
 };
 use std::alloc::Global;
 
-/// Counts of an input that was gone through.
+/// Counts of an input that was read.
 #[derive(Clone, Copy, Debug, PartialEq, Eq)]
 pub struct DumpCounts {
-    /// The number of messages that were gone through, those that are refused too.
+    /// The number of messages, refused ones included.
     pub messages: u32,
     /// The number of those that are refused. They were reported.
     pub refused: u32,
@@ -29,7 +29,7 @@ pub struct DumpCounts {
 ///
 /// # Errors
 ///
-/// The reason why not all of the input was gone through, see [`RunFault`]; a refused message is no such fault.
+/// The reason why not all of the input was read, see [`RunFault`]. A refused message is no such fault.
 pub fn run_dump_skipping<R: Source, L: Lookahead<R>, W: Sink, T: ReportRefusals>(
     alloc: Global,
     dump: DumpOptions<'_>,

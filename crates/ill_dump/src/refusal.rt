@@ -15,7 +15,7 @@ const OUR_LIMIT: &str = "    a limit of illcanon, not of ISO 10161-1\n";
 /// The number of octets that an identifier has at most: the first one, and four of the tag number.
 const MAX_IDENTIFIER: usize = 5;
 
-/// Makes the lines of a refusal, of a message that was gone through up to its place.
+/// Makes the lines of a refusal, of a message that was read up to its place.
 pub fn put_lines(
     alloc: Global,
     lines: &mut LineBuffer,

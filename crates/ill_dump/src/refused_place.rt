@@ -11,7 +11,7 @@ use std::alloc::{AllocError, Global};
 /// The bit of an identifier's first octet that is 1 in a constructed element (X.690, 8.1.2.5).
 const CONSTRUCTED: u8 = 0x20;
 
-/// The place of a refusal, in the octets of a message that was gone through up to it.
+/// The place of a refusal, in the octets of a message that was read up to it.
 #[derive(Drop)]
 pub struct RefusedPlace<'a> {
     walk: &'a ElementWalk,

@@ -58,14 +58,14 @@ impl DumpOptions<'_> {
 
 /// Writes the messages of an input as they are spelled, one after another up to its end: for each a line as `check` writes it, and then a
 /// line for each element. Of a message that is refused it writes the elements before the place, and then the refusal in words. One message
-/// is held at a time, of at most 1,048,576 octets, and its normal form. Returns how many messages were gone through.
+/// is held at a time, of at most 1,048,576 octets, and its normal form. Returns the number of messages.
 ///
 /// Where one message alone is asked for, those before it are read and not written, and nothing after it is read. Fewer messages than its
 /// number say that the input has no such message.
 ///
 /// # Errors
 ///
-/// The reason why not all of the input was gone through, see [`RunFault`]. Of a refused message all lines were written, if it is asked for.
+/// The reason why not all of the input was read, see [`RunFault`]. Of a refused message all lines were written, if it is asked for.
 pub fn run_dump<R: Source, L: Lookahead<R>, W: Sink>(
     alloc: Global,
     dump: DumpOptions<'_>,

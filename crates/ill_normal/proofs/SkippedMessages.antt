@@ -1,4 +1,4 @@
--- Messages that are gone through, one after another.
+-- The messages of an input, one after another.
 use Rattle.std.proofs.Common.{◌≡◌, ℕ, suc, ◌+◌, ◌<◌, ◌≤◌, Bool, ◌&&◌, List, [], ◌∷◌, ◌++◌, length, take, Option, Some, None, IsTrue, refl, sym, ap, ap₂, subst, ◌∙◌, arith, inl, inr, nat_eq, append_assoc, append-nil, length-append}
 use Rattle.std.proofs.Math.Dec.{eqb-suc-suc}
 use Rattle.std.proofs.Math.Nat.{min-eq_left}
@@ -110,7 +110,7 @@ module _ (q : Named) where
   items_more s b (bad octets refusal ∷ items) x h k =
       (h.0 ++ b, ap (λ z. z ++ b) h.1 ∙ append_assoc octets h.0 b, h.2, h.3, items_more h.0 b items x h.4 k)
 
-  -- `before` messages were gone through, of which some were refused and some good, whose output has `written` octets; the next one is at `offset`
+  -- `before` messages came first, of which some were refused and some good, whose output has `written` octets; the next one is at `offset`
   pub record Reached (text : MessagePlace → Spelling → List ℕ) (is_good : Spelling → Bool) (left left' held held' : Option (List ℕ)) (reports : Reporting) (before refused good_ones offset written : ℕ) : Type 0 where
     pub items : List Item
     pub goes : Goes (profile_of q) text left left' held held' reports items
@@ -313,7 +313,7 @@ module _ (q : Named) where
           halts n written SkippingErrorKind.ReadFault same k (omega (arith, r.size))
           (omega (arith, last), e.0, (([], none, λ a i accepted. accepts_some (profile_of q) [] a i refl accepted), λ full. e.1), subst (λ (z : Option (List ℕ)). Keeps held' z) h (Keeps-refl held'))
 
-  -- no more are refused or good than were gone through
-  pub halted_sum : (text : MessagePlace → Spelling → List ℕ) (is_good : Spelling → Bool) (source : Taking) (sink : Putting) (reports : Reporting) (halted : SkippingError)
-      → SkipsAndStops (profile_of q) text is_good source sink reports halted → halted.refused + halted.good ≤ halted.messages
-  halted_sum text is_good source sink reports halted h = omega (arith, h.messages, h.refused, h.good, sum_bound is_good first h.items)
+  -- no more are refused or good than there are
+  pub error_sum : (text : MessagePlace → Spelling → List ℕ) (is_good : Spelling → Bool) (source : Taking) (sink : Putting) (reports : Reporting) (error : SkippingError)
+      → SkipsAndStops (profile_of q) text is_good source sink reports error → error.refused + error.good ≤ error.messages
+  error_sum text is_good source sink reports error h = omega (arith, h.messages, h.refused, h.good, sum_bound is_good first h.items)

@@ -58,25 +58,25 @@ pub record IsDone (left left' : Option (List ℕ)) (reports : Reporting) : Type 
   pub end : IsAtEnd left'
   pub reported : Adds reports.old reports.new []
 
--- what came after these messages: the end of the input, or one more that was refused, whose end can't be known
+-- after these messages: the end of the input, or one more that was refused, whose end can't be known
 abbrev pub EndsWith : Profile → Option (List ℕ) → Option (List ℕ) → Reporting → List Item → SkippingCounts → Type 0
-EndsWith q left left' reports items gone =
-    (IsDone left left' reports × (gone.messages ≡ length items) × (gone.refused ≡ length (reports_from first items)))
-    ⊎ (LosesEnd q left left' reports (position_past first items) × (gone.messages ≡ length items + 1) × (gone.refused ≡ length (reports_from first items) + 1))
+EndsWith q left left' reports items counts =
+    (IsDone left left' reports × (counts.messages ≡ length items) × (counts.refused ≡ length (reports_from first items)))
+    ⊎ (LosesEnd q left left' reports (position_past first items) × (counts.messages ≡ length items + 1) × (counts.refused ≡ length (reports_from first items) + 1))
 
--- the input was gone through, as far as the ends of its messages can be known
-pub record SkipsToEnd (q : Profile) (text : MessagePlace → Spelling → List ℕ) (is_good : Spelling → Bool) (source : Taking) (sink : Putting) (reports : Reporting) (gone : SkippingCounts) : Type 0 where
+-- the input was read, as far as the ends of its messages can be known
+pub record SkipsToEnd (q : Profile) (text : MessagePlace → Spelling → List ℕ) (is_good : Spelling → Bool) (source : Taking) (sink : Putting) (reports : Reporting) (counts : SkippingCounts) : Type 0 where
   pub items : List Item
   pub rest : Option (List ℕ)
   pub reported : Option (List RefusalReport)
   pub goes : Goes q text source.left rest sink.held sink.held' (reporting reports.old reported) items
-  pub ends : EndsWith q rest source.left' (reporting reported reports.new) items gone
-  pub few : gone.messages ≤ 1_000_000
-  pub good : gone.good ≡ good_in is_good items
-  pub octets : gone.octets ≡ counted (length goes.octets)
-  pub all : gone.all_good ≡ all_good is_good items
+  pub ends : EndsWith q rest source.left' (reporting reported reports.new) items counts
+  pub few : counts.messages ≤ 1_000_000
+  pub good : counts.good ≡ good_in is_good items
+  pub octets : counts.octets ≡ counted (length goes.octets)
+  pub all : counts.all_good ≡ all_good is_good items
 
--- why no further message was gone through, after `before` of them, where `next` is the position of the next one
+-- why no further message was read, after `before` of them, where `next` is the position of the next one
 abbrev pub StopsFor : Profile → (MessagePlace → Spelling → List ℕ) → Taking → Putting → ℕ → MessagePlace → SkippingErrorKind → Type 0
 StopsFor q text source sink before next SkippingErrorKind.OutOfMemory = (before < 1_000_000) × Keeps sink.held sink.held'
 StopsFor q text source sink before next SkippingErrorKind.ReadFault =
@@ -91,17 +91,17 @@ part_of (SkippingErrorKind.WriteFault n) = n
 part_of _ = 0
 
 -- the messages before the end, and why there was one
-pub record SkipsAndStops (q : Profile) (text : MessagePlace → Spelling → List ℕ) (is_good : Spelling → Bool) (source : Taking) (sink : Putting) (reports : Reporting) (halted : SkippingError) : Type 0 where
+pub record SkipsAndStops (q : Profile) (text : MessagePlace → Spelling → List ℕ) (is_good : Spelling → Bool) (source : Taking) (sink : Putting) (reports : Reporting) (error : SkippingError) : Type 0 where
   pub items : List Item
   pub rest : Option (List ℕ)
   pub grown : Option (List ℕ)
   pub goes : Goes q text source.left rest sink.held grown reports items
-  pub messages : halted.messages ≡ length items
-  pub refused : halted.refused ≡ length (reports_from first items)
-  pub good : halted.good ≡ good_in is_good items
-  pub octets : halted.octets ≡ counted (length goes.octets)
-  pub written : halted.written ≡ length (written_from text first items) + part_of halted.why
-  pub halts : StopsFor q text (taking rest source.left' source.broken) (putting grown sink.held' sink.broken) halted.messages (position_past first items) halted.why
+  pub messages : error.messages ≡ length items
+  pub refused : error.refused ≡ length (reports_from first items)
+  pub good : error.good ≡ good_in is_good items
+  pub octets : error.octets ≡ counted (length goes.octets)
+  pub written : error.written ≡ length (written_from text first items) + part_of error.why
+  pub halts : StopsFor q text (taking rest source.left' source.broken) (putting grown sink.held' sink.broken) error.messages (position_past first items) error.why
 
 -- why a job went no further, where this many octets were written
 abbrev pub fault_of_kind : ℕ → SkippingErrorKind → RunFault
@@ -110,7 +110,7 @@ fault_of_kind written SkippingErrorKind.ReadFault = RunFault.ReadFault
 fault_of_kind written (SkippingErrorKind.WriteFault n) = RunFault.WriteFault written
 fault_of_kind written SkippingErrorKind.TooMany = RunFault.TooManyMessages
 
--- what had been gone through where a job is halted
+-- what had been read where a job stopped
 abbrev pub counts_before : ℕ → ℕ → ℕ → ℕ → SkippingCounts
 counts_before messages refused good octets =
     record { messages = messages; refused = refused; good = good; octets = octets; all_good = nat_eq (refused + good) messages }

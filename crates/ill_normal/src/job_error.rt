@@ -5,7 +5,7 @@ ghost use Rattle.ill_normal.specs.Skipping.{counts_before, fault_of_kind};
 use crate::run_fault::RunFault;
 use crate::skipping::{SkippingCounts, SkippingError, SkippingErrorKind};
 
-/// The reason why a job went no further, and what had been gone through by then.
+/// The reason why a job stopped, and the counts of what it had read by then.
 #[derive(Clone, Copy, Debug, PartialEq, Eq)]
 pub struct JobError {
     pub fault: RunFault,
@@ -13,7 +13,7 @@ pub struct JobError {
 }
 
 impl JobError {
-    /// A fault before any message was gone through.
+    /// A fault before the first message.
     ///
     /// ```
     /// let octets = read_hex(alloc, &mut source).map_err(JobError::at_start)?;
@@ -34,7 +34,7 @@ impl JobError {
         }
     }
 
-    /// The reason why work that skips refused messages went no further, and what it had gone through.
+    /// The reason why work that skips refused messages stopped, and the counts of what it had read.
     ///
     /// ```
     /// let counts = for_each_accepted_message(alloc, &maker, source, sink, reports).map_err(JobError::of_skipping)?;

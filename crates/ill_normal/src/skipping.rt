@@ -40,10 +40,10 @@ pub enum SkippingErrorKind {
     TooMany,
 }
 
-/// The end of work that did not reach the end of the input: how far it came, and the reason.
+/// The counts of work that did not reach the end of the input, and the reason.
 #[derive(Clone, Copy, Debug, PartialEq, Eq)]
 pub struct SkippingError {
-    /// The number of messages that were gone through, those that are refused too.
+    /// The number of messages, refused ones included.
     pub messages: u32,
     /// The number of those that are refused. They were reported.
     pub refused: u32,

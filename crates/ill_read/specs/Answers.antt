@@ -50,11 +50,11 @@ IsUnfinishedIn p b = (a : Apdu) (n : ℕ) → Accepts p b a n → ⊥
 abbrev pub IsUnfinished : List ℕ → Type 0
 IsUnfinished b = IsUnfinishedIn profile_two b
 
--- a front of what was left is gone, which is no longer than a message may be
+-- a front of what was left was taken, which is no longer than a message may be
 abbrev pub TakesFront : Option (List ℕ) → Option (List ℕ) → Type 0
 TakesFront old new = (b : List ℕ) × Consumes old new b × (length b ≤ 1_048_576)
 
--- a front of what was left is gone, in which no message ends
+-- a front of what was left was taken, in which no message ends
 abbrev pub TakesNoMessageIn : Profile → Option (List ℕ) → Option (List ℕ) → Type 0
 TakesNoMessageIn p old new = (b : List ℕ) × Consumes old new b × IsUnfinishedIn p b
 

@@ -19,7 +19,7 @@ pub struct Reader<D: Drop> {
     path: Path<D>,
     /// The offset of the place that it is at.
     at: u32,
-    /// The octets after that place that came so far.
+    /// The octets that were read after that place.
     pending: Vec<u8>,
     state: State,
     ghost within: { at ≤ 1_048_576 },

@@ -7,7 +7,7 @@ use Rattle.ber_core.specs.Identifier.{Tag, identifier}
 use Rattle.ber_core.specs.Length.{shortest_length}
 use Rattle.ber_core.specs.Tree.{Tree, Trees, constructed, none, more}
 use Rattle.ber_core.specs.Der.{encoding, encodings, sizes}
-use Rattle.ill_write.specs.code.Ahead.{Ahead}
+use Rattle.ill_write.specs.code.NextAre.{NextAre}
 use Rattle.ill_schema.specs.Elements.{joined, place_trees, trees_unless, row_tree}
 use Rattle.ill_write.specs.ContentSizes.{all_content_sizes}
 use Rattle.ill_schema.specs.Value.{content_of}
@@ -21,25 +21,25 @@ use Rattle.ill_write.specs.declared.buffered_sink.BufferedSink.{BufferedSink}
 use Rattle.ill_schema.specs.declared.part.Row.{Row}
 use Rattle.ill_schema.specs.declared.value.Value.{Value}
 
-pub ahead_left : (all : List ℕ) (at : ℕ) (xs ys : List ℕ) → Ahead all at (xs ++ ys) → Ahead all at xs
-ahead_left all at xs ys a = (a.0, ys ++ a.1, a.2 ∙ ap (λ z. a.0 ++ z) (append_assoc xs ys a.1), a.3)
+pub next_left : (all : List ℕ) (at : ℕ) (xs ys : List ℕ) → NextAre all at (xs ++ ys) → NextAre all at xs
+next_left all at xs ys a = (a.0, ys ++ a.1, a.2 ∙ ap (λ z. a.0 ++ z) (append_assoc xs ys a.1), a.3)
 
-pub ahead_right : (all : List ℕ) (at n : ℕ) (xs ys : List ℕ) → n ≡ at + length xs → Ahead all at (xs ++ ys) → Ahead all n ys
-ahead_right all at n xs ys e a =
+pub next_right : (all : List ℕ) (at n : ℕ) (xs ys : List ℕ) → n ≡ at + length xs → NextAre all at (xs ++ ys) → NextAre all n ys
+next_right all at n xs ys e a =
     (a.0 ++ xs, a.1, a.2 ∙ ap (λ z. a.0 ++ z) (append_assoc xs ys a.1) ∙ sym (append_assoc a.0 xs (ys ++ a.1)), omega (arith, e, a.3, length-append a.0 xs))
 
-pub ahead_nothing : (all : List ℕ) (at : ℕ) (xs : List ℕ) → Ahead all at (xs ++ []) → Ahead all at xs
-ahead_nothing all at xs a = ahead_left all at xs [] a
+pub next_nothing : (all : List ℕ) (at : ℕ) (xs : List ℕ) → NextAre all at (xs ++ []) → NextAre all at xs
+next_nothing all at xs a = next_left all at xs [] a
 
 at_front : (front : List ℕ) (x : ℕ) (rest : List ℕ) → get_or (front ++ (x ∷ rest)) (length front) 0 ≡ x
 at_front [] x rest = refl
 at_front (y ∷ front) x rest = at_front front x rest
 
-pub ahead_first : (all : List ℕ) (at x : ℕ) (xs : List ℕ) → Ahead all at (x ∷ xs) → get_or all at 0 ≡ x
-ahead_first all at x xs a = ap₂ (λ (z : List ℕ) (i : ℕ). get_or z i 0) a.2 (sym a.3) ∙ at_front a.0 x (xs ++ a.1)
+pub next_first : (all : List ℕ) (at x : ℕ) (xs : List ℕ) → NextAre all at (x ∷ xs) → get_or all at 0 ≡ x
+next_first all at x xs a = ap₂ (λ (z : List ℕ) (i : ℕ). get_or z i 0) a.2 (sym a.3) ∙ at_front a.0 x (xs ++ a.1)
 
-pub ahead_next : (all : List ℕ) (at n x : ℕ) (xs : List ℕ) → n ≡ at + 1 → Ahead all at (x ∷ xs) → Ahead all n xs
-ahead_next all at n x xs e a = ahead_right all at n (x ∷ []) xs e a
+pub next_after : (all : List ℕ) (at n x : ℕ) (xs : List ℕ) → n ≡ at + 1 → NextAre all at (x ∷ xs) → NextAre all n xs
+next_after all at n x xs e a = next_right all at n (x ∷ []) xs e a
 
 opened : (T : Tree) (tag : Tag) (ts : Trees) (n : ℕ) → T ≡ constructed tag ts → n ≡ sizes ts → (identifier tag true ++ shortest_length n) ++ encodings ts ≡ encoding T
 opened T tag ts n e f =
@@ -66,24 +66,24 @@ pub record Reached (all left : Trees) (contents : List ℕ) (start : Option (Lis
   pub make_up : done ++ encodings left ≡ encodings all
   pub puts : Puts (Ok tt) done start old now new
   pub next : new.next + length (all_content_sizes left) ≡ old.next + length (all_content_sizes all)
-  pub ahead : Ahead contents new.next (all_content_sizes left)
+  pub coming : NextAre contents new.next (all_content_sizes left)
   pub small : sizes left ≤ profile_two.limit
 
-pub reached_none : (all : Trees) (contents : List ℕ) (start : Option (List ℕ)) (p : BufferedSink) → Ahead contents p.next (all_content_sizes all) → sizes all ≤ profile_two.limit
+pub reached_none : (all : Trees) (contents : List ℕ) (start : Option (List ℕ)) (p : BufferedSink) → NextAre contents p.next (all_content_sizes all) → sizes all ≤ profile_two.limit
     → Reached all all contents start p start p
-reached_none all contents start p a le = record { done = []; make_up = refl; puts = puts_nothing tt start p; next = refl; ahead = a; small = le }
+reached_none all contents start p a le = record { done = []; make_up = refl; puts = puts_nothing tt start p; next = refl; coming = a; small = le }
 
 -- another spelling of what is left
 pub reached_same : (all us ws : Trees) (contents : List ℕ) (a b : Option (List ℕ)) (p q : BufferedSink) → ws ≡ us → Reached all ws contents a p b q → Reached all us contents a p b q
 reached_same all us ws contents a b p q e h = subst (λ z. Reached all z contents a p b q) e h
 
-sizes_ahead : (contents : List ℕ) (at : ℕ) (ts us ws : Trees) → ws ≡ joined ts us → Ahead contents at (all_content_sizes ws) → Ahead contents at (all_content_sizes ts ++ all_content_sizes us)
-sizes_ahead contents at ts us ws e a = subst (λ z. Ahead contents at z) (ap all_content_sizes e ∙ content_sizes-joined ts us) a
+sizes_next : (contents : List ℕ) (at : ℕ) (ts us ws : Trees) → ws ≡ joined ts us → NextAre contents at (all_content_sizes ws) → NextAre contents at (all_content_sizes ts ++ all_content_sizes us)
+sizes_next contents at ts us ws e a = subst (λ z. NextAre contents at z) (ap all_content_sizes e ∙ content_sizes-joined ts us) a
 
 -- what the next elements ask
-pub reached_ahead : (all ts us ws : Trees) (contents : List ℕ) (a b : Option (List ℕ)) (p q : BufferedSink) → ws ≡ joined ts us → Reached all ws contents a p b q
-    → Ahead contents q.next (all_content_sizes ts)
-reached_ahead all ts us ws contents a b p q e h = ahead_left _ _ _ _ (sizes_ahead contents q.next ts us ws e h.ahead)
+pub reached_next : (all ts us ws : Trees) (contents : List ℕ) (a b : Option (List ℕ)) (p q : BufferedSink) → ws ≡ joined ts us → Reached all ws contents a p b q
+    → NextAre contents q.next (all_content_sizes ts)
+reached_next all ts us ws contents a b p q e h = next_left _ _ _ _ (sizes_next contents q.next ts us ws e h.coming)
 
 pub reached_small : (all ts us ws : Trees) (contents : List ℕ) (a b : Option (List ℕ)) (p q : BufferedSink) → ws ≡ joined ts us → Reached all ws contents a p b q
     → sizes ts ≤ profile_two.limit
@@ -104,7 +104,7 @@ reached_more all ts us ws contents a b c p q s e h k n = record {
       let x = ap (λ z. length (all_content_sizes z)) e in
       let y = ap length (content_sizes-joined ts us) in
       omega (arith, x, y, h.next, n, length-append (all_content_sizes ts) (all_content_sizes us));
-  ahead = ahead_right _ _ _ (all_content_sizes ts) (all_content_sizes us) n (sizes_ahead contents q.next ts us ws e h.ahead);
+  coming = next_right _ _ _ (all_content_sizes ts) (all_content_sizes us) n (sizes_next contents q.next ts us ws e h.coming);
   small = omega (arith, ap sizes e, sizes-joined ts us, h.small);
 }
 

@@ -1,4 +1,4 @@
 pub mod Measured
 pub mod Puts
-pub mod Ahead
+pub mod NextAre
 pub mod Valid

@@ -3,7 +3,7 @@ ghost use Rattle.std.specs.Prelude.{◌≡◌, ◌<◌, IfOk, IfErr, IsErr, IsEr
 ghost use Rattle.std.specs.Io.KnownBytes.{Appends, Keeps};
 ghost use Rattle.ill_schema.specs.Apdu.{normal_form};
 ghost use Rattle.ill_schema.specs.Message.{apdu_of};
-ghost use Rattle.ill_write.specs.code.Ahead.{Ahead};
+ghost use Rattle.ill_write.specs.code.NextAre.{NextAre};
 ghost use Rattle.ill_write.specs.ContentSizes.{content_sizes, tree_of};
 ghost use Rattle.ill_write.specs.Sizes.{contents_of, total_of};
 ghost use Rattle.ill_write.specs.code.Puts.{Puts};
@@ -98,7 +98,7 @@ fn write_message<W: Sink>(
     progress: &mut BufferedSink,
     sink: &mut W,
 ) -> Result<(), Broken>
-    requires { Ahead contents.now progress.old.next (content_sizes (tree_of message.now)) }
+    requires { NextAre contents.now progress.old.next (content_sizes (tree_of message.now)) }
     ensures puts { Puts result (normal_form (apdu_of message.now))
         (W.contents sink.old) progress.old (W.contents sink.new) progress.new }
     ensures empty { IfOk result (λ _. progress.new.len ≡ 0) }

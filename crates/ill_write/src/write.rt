@@ -6,7 +6,7 @@ ghost use Rattle.ill_schema.specs.Elements.{row_tree, element_tree, place_trees,
 ghost use Rattle.ill_schema.specs.Normal.{normal_trees, normal_items};
 ghost use Rattle.ill_schema.specs.Table.{rows_of};
 ghost use Rattle.ill_schema.specs.Value.{content_of, entries_content, items_content};
-ghost use Rattle.ill_write.specs.code.Ahead.{Ahead};
+ghost use Rattle.ill_write.specs.code.NextAre.{NextAre};
 ghost use Rattle.ill_write.specs.ContentSizes.{content_sizes, all_content_sizes};
 ghost use Rattle.ill_write.specs.code.Puts.{Puts};
 ghost use Rattle.ill_write.specs.code.Valid.{is_valid, is_valid_tag, is_valid_place};
@@ -29,7 +29,7 @@ pub fn write_row<W: Sink>(
 ) -> Result<(), Broken>
     requires valid { IsTrue (is_valid row) }
     requires small { size (row_tree row (content_of value.now)) ≤ profile_two.limit }
-    requires ahead { Ahead contents.now progress.old.next
+    requires coming { NextAre contents.now progress.old.next
         (content_sizes (row_tree row (content_of value.now))) }
     ensures puts { Puts result (encoding (row_tree row (content_of value.now)))
         (W.contents sink.old) progress.old (W.contents sink.new) progress.new }
@@ -60,7 +60,7 @@ fn write_value<W: Sink>(
 ) -> Result<(), Broken>
     requires valid { IsTrue (is_valid_tag replaced) }
     requires small { size (element_tree replaced node (content_of value.now)) ≤ profile_two.limit }
-    requires ahead { Ahead contents.now progress.old.next
+    requires coming { NextAre contents.now progress.old.next
         (content_sizes (element_tree replaced node (content_of value.now))) }
     ensures puts { Puts result (encoding (element_tree replaced node (content_of value.now)))
         (W.contents sink.old) progress.old (W.contents sink.new) progress.new }
@@ -104,7 +104,7 @@ fn write_entries<W: Sink>(
 ) -> Result<(), Broken>
     requires small { sizes (normal_trees (entries_content entries.now.items) (rows_of node))
         ≤ profile_two.limit }
-    requires ahead { Ahead contents.now progress.old.next
+    requires coming { NextAre contents.now progress.old.next
         (all_content_sizes (normal_trees (entries_content entries.now.items) (rows_of node))) }
     ensures puts { Puts result
         (encodings (normal_trees (entries_content entries.now.items) (rows_of node)))
@@ -134,7 +134,7 @@ fn write_present<W: Sink>(
 ) -> Result<(), Broken>
     requires valid { IsTrue (is_valid_place row) }
     requires small { sizes (place_trees row (Some value.now)) ≤ profile_two.limit }
-    requires ahead { Ahead contents.now progress.old.next
+    requires coming { NextAre contents.now progress.old.next
         (all_content_sizes (place_trees row (Some value.now))) }
     ensures puts { Puts result (encodings (place_trees row (Some value.now)))
         (W.contents sink.old) progress.old (W.contents sink.new) progress.new }
@@ -167,7 +167,7 @@ fn write_items<W: Sink>(
 ) -> Result<(), Broken>
     requires small { sizes (normal_items (items_content items.now.items) (rows_of node))
         ≤ profile_two.limit }
-    requires ahead { Ahead contents.now progress.old.next
+    requires coming { NextAre contents.now progress.old.next
         (all_content_sizes (normal_items (items_content items.now.items) (rows_of node))) }
     ensures puts { Puts result
         (encodings (normal_items (items_content items.now.items) (rows_of node)))
@@ -196,7 +196,7 @@ fn write_item<W: Sink>(
 ) -> Result<(), Broken>
     requires valid { IsTrue (is_valid_place row) }
     requires small { sizes (item_trees row item.now) ≤ profile_two.limit }
-    requires ahead { Ahead contents.now progress.old.next
+    requires coming { NextAre contents.now progress.old.next
         (all_content_sizes (item_trees row item.now)) }
     ensures puts { Puts result (encodings (item_trees row item.now))
         (W.contents sink.old) progress.old (W.contents sink.new) progress.new }

@@ -12,7 +12,7 @@ use std::process::Abort;
 use std::test::Fail;
 use test_support::{MemoryHog, Outcome};
 
-/// A call's name, and what came of it.
+/// A call's name and its outcome.
 type Row = (&'static str, Outcome);
 
 /// The result of each call.
@@ -33,7 +33,7 @@ fn call_all(alloc: Global, given: &Given) -> All {
     }
 }
 
-/// Stops where one of these calls came to something else.
+/// Stops where one of these calls has another outcome.
 fn want(rt: &impl Abort, rows: &[Row], wanted: Outcome) {
     for (name, outcome) in rows {
         assert!(rt;
@@ -43,7 +43,7 @@ fn want(rt: &impl Abort, rows: &[Row], wanted: Outcome) {
     }
 }
 
-/// Stops where one of all calls came to something else.
+/// Stops where one of all calls has another outcome.
 fn want_all(rt: &impl Abort, all: &All, wanted: Outcome) {
     want(rt, &all.octets, wanted);
     want(rt, &all.writing, wanted);

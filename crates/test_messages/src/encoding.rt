@@ -1,5 +1,4 @@
 //! Headers, leaves, sources and sinks.
-mod ahead;
 mod buffers;
 mod contracts;
 mod der_buffers;
@@ -7,5 +6,6 @@ mod fake;
 mod frames;
 mod headers;
 mod leaves;
+mod lookahead;
 mod readers;
 mod writers;

@@ -6,12 +6,12 @@ use Rattle.ill_normal.specs.declared.skipping.SkippingError.{SkippingError}
 use Rattle.ill_normal.specs.declared.skipping.SkippingErrorKind.{SkippingErrorKind}
 use Rattle.ill_normal.specs.declared.next_message.TakeError.{TakeError}
 
--- messages that were gone through to their end
+-- of messages that were read to the end of the input
 abbrev pub counts_of : ℕ → ℕ → ℕ → ℕ → SkippingCounts
 counts_of messages refused good octets =
     record { messages = messages; refused = refused; good = good; octets = octets; all_good = nat_eq (refused + good) messages }
 
--- messages that were gone through before the work was halted
+-- of the messages that were read before the work stopped
 abbrev pub error_at : ℕ → ℕ → ℕ → ℕ → ℕ → SkippingErrorKind → SkippingError
 error_at messages refused good octets written why =
     record { messages = messages; refused = refused; good = good; octets = octets; written = written; why = why }

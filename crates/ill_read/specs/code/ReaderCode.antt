@@ -67,7 +67,7 @@ abbrev pub Steps : {D : Type 0} → Named → (D → List Level → List ℕ →
 Steps p holds has old judgement new result = (s rest : List ℕ) → CanStep p holds old s rest judgement → IsProgress (depth_of old.path.frames) (length rest) judgement
     → HasAdvanced p holds has new s rest result
 
--- from the place it goes on, or fails, as is judged in the octets before the bound; `came` octets follow the place in all
+-- from the place it goes on, or fails, as is judged in the octets before the bound; `available_len` octets follow the place in all
 abbrev pub LeadsOn : {D : Type 0} → Named → (D → List Level → List ℕ → Type 0) → (Named → D → Apdu → ℕ → Type 0) → Reader D → List ℕ → ℕ → ℕ → Reader D → Option ℕ → (List Open → Fault → Judged) → Type 0
 LeadsOn p holds has old window room available_len new result judged = (s rest more : List ℕ) (b : StandsBefore p (HoldsAt p holds old.path) old.at s rest) → length rest ≡ available_len
     → rest ≡ window ++ more → room ≡ bound (profile_of p) b.place - old.at

@@ -7,7 +7,7 @@ use std::alloc::{AllocError, Global};
 use std::test::Fail;
 use test_support::octets_of;
 
-/// The reports that came.
+/// The reports.
 #[derive(Drop)]
 struct Reported {
     reports: Vec<RefusalReport>,

@@ -165,8 +165,8 @@ fn jobs_that_go_on_fail_where_something_is_broken<T: ReportRefusals>(
     reports: &mut T,
     alloc: Global,
 ) {
-    if let Err(halt) = run_skipping(alloc, work, source, sink, reports) {
-        match halt.fault {
+    if let Err(error) = run_skipping(alloc, work, source, sink, reports) {
+        match error.fault {
             RunFault::ReadFault => {
                 prove!(source.broken());
             }

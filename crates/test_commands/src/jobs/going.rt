@@ -8,7 +8,7 @@ use std::alloc::Global;
 use std::test::Fail;
 use test_support::octets_of;
 
-/// The report that came.
+/// The report.
 #[derive(Drop)]
 struct Reported {
     reports: Vec<RefusalReport>,
@@ -26,7 +26,7 @@ impl ReportRefusals for Reported {
 }
 
 /// A run. The input is text where `hex` says so, and otherwise octets, here in hexadecimal. In it the second message is a NULL, if it is
-/// gone through.
+/// read.
 struct Row {
     name: &'static str,
     job: Job,
@@ -154,7 +154,7 @@ const NULL: RefusalReport = RefusalReport {
     octets: Some(2),
 };
 
-/// Tells whether a row comes true of these octets. The second message is reported, if all are gone through.
+/// Tells whether a row comes true of these octets. The second message is reported, if all are read.
 fn comes_true(alloc: Global, row: &Row, octets: &[u8]) -> bool {
     let mut source = Pieces::new(octets, 64, None);
     let mut written = Vec::new(alloc);
@@ -168,8 +168,8 @@ fn comes_true(alloc: Global, row: &Row, octets: &[u8]) -> bool {
         &mut ToWrite::new(&mut written),
         &mut reported,
     ) {
-        Ok(gone) => Ok(gone),
-        Err(halt) => Err(halt.fault),
+        Ok(counts) => Ok(counts),
+        Err(error) => Err(error.fault),
     };
     answer == row.answer
         && written.as_slice() == row.output.as_bytes()

@@ -10,7 +10,7 @@ use std::alloc::Global;
 use std::test::Fail;
 use test_support::octets_of;
 
-/// The reports that came, and the octets of the messages whose ends are known.
+/// The reports, and the octets of the messages whose ends are known.
 #[derive(Drop)]
 struct Reported {
     reports: Vec<RefusalReport>,
@@ -330,7 +330,7 @@ fn has_the_first(alloc: Global, octets: &[u8], n: usize) -> bool {
     } else {
         (2, 1, 35, REFUSED, n - 33)
     };
-    let halted = SkippingError {
+    let error = SkippingError {
         messages,
         refused: reports.len() as u32,
         good,
@@ -339,7 +339,7 @@ fn has_the_first(alloc: Global, octets: &[u8], n: usize) -> bool {
         why: SkippingErrorKind::WriteFault(of_the_last),
     };
     let (first, second) = sink.octets().split_at(n.min(33).min(sink.octets().len()));
-    result == Err(halted)
+    result == Err(error)
         && sink.octets().len() == n
         && EXPIRED.starts_with(first)
         && EXPIRED.starts_with(second)
@@ -363,7 +363,7 @@ fn leaves_what_was_whole(alloc: Global, octets: &[u8], n: usize) -> bool {
         35..=67 => (2, 1, 35, REFUSED),
         _ => (3, 2, 68, REFUSED),
     };
-    let halted = SkippingError {
+    let error = SkippingError {
         messages,
         refused: reports.len() as u32,
         good: written as u32,
@@ -372,7 +372,7 @@ fn leaves_what_was_whole(alloc: Global, octets: &[u8], n: usize) -> bool {
         why: SkippingErrorKind::ReadFault,
     };
     let want = Want {
-        result: Err(halted),
+        result: Err(error),
         written,
         input: octets,
         reports,
@@ -440,7 +440,7 @@ impl Source for Nulls {
     }
 }
 
-/// The number of reports that came.
+/// The number of reports.
 #[derive(Drop)]
 struct Count {
     reports: u32,
@@ -469,7 +469,7 @@ fn a_million_refused_messages_are_enough(rt: HostRuntime) {
         &mut sink,
         &mut count,
     );
-    let halted = SkippingError {
+    let error = SkippingError {
         messages: 1_000_000,
         refused: 1_000_000,
         good: 0,
@@ -477,5 +477,5 @@ fn a_million_refused_messages_are_enough(rt: HostRuntime) {
         written: 0,
         why: SkippingErrorKind::TooMany,
     };
-    assert!(rt; result == Err(halted) && count.reports == 1_000_000);
+    assert!(rt; result == Err(error) && count.reports == 1_000_000);
 }

@@ -16,7 +16,7 @@ returns-clause-done g c =
     (taking (g.R.Source.left c.args.source.now) (g.R.Source.left c.read_hex.new.source) (g.R.Source.is_broken c.read_hex.new.source))
     (putting (g.W.Sink.contents c.args.sink.now) (g.W.Sink.contents c.go_on-2.new.sink) (g.W.Sink.is_broken c.go_on-2.new.sink))
     (reporting (g.T.ReportRefusals.reported c.args.reports.now) (g.T.ReportRefusals.reported c.go_on-2.new.reports)))) (sym digits)
-    (IfOk-weaker c.go_on-2.result _ _ (λ gone h. (_, text, (c.go_on-2.new.source, h))) c.go_on-2.ensures.through)
+    (IfOk-weaker c.go_on-2.result _ _ (λ counts h. (_, text, (c.go_on-2.new.source, h))) c.go_on-2.ensures.through)
 
 pub returns-clause-fails : goal.returns-clause-fails
 returns-clause-fails g c =
@@ -27,4 +27,4 @@ returns-clause-fails g c =
     (taking (g.R.Source.left c.args.source.now) (g.R.Source.left c.read_hex.new.source) (g.R.Source.is_broken c.read_hex.new.source))
     (putting (g.W.Sink.contents c.args.sink.now) (g.W.Sink.contents c.go_on-2.new.sink) (g.W.Sink.is_broken c.go_on-2.new.sink))
     (reporting (g.T.ReportRefusals.reported c.args.reports.now) (g.T.ReportRefusals.reported c.go_on-2.new.reports)))) (sym digits)
-    (IfErr-weaker c.go_on-2.result _ _ (λ halt h. inr (_, text, (c.go_on-2.new.source, h))) c.go_on-2.ensures.halts)
+    (IfErr-weaker c.go_on-2.result _ _ (λ error h. inr (_, text, (c.go_on-2.new.source, h))) c.go_on-2.ensures.halts)

@@ -9,12 +9,12 @@ use Rattle.ill_schema.proofs.Contents.{content_of-Flag, content_of-Whole, conten
 use Rattle.ill_schema.specs.Elements.{tag_at, row_tree, element_tree, element_tag, place_trees, item_trees}
 use Rattle.ill_write.specs.ContentSizes.{content_sizes, all_content_sizes}
 use Rattle.ill_write.specs.code.Puts.{Puts}
-use Rattle.ill_write.specs.code.Ahead.{Ahead}
+use Rattle.ill_write.specs.code.NextAre.{NextAre}
 use Rattle.ill_schema.proofs.Trees.{wrapped, sequence_tree, list_tree, chosen_tree, no_row_tree, entry_step, absent_step, item_step}
 use Rattle.ill_write.proofs.Tags.{place_valid, row_valid}
 use Rattle.ill_write.proofs.Measured.{leaf_tree, inside_small}
 use Rattle.ill_write.proofs.Putting.{puts_nothing}
-use Rattle.ill_write.proofs.Writing.{ahead_first, ahead_next, ahead_nothing, composed, not_opened, only_one, empty_element, default_trees, reached_none, reached_same, reached_ahead, reached_small, reached_more, reached_failed}
+use Rattle.ill_write.proofs.Writing.{next_first, next_after, next_nothing, composed, not_opened, only_one, empty_element, default_trees, reached_none, reached_same, reached_next, reached_small, reached_more, reached_failed}
 use Rattle.ber_leaf.specs.Profile.{profile_two}
 use Rattle.ill_schema.specs.declared.value.Value.{the_lemmas}
 use Rattle.ill_write.proofs.write.+write.Goals as goal
@@ -25,7 +25,7 @@ write_row-returns-in_err-open_element-in-Some-clause-puts g t c =
     let tag = c.in-Some.tag in
     let ts = more (element_tree None c.args.row.node (content_of c.args.value.now)) none in
     let e = wrapped c.args.row (content_of c.args.value.now) tag (sym c.wrapper.ensures ∙ c.in-Some.is) in
-    let f = ahead_first _ _ (sizes ts) (all_content_sizes ts) (subst (λ z. Ahead c.args.contents.now c.args.progress.now.next (content_sizes z)) e c.requires.ahead) in
+    let f = next_first _ _ (sizes ts) (all_content_sizes ts) (subst (λ z. NextAre c.args.contents.now c.args.progress.now.next (content_sizes z)) e c.requires.coming) in
     not_opened c.from_residual.result c.in_err-open_element-in-Some.field-0.0 _ _ c.args.progress.now c.open_element.new.progress _ (tag_at tag) ts _ e f c.from_residual.ensures.0 c.in_err-open_element-in-Some.ensures.puts
 
 pub write_row-write_value-requires : goal.write_row-write_value-requires
@@ -34,15 +34,15 @@ write_row-write_value-requires g t c κs within =
     let T = element_tree None c.args.row.node (content_of c.args.value.now) in
     let e = wrapped c.args.row (content_of c.args.value.now) tag (sym c.wrapper.ensures ∙ c.in-Some.is) in
     let s : sizes (more T none) ≤ profile_two.limit = inside_small _ (tag_at tag) (more T none) e c.requires.small in
-    let a = ahead_next _ _ c.open_element.new.progress.next (sizes (more T none)) (content_sizes T ++ []) c.open_element.ensures.next (subst (λ z. Ahead c.args.contents.now c.args.progress.now.next (content_sizes z)) e c.requires.ahead) in
-    (search (rules, the_lemmas), (within, (refl, (omega (arith, s), ahead_nothing _ _ (content_sizes T) a))))
+    let a = next_after _ _ c.open_element.new.progress.next (sizes (more T none)) (content_sizes T ++ []) c.open_element.ensures.next (subst (λ z. NextAre c.args.contents.now c.args.progress.now.next (content_sizes z)) e c.requires.coming) in
+    (search (rules, the_lemmas), (within, (refl, (omega (arith, s), next_nothing _ _ (content_sizes T) a))))
 
 pub write_row-returns-in_ok-open_element-in-Some-clause-puts : goal.write_row-returns-in_ok-open_element-in-Some-clause-puts
 write_row-returns-in_ok-open_element-in-Some-clause-puts g t c =
     let tag = c.in-Some.tag in
     let T = element_tree None c.args.row.node (content_of c.args.value.now) in
     let e = wrapped c.args.row (content_of c.args.value.now) tag (sym c.wrapper.ensures ∙ c.in-Some.is) in
-    let f = ahead_first _ _ (sizes (more T none)) (all_content_sizes (more T none)) (subst (λ z. Ahead c.args.contents.now c.args.progress.now.next (content_sizes z)) e c.requires.ahead) in
+    let f = next_first _ _ (sizes (more T none)) (all_content_sizes (more T none)) (subst (λ z. NextAre c.args.contents.now c.args.progress.now.next (content_sizes z)) e c.requires.coming) in
     composed c.write_value.result _ _ _ c.args.progress.now c.open_element.new.progress c.write_value.new.progress _ (tag_at tag) (more T none) _ e f c.in_ok-open_element-in-Some.ensures.puts
     (only_one c.write_value.result _ _ c.open_element.new.progress c.write_value.new.progress T c.write_value.ensures.puts)
 
@@ -54,7 +54,7 @@ write_item-returns-in-None-clause-puts g t c = rw c.in-None.is (puts_nothing tt 
 
 pub write_items-loop-item-init : goal.write_items-loop-item-init
 write_items-loop-item-init g t c =
-    rw c.deref-item-items.ensures.value (record { reached = reached_none _ c.args.contents.now (g.W.Sink.contents c.args.sink.now) c.args.progress.now c.requires.ahead c.requires.small; stays = λ h. h })
+    rw c.deref-item-items.ensures.value (record { reached = reached_none _ c.args.contents.now (g.W.Sink.contents c.args.sink.now) c.args.progress.now c.requires.coming c.requires.small; stays = λ h. h })
 
 pub write_items-write_item-requires : goal.write_items-write_item-requires
 write_items-write_item-requires g t c κs within =
@@ -63,7 +63,7 @@ write_items-write_item-requires g t c κs within =
     let h = c.loop-item.invariant.reached in
     let ts = item_trees (slice_get (rows_of c.args.node) 0) c.item-item.result in
     let us = normal_items (items_content (drop (c.loop-item.item-index + 1) vs)) (rows_of c.args.node) in
-    let a = reached_ahead _ ts us _ c.args.contents.now _ _ c.args.progress.now c.loop-item.progress e h in
+    let a = reached_next _ ts us _ c.args.contents.now _ _ c.args.progress.now c.loop-item.progress e h in
     let s = reached_small _ ts us _ c.args.contents.now _ _ c.args.progress.now c.loop-item.progress e h in
     (search (rules, the_lemmas), (within, (rw c.row_at-row.ensures (place_valid c.args.node 0), (rw c.row_at-row.ensures s, rw c.row_at-row.ensures a))))
 
@@ -94,7 +94,7 @@ write_items-loop-item-preserved g t c =
 
 pub write_entries-loop-i-init : goal.write_entries-loop-i-init
 write_entries-loop-i-init g t c =
-    rw c.deref-entry-items.ensures.value (record { reached = reached_none _ c.args.contents.now (g.W.Sink.contents c.args.sink.now) c.args.progress.now c.requires.ahead c.requires.small; stays = λ h. h })
+    rw c.deref-entry-items.ensures.value (record { reached = reached_none _ c.args.contents.now (g.W.Sink.contents c.args.sink.now) c.args.progress.now c.requires.coming c.requires.small; stays = λ h. h })
 
 pub write_entries-write_present-requires : goal.write_entries-write_present-requires
 write_entries-write_present-requires g t c κs within =
@@ -103,7 +103,7 @@ write_entries-write_present-requires g t c κs within =
     let h = c.loop-i.invariant.reached in
     let ts = place_trees (slice_get (rows_of c.args.node) c.loop-i.i) (Some c.in-Some.value) in
     let us = normal_trees (entries_content (drop (c.loop-i.i + 1) es)) (drop (c.loop-i.i + 1) (rows_of c.args.node)) in
-    let a = reached_ahead _ ts us _ c.args.contents.now _ _ c.args.progress.now c.loop-i.progress e h in
+    let a = reached_next _ ts us _ c.args.contents.now _ _ c.args.progress.now c.loop-i.progress e h in
     let s = reached_small _ ts us _ c.args.contents.now _ _ c.args.progress.now c.loop-i.progress e h in
     (search (rules, the_lemmas), (within, (rw c.row_at.ensures (place_valid c.args.node c.loop-i.i), (rw c.row_at.ensures s, rw c.row_at.ensures a))))
 
@@ -124,8 +124,8 @@ write_value-returns-in_err-open_element-in-Seq-clause-puts g t c =
     let ts = normal_trees (entries_content c.in-Seq.entries.items) (rows_of c.args.node) in
     let tag = ap (λ x. element_tag c.args.replaced (kind_of c.args.node) x) (sym is) ∙ sym c.element_tag-tag.ensures in
     let e = ap (λ x. element_tree c.args.replaced c.args.node x) is ∙ sequence_tree c.args.replaced c.args.node _ ∙ ap (λ x. constructed x ts) tag in
-    let ahead = subst (λ z. Ahead c.args.contents.now c.args.progress.now.next (content_sizes z)) e c.requires.ahead in
-    let f = ahead_first _ _ (sizes ts) (all_content_sizes ts) ahead in
+    let coming = subst (λ z. NextAre c.args.contents.now c.args.progress.now.next (content_sizes z)) e c.requires.coming in
+    let f = next_first _ _ (sizes ts) (all_content_sizes ts) coming in
     not_opened c.from_residual.result c.in_err-open_element-in-Seq.field-0.0 _ _ c.args.progress.now c.open_element.new.progress _ (tag_at c.element_tag-tag.result) ts _ e f c.from_residual.ensures.0 c.in_err-open_element-in-Seq.ensures.puts
 
 pub write_value-write_entries-requires : goal.write_value-write_entries-requires
@@ -134,9 +134,9 @@ write_value-write_entries-requires g t c κs within =
     let ts = normal_trees (entries_content c.in-Seq.entries.items) (rows_of c.args.node) in
     let tag = ap (λ x. element_tag c.args.replaced (kind_of c.args.node) x) (sym is) ∙ sym c.element_tag-tag.ensures in
     let e = ap (λ x. element_tree c.args.replaced c.args.node x) is ∙ sequence_tree c.args.replaced c.args.node _ ∙ ap (λ x. constructed x ts) tag in
-    let ahead = subst (λ z. Ahead c.args.contents.now c.args.progress.now.next (content_sizes z)) e c.requires.ahead in
+    let coming = subst (λ z. NextAre c.args.contents.now c.args.progress.now.next (content_sizes z)) e c.requires.coming in
     let s : sizes ts ≤ profile_two.limit = inside_small _ (tag_at c.element_tag-tag.result) ts e c.requires.small in
-    let a = ahead_next _ _ c.open_element.new.progress.next (sizes ts) (all_content_sizes ts) c.open_element.ensures.next ahead in
+    let a = next_after _ _ c.open_element.new.progress.next (sizes ts) (all_content_sizes ts) c.open_element.ensures.next coming in
     (search (rules, the_lemmas), (within, (s, a)))
 
 pub write_value-returns-in_ok-open_element-in-Seq-clause-puts : goal.write_value-returns-in_ok-open_element-in-Seq-clause-puts
@@ -145,8 +145,8 @@ write_value-returns-in_ok-open_element-in-Seq-clause-puts g t c =
     let ts = normal_trees (entries_content c.in-Seq.entries.items) (rows_of c.args.node) in
     let tag = ap (λ x. element_tag c.args.replaced (kind_of c.args.node) x) (sym is) ∙ sym c.element_tag-tag.ensures in
     let e = ap (λ x. element_tree c.args.replaced c.args.node x) is ∙ sequence_tree c.args.replaced c.args.node _ ∙ ap (λ x. constructed x ts) tag in
-    let ahead = subst (λ z. Ahead c.args.contents.now c.args.progress.now.next (content_sizes z)) e c.requires.ahead in
-    let f = ahead_first _ _ (sizes ts) (all_content_sizes ts) ahead in
+    let coming = subst (λ z. NextAre c.args.contents.now c.args.progress.now.next (content_sizes z)) e c.requires.coming in
+    let f = next_first _ _ (sizes ts) (all_content_sizes ts) coming in
     composed c.write_entries.result _ _ _ c.args.progress.now c.open_element.new.progress c.write_entries.new.progress _ (tag_at c.element_tag-tag.result) ts _ e f c.in_ok-open_element-in-Seq.ensures.puts c.write_entries.ensures.puts
 
 pub write_value-returns-in_err-open_element-in-List-clause-puts : goal.write_value-returns-in_err-open_element-in-List-clause-puts
@@ -155,8 +155,8 @@ write_value-returns-in_err-open_element-in-List-clause-puts g t c =
     let ts = normal_items (items_content c.in-List.items.items) (rows_of c.args.node) in
     let tag = ap (λ x. element_tag c.args.replaced (kind_of c.args.node) x) (sym is) ∙ sym c.element_tag-tag.ensures in
     let e = ap (λ x. element_tree c.args.replaced c.args.node x) is ∙ list_tree c.args.replaced c.args.node _ ∙ ap (λ x. constructed x ts) tag in
-    let ahead = subst (λ z. Ahead c.args.contents.now c.args.progress.now.next (content_sizes z)) e c.requires.ahead in
-    let f = ahead_first _ _ (sizes ts) (all_content_sizes ts) ahead in
+    let coming = subst (λ z. NextAre c.args.contents.now c.args.progress.now.next (content_sizes z)) e c.requires.coming in
+    let f = next_first _ _ (sizes ts) (all_content_sizes ts) coming in
     not_opened c.from_residual-in_err-open_element-in-List.result c.in_err-open_element-in-List.field-0.0 _ _ c.args.progress.now c.open_element-in-List.new.progress _ (tag_at c.element_tag-tag.result) ts _ e f c.from_residual-in_err-open_element-in-List.ensures.0 c.in_err-open_element-in-List.ensures.puts
 
 pub write_value-write_items-requires : goal.write_value-write_items-requires
@@ -165,9 +165,9 @@ write_value-write_items-requires g t c κs within =
     let ts = normal_items (items_content c.in-List.items.items) (rows_of c.args.node) in
     let tag = ap (λ x. element_tag c.args.replaced (kind_of c.args.node) x) (sym is) ∙ sym c.element_tag-tag.ensures in
     let e = ap (λ x. element_tree c.args.replaced c.args.node x) is ∙ list_tree c.args.replaced c.args.node _ ∙ ap (λ x. constructed x ts) tag in
-    let ahead = subst (λ z. Ahead c.args.contents.now c.args.progress.now.next (content_sizes z)) e c.requires.ahead in
+    let coming = subst (λ z. NextAre c.args.contents.now c.args.progress.now.next (content_sizes z)) e c.requires.coming in
     let s : sizes ts ≤ profile_two.limit = inside_small _ (tag_at c.element_tag-tag.result) ts e c.requires.small in
-    let a = ahead_next _ _ c.open_element-in-List.new.progress.next (sizes ts) (all_content_sizes ts) c.open_element-in-List.ensures.next ahead in
+    let a = next_after _ _ c.open_element-in-List.new.progress.next (sizes ts) (all_content_sizes ts) c.open_element-in-List.ensures.next coming in
     (search (rules, the_lemmas), (within, (s, a)))
 
 pub write_value-returns-in_ok-open_element-in-List-clause-puts : goal.write_value-returns-in_ok-open_element-in-List-clause-puts
@@ -176,8 +176,8 @@ write_value-returns-in_ok-open_element-in-List-clause-puts g t c =
     let ts = normal_items (items_content c.in-List.items.items) (rows_of c.args.node) in
     let tag = ap (λ x. element_tag c.args.replaced (kind_of c.args.node) x) (sym is) ∙ sym c.element_tag-tag.ensures in
     let e = ap (λ x. element_tree c.args.replaced c.args.node x) is ∙ list_tree c.args.replaced c.args.node _ ∙ ap (λ x. constructed x ts) tag in
-    let ahead = subst (λ z. Ahead c.args.contents.now c.args.progress.now.next (content_sizes z)) e c.requires.ahead in
-    let f = ahead_first _ _ (sizes ts) (all_content_sizes ts) ahead in
+    let coming = subst (λ z. NextAre c.args.contents.now c.args.progress.now.next (content_sizes z)) e c.requires.coming in
+    let f = next_first _ _ (sizes ts) (all_content_sizes ts) coming in
     composed c.write_items.result _ _ _ c.args.progress.now c.open_element-in-List.new.progress c.write_items.new.progress _ (tag_at c.element_tag-tag.result) ts _ e f c.in_ok-open_element-in-List.ensures.puts c.write_items.ensures.puts
 
 pub write_entries-loop-i-preserved : goal.write_entries-loop-i-preserved
@@ -213,7 +213,7 @@ write_value-write_row-requires g t c κs within =
           row_valid c.args.node c.in-Alt.number c.in-Some.row (sym at),
           (
             subst (λ T. size T ≤ profile_two.limit) e c.requires.small,
-            subst (λ T. Ahead c.args.contents.now c.args.progress.now.next (content_sizes T)) e c.requires.ahead,
+            subst (λ T. NextAre c.args.contents.now c.args.progress.now.next (content_sizes T)) e c.requires.coming,
           ),
         ),
       ),
@@ -248,5 +248,5 @@ write_value-returns-in-None-clause-puts g t c =
     let is = ap content_of c.in-Alt.is ∙ content_of-Alt c.in-Alt.number c.in-Alt.chosen in
     let tag = ap (λ x. element_tag c.args.replaced (kind_of c.args.node) x) (sym is) ∙ sym c.element_tag-tag.ensures in
     let e = ap (λ x. element_tree c.args.replaced c.args.node x) is ∙ no_row_tree c.args.replaced c.args.node c.in-Alt.number _ (sym c.row.ensures ∙ c.in-None.is) ∙ ap (λ x. constructed x none) tag in
-    let ahead = subst (λ z. Ahead c.args.contents.now c.args.progress.now.next (content_sizes z)) e c.requires.ahead in
-    empty_element c.open_element-in-None.result _ _ c.args.progress.now c.open_element-in-None.new.progress _ (tag_at c.element_tag-tag.result) _ e (ahead_first _ _ 0 [] ahead) c.open_element-in-None.ensures.puts
+    let coming = subst (λ z. NextAre c.args.contents.now c.args.progress.now.next (content_sizes z)) e c.requires.coming in
+    empty_element c.open_element-in-None.result _ _ c.args.progress.now c.open_element-in-None.new.progress _ (tag_at c.element_tag-tag.result) _ e (next_first _ _ 0 [] coming) c.open_element-in-None.ensures.puts

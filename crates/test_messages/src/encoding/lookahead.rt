@@ -117,7 +117,7 @@ static ROWS: [Row; 9] = [
     },
 ];
 
-/// Tells whether as many octets are at hand as must be, and those that are passed are then gone. They are added to those that were taken before.
+/// Tells whether as many octets are at hand as must be, and those that are consumed are no longer there. They are added to those that were taken before.
 fn passes<S: BufferedSource>(
     source: &mut S,
     count: usize,
