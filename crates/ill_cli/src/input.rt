@@ -9,8 +9,8 @@ ghost use Rattle.ill_normal.specs.Inputs.{verdict_if};
 ghost use Rattle.ill_commands.specs.Runs.{RunDone};
 ghost use Rattle.ill_normal.specs.declared.verdict.Verdict.{Verdict};
 ghost use Rattle.ill_dump.specs.Dumped.{DumpDone};
-ghost use Rattle.ill_dump.specs.Going.{DumpOnDone};
-ghost use Rattle.ill_dump.specs.declared.going.DumpCounts.{DumpCounts};
+ghost use Rattle.ill_dump.specs.Skipping.{DumpOnDone};
+ghost use Rattle.ill_dump.specs.declared.skipping.DumpCounts.{DumpCounts};
 ghost use Rattle.ill_lines.specs.Lines.{LinesDone};
 
 use crate::going::PrintReports;

@@ -6,16 +6,15 @@
 //! ```
 #![tactic(auto)]
 
-mod going;
 mod job;
 mod messages;
 mod piece;
 mod refused;
 mod result;
 mod same;
+mod skipping;
 mod written;
 
-pub use going::{run_skipping, run_skipping_peeking, verdict_of};
 pub use ill_json::{RefusalKind, RefusalPlace};
 pub use ill_normal::{
     JobError, MAX_HEX_TEXT, ReadError, RefusalReport, ReportRefusals, RunFault, SkippingCounts,
@@ -25,3 +24,4 @@ pub use job::{Counts, Job, JobOptions, JobOutcome};
 pub use messages::{run, run_as, run_counting, run_with};
 pub use refused::{RefusedLine, refused_json};
 pub use same::{run_same, run_same_as};
+pub use skipping::{run_skipping, run_skipping_peeking, verdict_of};

@@ -1,5 +1,5 @@
 -- The messages that a dump has read and written.
-use Rattle.std.proofs.Common.{◌≡◌, ◌+◌, ◌<◌, ◌≤◌, ℕ, suc, Bool, true, false, List, [], ◌∷◌, ◌++◌, Option, Some, None, Result, Ok, Err, length, codes, decimal, subst, sym, ap, ap₂, ◌∙◌, refl, arith, append-nil, append_assoc, length-append}
+use Rattle.std.proofs.Common.{◌≡◌, ◌+◌, ◌<◌, ◌≤◌, ℕ, suc, Bool, true, false, List, [], ◌∷◌, ◌++◌, Option, Some, None, Result, Ok, Err, length, codes, decimal, IsTrue, subst, sym, ap, ap₂, ◌∙◌, refl, arith, append-nil, append_assoc, length-append}
 use Rattle.std.specs.Prelude.{IfSome, OnOk, if◌then◌else◌}
 use Rattle.std.proofs.lemmas.Bool.{eqb-true}
 use Rattle.std.specs.Io.KnownBytes.{Consumes, Appends}
@@ -18,9 +18,13 @@ use Rattle.ill_dump.specs.declared.markup.DumpFormat.{DumpFormat}
 use Rattle.ill_dump.specs.declared.run.DumpOptions.{DumpOptions}
 use Rattle.ill_dump.specs.Markup.{shown_in, tags_in}
 use Rattle.ill_normal.specs.Inputs.{label_of}
-use Rattle.ill_dump.specs.Dumped.{AreDumped, Dumps, DumpsUpTo, IsLast, StopsIn, dumped, dumped_from, head, is_chosen}
+use Rattle.ill_dump.specs.Dumped.{AreDumped, BreaksSink, BreaksSource, Dumps, DumpsUpTo, IsLast, StopsIn, dumped, dumped_from, head, is_chosen}
 use Rattle.ill_normal.specs.InputEnds.{GoesOn}
 use Rattle.ill_normal.specs.declared.input_end.EndError.{EndError}
+use Rattle.ill_normal.specs.Calls.{taking, putting}
+use Rattle.ill_normal.specs.Visiting.{no_counts, with_accepted}
+use Rattle.ill_normal.specs.declared.visit.MessageCounts.{MessageCounts}
+use Rattle.ill_dump.specs.code.Dumping.{HasDumped}
 use Rattle.ill_dump.specs.code.Failing.{FollowsFrom, fault_of_end}
 use Rattle.ill_dump.specs.code.Putting.{BeginsIf, BeginsWith, IfRefused, Puts, is_enough}
 
@@ -130,47 +134,40 @@ pub enough : (only : Option ℕ) (n : ℕ) → is_enough only n ≡ true → onl
 enough None n e = absurd cc
 enough (Some k) n e = ap Some (eqb-true k n e)
 
--- this number of messages was taken, and those that are chosen were written
-pub record Reached (dump : DumpOptions) (left left' held held' : Option (List ℕ)) (count : ℕ) : Type 0 where
-  pub apdus : List Apdu
-  pub octets : List ℕ
-  pub stream : IsStream (profile_of dump.profile) octets apdus []
-  pub taken : Consumes left left' octets
-  pub counted : length apdus ≡ count
-  pub dumps : Dumps dump count held held'
-
-pub reached_none : (dump : DumpOptions) (left held : Option (List ℕ)) → Reached dump left left held held 0
-reached_none dump left held = record { apdus = []; octets = []; stream = refl; taken = Consumes-nil left; counted = refl; dumps = dumps_none dump held }
+pub dumped_none : (dump : DumpOptions) (left held : Option (List ℕ)) (x y : Bool) → HasDumped dump (taking left left x) (putting held held y) no_counts
+dumped_none dump left held x y = record { apdus = []; octets = []; stream = refl; taken = Consumes-nil left; counted = refl; dumps = dumps_none dump held }
 
 -- a stream, and octets after it
 stream_front : (q : Profile) (b t : List ℕ) (apdus : List Apdu) → IsStream q b apdus [] → IsStream q (b ++ t) apdus t
 stream_front q b t [] h = ap (λ l. l ++ t) h
 stream_front q b t (a ∷ apdus) h = (h.0, h.1 ++ t, ap (λ l. l ++ t) h.2 ∙ append_assoc h.0 h.1 t, h.3, stream_front q h.1 t apdus h.4)
 
-pub reached_more : (dump : DumpOptions) (left left' left'' held held' held'' : Option (List ℕ)) (count : ℕ) (a : Apdu) (b : List ℕ)
-    → Reached dump left left' held held' count → Consumes left' left'' b → SpellsApdu (profile_of dump.profile) a b → BeginsIf (is_chosen dump.only (count + 1)) held' held'' (head dump (count + 1))
-    → Reached dump left left'' held held'' (count + 1)
-reached_more dump left left' left'' held held' held'' count a b h more spells begins = record {
+pub dumped_more : (dump : DumpOptions) (left left' left'' held held' held'' : Option (List ℕ)) (x y x' y' : Bool) (counts : MessageCounts) (a : Apdu) (b : List ℕ) (octets : ℕ) (is_good : Bool)
+    → HasDumped dump (taking left left' x) (putting held held' y) counts → Consumes left' left'' b → SpellsApdu (profile_of dump.profile) a b
+    → BeginsIf (is_chosen dump.only (counts.messages + 1)) held' held'' (head dump (counts.messages + 1))
+    → HasDumped dump (taking left left'' x') (putting held held'' y') (with_accepted octets is_good counts)
+dumped_more dump left left' left'' held held' held'' x y x' y' counts a b octets is_good h more spells begins = record {
   apdus = h.apdus ++ a ∷ [];
   octets = h.octets ++ b;
   stream = stream_join (profile_of dump.profile) (h.octets ++ b) b [] h.apdus (a ∷ []) (stream_front (profile_of dump.profile) h.octets b h.apdus h.stream) (b, [], sym (append-nil b), spells, refl);
   taken = Consumes-trans left left' left'' h.octets b h.taken more;
   counted = omega (arith, h.counted, length-append h.apdus (a ∷ []));
-  dumps = dumps_more dump count held held' held'' h.dumps begins;
+  dumps = dumps_more dump counts.messages held held' held'' h.dumps begins;
 }
 
 -- the last one was reached
-pub reached_all : (dump : DumpOptions) (left left' left'' held held' : Option (List ℕ)) (count n : ℕ) → Reached dump left left' held held' count → n ≡ count → Consumes left' left'' [] → IsLast dump n left'' → n ≤ 1_000_000
-    → AreDumped dump left left'' held held' n
-reached_all dump left left' left'' held held' count n h same none last few = record {
+pub dumped_all : (dump : DumpOptions) (left left' left'' held held' : Option (List ℕ)) (x y : Bool) (counts : MessageCounts) → HasDumped dump (taking left left' x) (putting held held' y) counts
+    → Consumes left' left'' [] → IsLast dump counts.messages left'' → counts.messages ≤ 1_000_000
+    → AreDumped dump left left'' held held' counts.messages
+dumped_all dump left left' left'' held held' x y counts h none last few = record {
   apdus = h.apdus;
   octets = h.octets;
   stream = h.stream;
   taken = subst (Consumes left left'') (append-nil h.octets) (Consumes-trans left left' left'' h.octets [] h.taken none);
-  counted = same ∙ sym h.counted;
+  counted = sym h.counted;
   last = last;
   few = few;
-  dumps = subst (λ (k : ℕ). Dumps dump k held held') (sym same) h.dumps;
+  dumps = h.dumps;
 }
 
 -- memory, the source or the sink failed
@@ -202,32 +199,32 @@ module _ (dump : DumpOptions) (held held' : Option (List ℕ)) where
   dumps_before (RunFault.WriteFault n) h = tt
 
   -- the octets of a stream, and what is left
-  stream_of : (s t : List ℕ) (left' : Option (List ℕ)) (count : ℕ) (h : Reached dump (Some s) left' held held' count) → left' ≡ Some t → IsStream q s h.apdus t
-  stream_of s t left' count h e =
+  stream_of : (s t : List ℕ) (left' : Option (List ℕ)) (x y : Bool) (counts : MessageCounts) (h : HasDumped dump (taking (Some s) left' x) (putting held held' y) counts) → left' ≡ Some t → IsStream q s h.apdus t
+  stream_of s t left' x y counts h e =
       let whole : s ≡ h.octets ++ t = subst (λ l. Consumes (Some s) l h.octets) e h.taken in
       subst (λ l. IsStream q l h.apdus t) (sym whole) (stream_front q h.octets t h.apdus h.stream)
 
-  refused_next : (left left' : Option (List ℕ)) (count message : ℕ) (f : Fault) → (h : Reached dump left left' held held' count) → message ≡ count + 1
+  refused_next : (left left' : Option (List ℕ)) (x y : Bool) (counts : MessageCounts) (message : ℕ) (f : Fault) → (h : HasDumped dump (taking left left' x) (putting held held' y) counts) → message ≡ counts.messages + 1
       → IfSome left' (λ s. (0 < length s) × OnlyRefuses q s f)
       → IfSome left (λ s. (apdus : List Apdu) × (rest : List ℕ) × IsStream q s apdus rest × (message ≡ length apdus + 1) × (0 < length rest) × OnlyRefuses q rest f)
-  refused_next None left' count message f h m only = tt
-  refused_next (Some s) None count message f h m only = absurd h.taken
-  refused_next (Some s) (Some t) count message f h m only = (h.apdus, t, stream_of s t (Some t) count h refl, omega (arith, m, h.counted), only.0, only.1)
+  refused_next None left' x y counts message f h m only = tt
+  refused_next (Some s) None x y counts message f h m only = absurd h.taken
+  refused_next (Some s) (Some t) x y counts message f h m only = (h.apdus, t, stream_of s t (Some t) x y counts h refl, omega (arith, m, h.counted), only.0, only.1)
 
   -- a message that is refused after these is the first one, or memory, the source or the sink failed
-  pub stops_next : (left left' : Option (List ℕ)) (count i : ℕ) (failure : ReadFailure) (fault : RunFault) → Reached dump left left' held held' count → i ≡ count + 1
+  pub stops_next : (left left' : Option (List ℕ)) (x y : Bool) (counts : MessageCounts) (i : ℕ) (failure : ReadFailure) (fault : RunFault) → HasDumped dump (taking left left' x) (putting held held' y) counts → i ≡ counts.messages + 1
       → IfReadRefused failure (λ f. IfSome left' (λ s. (0 < length s) × OnlyRefuses q s f)) → FollowsFrom i failure fault → IfSome left (λ s. StopsIn q s fault)
-  stops_next left left' count i failure (RunFault.Refused message refusal) h n only follows =
-      refused_next left left' count message (fault_of refusal) h (follows.0 ∙ n)
-      (subst (λ x. IfReadRefused x (λ f. IfSome left' (λ s. (0 < length s) × OnlyRefuses q s f))) follows.1 only)
-  stops_next left left' count i failure (RunFault.RefusedSide side refusal) h n only follows = absurd follows
-  stops_next left left' count i failure RunFault.OddHex h n only follows = absurd follows
-  stops_next left left' count i failure (RunFault.BadHex at) h n only follows = absurd follows
-  stops_next left left' count i failure RunFault.HexTooLong h n only follows = absurd follows
-  stops_next left left' count i failure RunFault.TooManyMessages h n only follows = absurd follows
-  stops_next left left' count i failure RunFault.OutOfMemory h n only follows = stops_in q left RunFault.OutOfMemory tt
-  stops_next left left' count i failure RunFault.ReadFault h n only follows = stops_in q left RunFault.ReadFault tt
-  stops_next left left' count i failure (RunFault.WriteFault at) h n only follows = stops_in q left (RunFault.WriteFault at) tt
+  stops_next left left' x y counts i failure (RunFault.Refused message refusal) h n only follows =
+      refused_next left left' x y counts message (fault_of refusal) h (follows.0 ∙ n)
+      (subst (λ z. IfReadRefused z (λ f. IfSome left' (λ s. (0 < length s) × OnlyRefuses q s f))) follows.1 only)
+  stops_next left left' x y counts i failure (RunFault.RefusedSide side refusal) h n only follows = absurd follows
+  stops_next left left' x y counts i failure RunFault.OddHex h n only follows = absurd follows
+  stops_next left left' x y counts i failure (RunFault.BadHex at) h n only follows = absurd follows
+  stops_next left left' x y counts i failure RunFault.HexTooLong h n only follows = absurd follows
+  stops_next left left' x y counts i failure RunFault.TooManyMessages h n only follows = absurd follows
+  stops_next left left' x y counts i failure RunFault.OutOfMemory h n only follows = stops_in q left RunFault.OutOfMemory tt
+  stops_next left left' x y counts i failure RunFault.ReadFault h n only follows = stops_in q left RunFault.ReadFault tt
+  stops_next left left' x y counts i failure (RunFault.WriteFault at) h n only follows = stops_in q left (RunFault.WriteFault at) tt
 
   -- and it was written
   pub dumps_next : (held'' : Option (List ℕ)) (count i : ℕ) (failure : ReadFailure) (fault : RunFault) → Dumps dump count held held' → i ≡ count + 1
@@ -244,15 +241,31 @@ module _ (dump : DumpOptions) (held held' : Option (List ℕ)) where
   dumps_next held'' count i failure (RunFault.WriteFault at) d n follows begins = tt
 
   -- after 1,000,000 messages an octet was taken, or the source broke
-  pub stops_full : (left left' left'' : Option (List ℕ)) (broken : Bool) (count : ℕ) (error : EndError) → Reached dump left left' held held' count → count ≡ 1_000_000
+  pub stops_full : (left left' left'' : Option (List ℕ)) (x y broken : Bool) (counts : MessageCounts) (error : EndError) → HasDumped dump (taking left left' x) (putting held held' y) counts → counts.messages ≡ 1_000_000
       → GoesOn left' left'' broken error → IfSome left (λ s. StopsIn q s (fault_of_end error))
-  stops_full None left' left'' broken count error h full more = tt
-  stops_full (Some s) left' left'' broken count EndError.Broken h full more = tt
-  stops_full (Some s) None left'' broken count EndError.MoreOctets h full more = absurd h.taken
-  stops_full (Some s) (Some t) None broken count EndError.MoreOctets h full more = absurd more.1
-  stops_full (Some s) (Some t) (Some u) broken count EndError.MoreOctets h full more =
-      (h.apdus, t, stream_of s t (Some t) count h refl, h.counted ∙ full, omega (arith, ap length more.1))
+  stops_full None left' left'' x y broken counts error h full more = tt
+  stops_full (Some s) left' left'' x y broken counts EndError.Broken h full more = tt
+  stops_full (Some s) None left'' x y broken counts EndError.MoreOctets h full more = absurd h.taken
+  stops_full (Some s) (Some t) None x y broken counts EndError.MoreOctets h full more = absurd more.1
+  stops_full (Some s) (Some t) (Some u) x y broken counts EndError.MoreOctets h full more =
+      (h.apdus, t, stream_of s t (Some t) x y counts h refl, h.counted ∙ full, omega (arith, ap length more.1))
 
   pub dumps_full : (count : ℕ) (error : EndError) → Dumps dump count held held' → count ≡ 1_000_000 → DumpsUpTo dump (fault_of_end error) held held'
   dumps_full count EndError.MoreOctets h full = subst (λ (k : ℕ). Dumps dump k held held') full h
   dumps_full count EndError.Broken h full = tt
+
+-- the source is broken after a read fault
+pub breaks_source : (fault : RunFault) (broken : Bool) → (fault ≡ RunFault.ReadFault → IsTrue broken) → BreaksSource fault broken
+breaks_source (RunFault.Refused message refusal) broken h = tt
+breaks_source (RunFault.RefusedSide side refusal) broken h = tt
+breaks_source RunFault.OddHex broken h = tt
+breaks_source (RunFault.BadHex n) broken h = tt
+breaks_source RunFault.HexTooLong broken h = tt
+breaks_source RunFault.TooManyMessages broken h = tt
+breaks_source RunFault.OutOfMemory broken h = tt
+breaks_source RunFault.ReadFault broken h = h refl
+breaks_source (RunFault.WriteFault n) broken h = tt
+
+pub breaks_at_end : (left left' : Option (List ℕ)) (source sink : Bool) (error : EndError) → GoesOn left left' source error → BreaksSource (fault_of_end error) source × BreaksSink (fault_of_end error) sink
+breaks_at_end left left' source sink EndError.MoreOctets h = (tt, tt)
+breaks_at_end left left' source sink EndError.Broken h = (h.0, tt)

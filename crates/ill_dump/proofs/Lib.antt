@@ -1,3 +1,3 @@
 pub mod DumpedMessages
 pub mod Escaped
-pub mod GoneOver
+pub mod SkippedMessages

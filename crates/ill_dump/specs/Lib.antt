@@ -1,4 +1,4 @@
 pub mod Markup
 pub mod Dumped
-pub mod Going
+pub mod Skipping
 pub mod code

@@ -1,2 +1,3 @@
+pub mod Dumping
 pub mod Failing
 pub mod Putting

@@ -1,18 +1,23 @@
 //! The messages of an input, one after another.
-ghost use Rattle.std.specs.Prelude.{◌≡◌, [], IfOk, IfErr, IfSome, IsTrue};
-ghost use Rattle.ill_schema.specs.Profiles.{profile_of};
+ghost use Rattle.std.specs.Prelude.{◌≡◌, [], IfOk, IfErr, IsTrue};
 ghost use Rattle.ill_read.specs.declared.failure.ReadFailure.{ReadFailure};
 ghost use Rattle.ill_normal.specs.declared.run_fault.RunFault.{RunFault};
-ghost use Rattle.ill_dump.specs.Dumped.{AreDumped, BreaksSink, BreaksSource, DumpDone, DumpFails, DumpsUpTo, StopsIn, head, is_chosen};
+ghost use Rattle.ill_normal.specs.Visiting.{putting_of, taking_of};
+ghost use Rattle.ill_normal.specs.Calls.{putting, taking};
+ghost use Rattle.ill_dump.specs.Dumped.{AreDumped, BreaksSink, BreaksSource, DumpDone, DumpFails, head, is_chosen};
+ghost use Rattle.ill_dump.specs.code.Dumping.{HasDumped, StopsDump};
 ghost use Rattle.ill_dump.specs.code.Failing.{FollowsFrom};
 ghost use Rattle.ill_dump.specs.code.Putting.{BeginsIf, IfRefused, is_enough};
 
-use crate::going::fault_of_end;
 use crate::markup::DumpFormat;
 use crate::put::{DumpSink, put_message, put_refused};
 use crate::rest::take_rest;
+use crate::skipping::fault_of_end;
 use ber_core::{Buffered, FromSlice, Lookahead, Sink, Source};
-use ill_normal::{MAX_MESSAGES, RunFault, end_of_input, read_hex};
+use ill_normal::{
+    EndError, MessageCounts, NoReports, ReportRefusals, RunFault, VisitMessages, Visited, read_hex,
+    visit_messages,
+};
 use ill_read::{NormalReader, ReadFailure};
 use ill_schema::Profile;
 use std::alloc::Global;
@@ -99,54 +104,103 @@ fn dump_messages<R: Source, L: Lookahead<R>, W: Sink>(
 ) -> Result<u32, RunFault>
     ensures done { IfOk result (AreDumped dump.entry
         (R.left source.old) (R.left source.new) (W.contents sink.old) (W.contents sink.new)) }
-    ensures stops { IfErr result (λ fault. IfSome (R.left source.old)
-        (λ s. StopsIn (profile_of dump.entry.profile) s fault)) }
-    ensures dumps { IfErr result (λ fault. DumpsUpTo dump.entry fault (W.contents sink.old)
-        (W.contents sink.new)) }
-    ensures reads { IfErr result (λ fault. BreaksSource fault (R.is_broken source.new)) }
-    ensures breaks { IfErr result (λ fault. BreaksSink fault (W.is_broken sink.new)) }
+    ensures stops { IfErr result (StopsDump dump.entry
+        (taking (R.left source.old) (R.left source.new) (R.is_broken source.new))
+        (putting (W.contents sink.old) (W.contents sink.new) (W.is_broken sink.new))) }
     ensures source_stays { IsTrue (R.is_broken source.old) → IsTrue (R.is_broken source.new) }
     ensures sink_stays { IsTrue (W.is_broken sink.old) → IsTrue (W.is_broken sink.new) }
 {
-    let mut out = DumpSink::new(alloc, dump.format);
-    let mut reader = NormalReader::new(alloc);
-    let mut recorded = Vec::new(alloc);
-    let mut buffer = Vec::new(alloc);
-    for before in 0..MAX_MESSAGES {
-        if dump.is_enough(before) {
-            return Ok(before);
-        }
-        let message = before + 1;
+    let mut dumper = StoppingDumper {
+        alloc,
+        dump,
+        out: DumpSink::new(alloc, dump.format),
+        reader: NormalReader::new(alloc),
+        recorded: Vec::new(alloc),
+    };
+    match visit_messages::<StoppingDumper<'_>, R, L, W, NoReports>(
+        alloc,
+        &mut dumper,
+        source,
+        sink,
+        &mut NoReports,
+    ) {
+        Ok(counts) => Ok(counts.messages),
+        Err(fault) => Err(fault),
+    }
+}
+
+/// Writes the lines of each message. A refused message stops it, after its lines.
+#[derive(Drop)]
+struct StoppingDumper<'a> {
+    alloc: Global,
+    dump: DumpOptions<'a>,
+    out: DumpSink,
+    reader: NormalReader,
+    /// The octets of a message.
+    recorded: Vec<u8>,
+}
+
+impl VisitMessages for StoppingDumper<'_> {
+    type Buffer = Vec<u8>;
+
+    type Error = RunFault;
+
+    ghost can_visit = { λ dumper counts. dumper.out.head.octets.items ≡ [] };
+
+    ghost has_visited = { λ start now from to counts.
+        (now.dump ≡ start.dump) × HasDumped now.dump (taking_of from to) (putting_of from to) counts };
+
+    ghost ends = { λ start from to counts.
+        AreDumped start.dump from.left to.left from.held to.held counts.messages };
+
+    ghost fails = { λ start from to fault. StopsDump start.dump (taking_of from to) (putting_of from to) fault };
+
+    fn empty_buffer(alloc: Global) -> Vec<u8> {
+        Vec::new(alloc)
+    }
+
+    fn is_enough(&self, counts: MessageCounts) -> bool {
+        self.dump.is_enough(counts.messages)
+    }
+
+    fn visit<R: Source, L: Lookahead<R>, W: Sink, T: ReportRefusals>(
+        &mut self,
+        counts: MessageCounts,
+        source: &mut R,
+        sink: &mut W,
+        _reports: &mut T,
+        buffer: Vec<u8>,
+    ) -> Result<Visited<Vec<u8>>, RunFault> {
+        let StoppingDumper {
+            alloc,
+            dump,
+            out,
+            reader,
+            recorded,
+        } = self;
+        let message = counts.messages + 1;
         recorded.clear();
-        let read = reader.read_recording_as::<R, L>(dump.profile, source, buffer, &mut recorded);
-        match read {
+        match reader.read_recording_as::<R, L>(dump.profile, source, buffer, recorded) {
             Ok(Some(normal)) => {
-                put_message(
-                    alloc,
-                    dump,
-                    message,
-                    &recorded,
-                    &normal.octets,
-                    &mut out,
-                    sink,
-                )?;
-                buffer = normal.octets;
+                put_message(*alloc, *dump, message, recorded, &normal.octets, out, sink)?;
+                Ok(Visited::Accepted {
+                    octets: u64::from(normal.input_len),
+                    is_good: true,
+                    buffer: normal.octets,
+                })
             }
-            Ok(None) => return Ok(before),
-            Err(failure) => {
-                return Err(put_failure(
-                    alloc, dump, message, source, recorded, failure, &mut out, sink,
-                ));
-            }
+            Ok(None) => Ok(Visited::End),
+            Err(failure) => Err(put_failure(
+                *alloc, *dump, message, source, recorded, failure, out, sink,
+            )),
         }
     }
-    drop(reader);
-    if dump.is_enough(MAX_MESSAGES) {
-        return Ok(MAX_MESSAGES);
-    }
-    match end_of_input(source) {
-        Ok(()) => Ok(MAX_MESSAGES),
-        Err(error) => Err(fault_of_end(error)),
+
+    fn at_end(&self, _counts: MessageCounts, end: Result<(), EndError>) -> Result<(), RunFault> {
+        match end {
+            Ok(()) => Ok(()),
+            Err(error) => Err(fault_of_end(error)),
+        }
     }
 }
 
@@ -156,7 +210,7 @@ fn put_failure<R: Source, W: Sink>(
     dump: DumpOptions<'_>,
     message: u32,
     source: &mut R,
-    recorded: Vec<u8>,
+    recorded: &mut Vec<u8>,
     failure: ReadFailure,
     out: &mut DumpSink,
     sink: &mut W,
@@ -175,11 +229,10 @@ fn put_failure<R: Source, W: Sink>(
         ReadFailure::OutOfMemory => return RunFault::OutOfMemory,
         ReadFailure::ReadFault => return RunFault::ReadFault,
     };
-    let mut octets = recorded;
-    if dump.is_chosen(message) && take_rest(source, &mut octets).is_err() {
+    if dump.is_chosen(message) && take_rest(source, recorded).is_err() {
         return RunFault::OutOfMemory;
     }
-    match put_refused(alloc, dump, message, &octets, refusal, out, sink) {
+    match put_refused(alloc, dump, message, recorded, refusal, out, sink) {
         Ok(()) => RunFault::Refused { message, refusal },
         Err(fault) => fault,
     }

@@ -2,7 +2,7 @@
 use Rattle.std.proofs.Common.{◌≡◌, ℕ, suc, ◌+◌, ◌<◌, ◌≤◌, Bool, ◌&&◌, List, [], ◌∷◌, ◌++◌, length, take, Option, Some, None, IsTrue, refl, sym, ap, ap₂, subst, ◌∙◌, arith, inl, inr, nat_eq, append_assoc, append-nil, length-append}
 use Rattle.std.proofs.Math.Dec.{eqb-suc-suc}
 use Rattle.std.proofs.Math.Nat.{min-eq_left}
-use Rattle.std.specs.Io.KnownBytes.{Consumes, Keeps, Appends, IsAtEnd}
+use Rattle.std.specs.Io.KnownBytes.{Consumes, Appends, IsAtEnd}
 use Rattle.std.proofs.KnownBytes.{Consumes-nil, Consumes-trans, Consumes-kept, Keeps-refl, Appends-nil, Appends-trans}
 use Rattle.ill_schema.specs.Profiles.{profile_of}
 use Rattle.ill_schema.specs.declared.profile.Profile.{Profile as Named}
@@ -23,7 +23,9 @@ use Rattle.ill_normal.specs.Skipping.{Reporting, reporting, Goes, HasNoEnd, Skip
 use Rattle.ill_normal.specs.Next.{TakesPart}
 use Rattle.ill_normal.specs.InputEnds.{GoesOn}
 use Rattle.ill_normal.specs.declared.input_end.EndError.{EndError}
-use Rattle.ill_normal.specs.code.SkippingEnds.{counts_of, error_at, why_of, why_of_end}
+use Rattle.ill_normal.specs.code.SkippingEnds.{HasSkipped, error_at, skipping_counts, why_of, why_of_end}
+use Rattle.ill_normal.specs.Visiting.{no_counts, with_accepted, with_last, with_refused}
+use Rattle.ill_normal.specs.declared.visit.MessageCounts.{MessageCounts}
 use Rattle.ill_normal.specs.declared.next_message.TakeError.{TakeError}
 
 pub adds_none : (r : Option (List RefusalReport)) → Adds r r []
@@ -110,22 +112,13 @@ module _ (q : Named) where
   items_more s b (bad octets refusal ∷ items) x h k =
       (h.0 ++ b, ap (λ z. z ++ b) h.1 ∙ append_assoc octets h.0 b, h.2, h.3, items_more h.0 b items x h.4 k)
 
-  -- `before` messages came first, of which some were refused and some good, whose output has `written` octets; the next one is at `offset`
-  pub record Reached (text : MessagePlace → Spelling → List ℕ) (is_good : Spelling → Bool) (left left' held held' : Option (List ℕ)) (reports : Reporting) (before refused good_ones offset written : ℕ) : Type 0 where
-    pub items : List Item
-    pub goes : Goes (profile_of q) text left left' held held' reports items
-    pub count : before ≡ length items
-    pub bad_ones : refused ≡ length (reports_from first items)
-    pub good_are : good_ones ≡ good_in is_good items
-    pub input : offset ≡ counted (length goes.octets)
-    pub next : position_past first items ≡ position (before + 1) offset
-    pub size : written ≡ length (written_from text first items)
-
-  pub reached_none : (text : MessagePlace → Spelling → List ℕ) (is_good : Spelling → Bool) (left held : Option (List ℕ)) (r : Option (List RefusalReport)) → Reached text is_good left left held held (reporting r r) 0 0 0 0 0
-  reached_none text is_good left held r = record {
+  pub skipped_none : (text : MessagePlace → Spelling → List ℕ) (is_good : Spelling → Bool) (left held : Option (List ℕ)) (x y : Bool) (r : Option (List RefusalReport))
+      → HasSkipped (profile_of q) text is_good (taking left left x) (putting held held y) (reporting r r) 0 no_counts
+  skipped_none text is_good left held x y r = record {
     items = [];
     goes = record { octets = []; are = refl; taken = Consumes-nil left; written = Appends-nil held; reported = adds_none r };
     count = refl;
+    few = omega arith;
     bad_ones = refl;
     good_are = refl;
     input = refl;
@@ -137,10 +130,10 @@ module _ (q : Named) where
   abbrev pub Made : {T : Type 0} → (T → List ℕ → Type 0) → (MessagePlace → Spelling → List ℕ) → (Spelling → Bool) → MessagePlace → Option (List ℕ) → Option (List ℕ) → RenderedMessage T → Type 0
   Made is text is_good p left left' piece = (b : List ℕ) × Consumes left left' b × MakesIn (profile_of q) is (text p) is_good piece b
 
-  module _ (text : MessagePlace → Spelling → List ℕ) (is_good : Spelling → Bool) (left left' left'' held held' held'' : Option (List ℕ)) (old new next : Option (List RefusalReport)) (before refused good_ones offset written : ℕ)
-      (r : Reached text is_good left left' held held' (reporting old new) before refused good_ones offset written) where
+  module _ (text : MessagePlace → Spelling → List ℕ) (is_good : Spelling → Bool) (left left' left'' held held' held'' : Option (List ℕ)) (old new next : Option (List RefusalReport)) (x₀ y₀ u v : Bool) (written : ℕ) (counts : MessageCounts)
+      (r : HasSkipped (profile_of q) text is_good (taking left left' x₀) (putting held held' y₀) (reporting old new) written counts) where
     here : MessagePlace
-    here = position (before + 1) offset
+    here = position (counts.messages + 1) counts.octets
 
     pushed : (x : Item) → written_from text first (r.items ++ x ∷ []) ≡ written_from text first r.items ++ written_of (text here) x
     unfolding here
@@ -148,170 +141,151 @@ module _ (q : Named) where
 
     -- the offset after an item whose octets were counted
     offset_more : (x : Item) (b : List ℕ) (n : ℕ) → n ≡ counted (length b) → item_octets x ≡ b
-        → (counted (offset + n) ≡ counted (length (r.goes.octets ++ b))) × (position_past first (r.items ++ x ∷ []) ≡ position (before + 2) (counted (offset + n)))
+        → (counted (counts.octets + n) ≡ counted (length (r.goes.octets ++ b))) × (position_past first (r.items ++ x ∷ []) ≡ position (counts.messages + 2) (counted (counts.octets + n)))
     offset_more x b n e f =
-        let sum : counted (offset + n) ≡ counted (offset + length b) = ap (λ (k : ℕ). counted (offset + k)) e ∙ counted_right offset (length b) in
-        let all : counted (offset + length b) ≡ counted (length (r.goes.octets ++ b)) =
+        let sum : counted (counts.octets + n) ≡ counted (counts.octets + length b) = ap (λ (k : ℕ). counted (counts.octets + k)) e ∙ counted_right counts.octets (length b) in
+        let all : counted (counts.octets + length b) ≡ counted (length (r.goes.octets ++ b)) =
         ap (λ (k : ℕ). counted (k + length b)) r.input ∙ counted_left (length r.goes.octets) (length b) ∙ ap counted (sym (length-append r.goes.octets b)) in
-        let number : before + 1 + 1 ≡ before + 2 = omega arith in (
+        let number : counts.messages + 1 + 1 ≡ counts.messages + 2 = omega arith in (
           sum ∙ all,
-          past_push first r.items x ∙ ap₂ after r.next (ap length f) ∙ ap (λ (k : ℕ). position k (counted (offset + length b))) number ∙ ap (position (before + 2)) (sym sum),
+          past_push first r.items x ∙ ap₂ after r.next (ap length f) ∙ ap (λ (k : ℕ). position k (counted (counts.octets + length b))) number ∙ ap (position (counts.messages + 2)) (sym sum),
         )
 
-    reported : (x : Item) → reports_from first (r.items ++ x ∷ []) ≡ reports_from first r.items ++ reports_from (position (before + 1) offset) (x ∷ [])
+    reported : (x : Item) → reports_from first (r.items ++ x ∷ []) ≡ reports_from first r.items ++ reports_from (position (counts.messages + 1) counts.octets) (x ∷ [])
     reported x = reports_push first r.items x ∙ ap (λ (p : MessagePlace). reports_from first r.items ++ reports_from p (x ∷ [])) r.next
 
-    goes_more : (x : Item) (b : List ℕ) → Is x b → Consumes left' left'' b → Appends held' held'' (written_of (text (position (before + 1) offset)) x) → Adds new next (reports_from (position (before + 1) offset) (x ∷ []))
-        → Goes (profile_of q) text left left'' held held'' (reporting old next) (r.items ++ x ∷ [])
+    goes_to : (grown : Option (List ℕ)) (x : Item) (b : List ℕ) → Is x b → Consumes left' left'' b → Appends held' grown (written_of (text (position (counts.messages + 1) counts.octets)) x) → Adds new next (reports_from (position (counts.messages + 1) counts.octets) (x ∷ []))
+        → Goes (profile_of q) text left left'' held grown (reporting old next) (r.items ++ x ∷ [])
     unfolding here
-    goes_more x b is c w a = record {
+    goes_to grown x b is c w a = record {
       octets = r.goes.octets ++ b;
       are = items_more r.goes.octets b r.items x r.goes.are is;
       taken = Consumes-trans left left' left'' r.goes.octets b r.goes.taken c;
-      written = subst (Appends held held'') (sym (pushed x)) (Appends-trans held held' held'' _ _ r.goes.written w);
+      written = subst (Appends held grown) (sym (pushed x)) (Appends-trans held held' grown _ _ r.goes.written w);
       reported = subst (Adds old next) (sym (reported x)) (adds_more old new next _ _ r.goes.reported a);
     }
 
     -- a message was written
-    pub reached_good : {T : Type 0} (is : T → List ℕ → Type 0) (piece : RenderedMessage T) (p : Made is text is_good (position (before + 1) offset) left' left'' piece) (size : ℕ)
-        → size ≡ length (text (position (before + 1) offset) (spelling p.2.apdu p.0)) → Appends held' held'' (text (position (before + 1) offset) (spelling p.2.apdu p.0)) → new ≡ next
-        → Reached text is_good left left'' held held'' (reporting old next) (before + 1) refused (good_ones + one_if piece.is_good) (counted (offset + piece.octets)) (written + size)
-    unfolding here goes_more
-    reached_good is piece p size n w e =
+    pub skipped_good : {T : Type 0} (is : T → List ℕ → Type 0) (piece : RenderedMessage T) (p : Made is text is_good (position (counts.messages + 1) counts.octets) left' left'' piece) (size : ℕ) → counts.messages < 1_000_000
+        → size ≡ length (text (position (counts.messages + 1) counts.octets) (spelling p.2.apdu p.0)) → Appends held' held'' (text (position (counts.messages + 1) counts.octets) (spelling p.2.apdu p.0)) → new ≡ next
+        → HasSkipped (profile_of q) text is_good (taking left left'' u) (putting held held'' v) (reporting old next) (written + size) (with_accepted piece.octets piece.is_good counts)
+    unfolding here goes_to
+    skipped_good is piece p size lt n w e =
         let m : Spelling = spelling p.2.apdu p.0 in
         let x = good m in
         let short : length p.0 ≤ 1_048_576 = p.2.spells.encodes.short in
         let more = offset_more x p.0 piece.octets (p.2.size ∙ sym (min-eq_left (omega (arith, short)))) refl in
         record {
           items = r.items ++ x ∷ [];
-          goes = goes_more x p.0 (refl, p.2.spells) p.1 w (subst (λ (z : Option (List RefusalReport)). Adds new z []) e (adds_none new));
+          goes = goes_to held'' x p.0 (refl, p.2.spells) p.1 w (subst (λ (z : Option (List RefusalReport)). Adds new z []) e (adds_none new));
           count = omega (arith, r.count, length-append r.items (x ∷ []));
+          few = omega (arith, lt);
           bad_ones = r.bad_ones ∙ sym (ap length (reported x ∙ append-nil (reports_from first r.items)));
           good_are = omega (arith, r.good_are, ap one_if p.2.good, good_push is_good r.items m);
           input = more.0;
-          next = more.1 ∙ ap (λ (k : ℕ). position k (counted (offset + piece.octets))) (let e : before + 2 ≡ before + 1 + 1 = omega arith in e);
-          size = omega (arith, r.size, n, ap length (pushed x), length-append (written_from text first r.items) (text (position (before + 1) offset) m));
+          next = more.1 ∙ ap (λ (k : ℕ). position k (counted (counts.octets + piece.octets))) (let e : counts.messages + 2 ≡ counts.messages + 1 + 1 = omega arith in e);
+          size = omega (arith, r.size, n, ap length (pushed x), length-append (written_from text first r.items) (text (position (counts.messages + 1) counts.octets) m));
         }
 
     -- a message was refused, and reported
-    pub reached_bad : (b : List ℕ) (refusal : Refusal) (n : ℕ) → n ≡ counted (length b) → Consumes left' left'' b → IsRefusedFor (profile_of q) b refusal → IsFrame b → held' ≡ held'' → Adds new next (report (position (before + 1) offset) refusal (Some n) ∷ [])
-        → Reached text is_good left left'' held held'' (reporting old next) (before + 1) (refused + 1) good_ones (counted (offset + n)) written
-    unfolding here goes_more
-    reached_bad b refusal n e c is frame same a =
+    pub skipped_bad : (b : List ℕ) (refusal : Refusal) (n : ℕ) → counts.messages < 1_000_000 → n ≡ counted (length b) → Consumes left' left'' b → IsRefusedFor (profile_of q) b refusal → IsFrame b
+        → Adds new next (report (position (counts.messages + 1) counts.octets) refusal (Some n) ∷ [])
+        → HasSkipped (profile_of q) text is_good (taking left left'' u) (putting held held' v) (reporting old next) written (with_refused n counts)
+    unfolding here goes_to
+    skipped_bad b refusal n lt e c is frame a =
         let x = bad b refusal in
         let more = offset_more x b n e refl in
         record {
           items = r.items ++ x ∷ [];
-          goes = goes_more x b (refl, frame, is) c (subst (λ (z : Option (List ℕ)). Appends held' z []) same (Appends-nil held'))
-              (subst (λ (k : ℕ). Adds new next (report (position (before + 1) offset) refusal (Some k) ∷ [])) e a);
+          goes = goes_to held' x b (refl, frame, is) c (Appends-nil held')
+              (subst (λ (k : ℕ). Adds new next (report (position (counts.messages + 1) counts.octets) refusal (Some k) ∷ [])) e a);
           count = omega (arith, r.count, length-append r.items (x ∷ []));
-          bad_ones = omega (arith, r.bad_ones, ap length (reported x), length-append (reports_from first r.items) (report (position (before + 1) offset) refusal (Some (counted (length b))) ∷ []));
+          few = omega (arith, lt);
+          bad_ones = omega (arith, r.bad_ones, ap length (reported x), length-append (reports_from first r.items) (report (position (counts.messages + 1) counts.octets) refusal (Some (counted (length b))) ∷ []));
           good_are = r.good_are ∙ sym (bad_push is_good r.items b refusal);
           input = more.0;
-          next = more.1 ∙ ap (λ (k : ℕ). position k (counted (offset + n))) (let e : before + 2 ≡ before + 1 + 1 = omega arith in e);
+          next = more.1 ∙ ap (λ (k : ℕ). position k (counted (counts.octets + n))) (let e : counts.messages + 2 ≡ counts.messages + 1 + 1 = omega arith in e);
           size = r.size ∙ sym (ap length (pushed x ∙ append-nil (written_from text first r.items)));
         }
 
-    module _ (x y : Bool) where
-      -- nothing was left
-      pub through_end : (n : ℕ) → n ≡ before → n ≤ 1_000_000 → Consumes left' left'' [] → IsAtEnd left'' → held' ≡ held'' → new ≡ next
-          → SkipsToEnd (profile_of q) text is_good (taking left left'' x) (putting held held'' y) (reporting old next) (counts_of n refused good_ones offset)
-      through_end n same le c e h k = record {
-        items = r.items;
-        rest = left';
-        reported = new;
-        goes = record {
-          octets = r.goes.octets;
-          are = r.goes.are;
-          taken = r.goes.taken;
-          written = subst (λ (z : Option (List ℕ)). Appends held z (written_from text first r.items)) h r.goes.written;
-          reported = r.goes.reported;
-        };
-        ends = inl (record { none = c; end = e; reported = subst (λ (z : Option (List RefusalReport)). Adds new z []) k (adds_none new) }, same ∙ r.count, r.bad_ones);
-        few = le;
-        good = r.good_are;
-        octets = r.input;
-        all = ap₂ (λ (a b : ℕ). nat_eq a b) (ap₂ (λ (a b : ℕ). a + b) r.bad_ones r.good_are) (same ∙ r.count) ∙ counted_all is_good first r.items;
-      }
+    -- nothing was left
+    pub through_end : Consumes left' left'' [] → IsAtEnd left'' → SkipsToEnd (profile_of q) text is_good (taking left left'' u) (putting held held' v) (reporting old new) (skipping_counts counts)
+    through_end c e = record {
+      items = r.items;
+      rest = left';
+      reported = new;
+      goes = r.goes;
+      ends = inl (record { none = c; end = e; reported = adds_none new }, r.count, r.bad_ones);
+      few = r.few;
+      good = r.good_are;
+      octets = r.input;
+      all = ap₂ (λ (a b : ℕ). nat_eq a b) (ap₂ (λ (a b : ℕ). a + b) r.bad_ones r.good_are) r.count ∙ counted_all is_good first r.items;
+    }
 
-      -- a message was refused whose end can't be known
-      pub through_lost : (b : List ℕ) (refusal : Refusal) → before < 1_000_000 → Consumes left' left'' b → IsRefusedFor (profile_of q) b refusal → HasNoEnd b left'' → held' ≡ held''
-          → Adds new next (report (position (before + 1) offset) refusal None ∷ [])
-          → SkipsToEnd (profile_of q) text is_good (taking left left'' x) (putting held held'' y) (reporting old next) (counts_of (before + 1) (refused + 1) good_ones offset)
-      through_lost b refusal lt c is no_end h a =
-          let number : before + 1 ≡ length r.items + 1 = omega (arith, r.count) in
-          record {
-            items = r.items;
-            rest = left';
-            reported = new;
-            goes = record {
-              octets = r.goes.octets;
-              are = r.goes.are;
-              taken = r.goes.taken;
-              written = subst (λ (z : Option (List ℕ)). Appends held z (written_from text first r.items)) h r.goes.written;
-              reported = r.goes.reported;
-            };
-            ends = inr (
-              record { octets = b; refusal = refusal; taken = c; no_end = no_end; refused = is; reported = subst (λ (p : MessagePlace). Adds new next (report p refusal None ∷ [])) (sym r.next) a },
-              number,
-              omega (arith, r.bad_ones),
-            );
-            few = omega arith;
-            good = r.good_are;
-            octets = r.input;
-            all = lost_all refused good_ones before ∙ ap₂ (λ (a b : ℕ). nat_eq a b) (ap₂ (λ (a b : ℕ). a + b) r.bad_ones r.good_are) r.count ∙ counted_all is_good first r.items;
-          }
+    -- a message was refused whose end can't be known
+    pub through_lost : (b : List ℕ) (refusal : Refusal) → counts.messages < 1_000_000 → Consumes left' left'' b → IsRefusedFor (profile_of q) b refusal → HasNoEnd b left''
+        → Adds new next (report (position (counts.messages + 1) counts.octets) refusal None ∷ [])
+        → SkipsToEnd (profile_of q) text is_good (taking left left'' u) (putting held held' v) (reporting old next) (skipping_counts (with_last counts))
+    through_lost b refusal lt c is no_end a =
+        let number : counts.messages + 1 ≡ length r.items + 1 = omega (arith, r.count) in
+        record {
+          items = r.items;
+          rest = left';
+          reported = new;
+          goes = r.goes;
+          ends = inr (
+            record { octets = b; refusal = refusal; taken = c; no_end = no_end; refused = is; reported = subst (λ (p : MessagePlace). Adds new next (report p refusal None ∷ [])) (sym r.next) a },
+            number,
+            omega (arith, r.bad_ones),
+          );
+          few = omega (arith, lt);
+          good = r.good_are;
+          octets = r.input;
+          all = lost_all counts.refused counts.good counts.messages ∙ ap₂ (λ (a b : ℕ). nat_eq a b) (ap₂ (λ (a b : ℕ). a + b) r.bad_ones r.good_are) r.count ∙ counted_all is_good first r.items;
+        }
 
-      halts : (n written' : ℕ) (why : SkippingErrorKind) → n ≡ before → new ≡ next → written' ≡ length (written_from text first r.items) + part_of why
-          → StopsFor (profile_of q) text (taking left' left'' x) (putting held' held'' y) n (position_past first r.items) why
-          → SkipsAndStops (profile_of q) text is_good (taking left left'' x) (putting held held'' y) (reporting old next) (error_at n refused good_ones offset written' why)
-      halts n written' why same k size h = record {
-        items = r.items;
-        rest = left';
-        grown = held';
-        goes = record {
-          octets = r.goes.octets;
-          are = r.goes.are;
-          taken = r.goes.taken;
-          written = r.goes.written;
-          reported = subst (λ (z : Option (List RefusalReport)). Adds old z (reports_from first r.items)) k r.goes.reported;
-        };
-        messages = same ∙ r.count;
-        refused = r.bad_ones;
-        good = r.good_are;
-        octets = r.input;
-        written = size;
-        halts = h;
-      }
+    halts : (grown : Option (List ℕ)) (written' : ℕ) (why : SkippingErrorKind) → written' ≡ length (written_from text first r.items) + part_of why
+        → StopsFor (profile_of q) text (taking left' left'' u) (putting held' grown v) counts.messages (position_past first r.items) why
+        → SkipsAndStops (profile_of q) text is_good (taking left left'' u) (putting held grown v) (reporting old new) (error_at counts written' why)
+    halts grown written' why size h = record {
+      items = r.items;
+      rest = left';
+      grown = held';
+      goes = r.goes;
+      messages = r.count;
+      refused = r.bad_ones;
+      good = r.good_are;
+      octets = r.input;
+      written = size;
+      halts = h;
+    }
 
-      pub halts_unread : (u : TakeError) → before < 1_000_000 → held' ≡ held'' → new ≡ next → (u ≡ TakeError.Broken → IsTrue x × TakesPart left' left'')
-          → SkipsAndStops (profile_of q) text is_good (taking left left'' x) (putting held held'' y) (reporting old next) (error_at before refused good_ones offset written (why_of u))
-      halts_unread TakeError.OutOfMemory lt h k broken =
-          halts before written SkippingErrorKind.OutOfMemory refl k (omega (arith, r.size)) (lt, subst (λ (z : Option (List ℕ)). Keeps held' z) h (Keeps-refl held'))
-      halts_unread TakeError.Broken lt h k broken =
-          let b = broken refl in
-          halts before written SkippingErrorKind.ReadFault refl k (omega (arith, r.size))
-          (omega arith, b.0, ((b.1.octets, b.1.taken, b.1.unfinished q), λ full. absurd (omega (arith, lt, full))), subst (λ (z : Option (List ℕ)). Keeps held' z) h (Keeps-refl held'))
+    pub halts_unread : (e : TakeError) → counts.messages < 1_000_000 → (e ≡ TakeError.Broken → IsTrue u × TakesPart left' left'')
+        → SkipsAndStops (profile_of q) text is_good (taking left left'' u) (putting held held' v) (reporting old new) (error_at counts (written + 0) (why_of e))
+    halts_unread TakeError.OutOfMemory lt broken = halts held' (written + 0) SkippingErrorKind.OutOfMemory (omega (arith, r.size)) (lt, Keeps-refl held')
+    halts_unread TakeError.Broken lt broken =
+        let b = broken refl in
+        halts held' (written + 0) SkippingErrorKind.ReadFault (omega (arith, r.size))
+        (omega (arith, lt), b.0, ((b.1.octets, b.1.taken, b.1.unfinished q), λ full. absurd (omega (arith, lt, full))), Keeps-refl held')
 
-      pub halts_writing : {T : Type 0} (is : T → List ℕ → Type 0) (piece : RenderedMessage T) (n written' : ℕ) → before < 1_000_000 → written' ≡ written + n → (p : Made is text is_good (position (before + 1) offset) left' left'' piece)
-          → Appends held' held'' (take n (text (position (before + 1) offset) (spelling p.2.apdu p.0))) → n < length (text (position (before + 1) offset) (spelling p.2.apdu p.0)) → IsTrue y → new ≡ next
-          → SkipsAndStops (profile_of q) text is_good (taking left left'' x) (putting held held'' y) (reporting old next) (error_at before refused good_ones offset written' (SkippingErrorKind.WriteFault n))
-      halts_writing is piece n written' lt sum p w fewer broken k =
-          halts before written' (SkippingErrorKind.WriteFault n) refl k (omega (arith, sum, r.size)) (
-            lt,
-            subst (λ (i : MessagePlace). BreaksWithinIn (profile_of q) (text i) (taking left' left'' x) (putting held' held'' y) n) (sym r.next)
-                (record { message = spelling p.2.apdu p.0; spells = p.2.spells; taken = p.1; written = w; fewer = fewer; broken = broken }),
-          )
+    pub halts_writing : {T : Type 0} (is : T → List ℕ → Type 0) (piece : RenderedMessage T) (n : ℕ) → counts.messages < 1_000_000 → (p : Made is text is_good (position (counts.messages + 1) counts.octets) left' left'' piece)
+        → Appends held' held'' (take n (text (position (counts.messages + 1) counts.octets) (spelling p.2.apdu p.0))) → n < length (text (position (counts.messages + 1) counts.octets) (spelling p.2.apdu p.0)) → IsTrue v
+        → SkipsAndStops (profile_of q) text is_good (taking left left'' u) (putting held held'' v) (reporting old new) (error_at counts (written + n) (SkippingErrorKind.WriteFault n))
+    halts_writing is piece n lt p w fewer broken =
+        halts held'' (written + n) (SkippingErrorKind.WriteFault n) (omega (arith, r.size)) (
+          lt,
+          subst (λ (i : MessagePlace). BreaksWithinIn (profile_of q) (text i) (taking left' left'' u) (putting held' held'' v) n) (sym r.next)
+              (record { message = spelling p.2.apdu p.0; spells = p.2.spells; taken = p.1; written = w; fewer = fewer; broken = broken }),
+        )
 
-      -- after the last message that an input may have an octet was taken, or the source broke
-      pub halts_at_last : (n : ℕ) (error : EndError) → n ≡ before → n ≡ 1_000_000 → held' ≡ held'' → new ≡ next → GoesOn left' left'' x error
-          → SkipsAndStops (profile_of q) text is_good (taking left left'' x) (putting held held'' y) (reporting old next) (error_at n refused good_ones offset written (why_of_end error))
-      halts_at_last n EndError.MoreOctets same last h k e =
-          halts n written SkippingErrorKind.TooMany same k (omega (arith, r.size)) (last, e, subst (λ (z : Option (List ℕ)). Keeps held' z) h (Keeps-refl held'))
-      halts_at_last n EndError.Broken same last h k e =
-          let none = Consumes-kept left' left' left'' [] (Consumes-nil left') e.1 in
-          halts n written SkippingErrorKind.ReadFault same k (omega (arith, r.size))
-          (omega (arith, last), e.0, (([], none, λ a i accepted. accepts_some (profile_of q) [] a i refl accepted), λ full. e.1), subst (λ (z : Option (List ℕ)). Keeps held' z) h (Keeps-refl held'))
+    -- after the last message that an input may have an octet was taken, or the source broke
+    pub halts_at_last : (error : EndError) → counts.messages ≡ 1_000_000 → GoesOn left' left'' u error
+        → SkipsAndStops (profile_of q) text is_good (taking left left'' u) (putting held held' v) (reporting old new) (error_at counts (written + 0) (why_of_end error))
+    halts_at_last EndError.MoreOctets last e = halts held' (written + 0) SkippingErrorKind.TooMany (omega (arith, r.size)) (last, e, Keeps-refl held')
+    halts_at_last EndError.Broken last e =
+        let none = Consumes-kept left' left' left'' [] (Consumes-nil left') e.1 in
+        halts held' (written + 0) SkippingErrorKind.ReadFault (omega (arith, r.size))
+        (omega (arith, last), e.0, (([], none, λ a i accepted. accepts_some (profile_of q) [] a i refl accepted), λ full. e.1), Keeps-refl held')
 
   -- no more are refused or good than there are
   pub error_sum : (text : MessagePlace → Spelling → List ℕ) (is_good : Spelling → Bool) (source : Taking) (sink : Putting) (reports : Reporting) (error : SkippingError)

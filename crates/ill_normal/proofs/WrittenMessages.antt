@@ -14,10 +14,12 @@ use Rattle.ill_schema.proofs.Streams.{accepts_some}
 use Rattle.ill_read.specs.Answers.{ReadsNextIn, TakesFront}
 use Rattle.ill_read.specs.declared.failure.ReadFailure.{ReadFailure}
 use Rattle.ill_normal.specs.Calls.{taking, putting}
-use Rattle.ill_normal.specs.Messages.{Spelling, spelling, AreSpelledIn, counted, position, first, after, position_after, output_from, one_if, good_of, MakesIn, WritesIn, PassesAllIn, BreaksWithinIn, EndsIn, EndsAfterIn}
+use Rattle.ill_normal.specs.Messages.{Spelling, spelling, AreSpelledIn, counted, position, first, after, position_after, output_from, one_if, good_of, MakesIn, PassesAllIn, BreaksWithinIn, EndsIn, EndsAfterIn}
 use Rattle.ill_normal.specs.InputEnds.{GoesOn}
 use Rattle.ill_normal.specs.declared.input_end.EndError.{EndError}
-use Rattle.ill_normal.specs.code.Ending.{all_passed, ended_at, why_of_end}
+use Rattle.ill_normal.specs.code.Ending.{HasWritten, all_passed, ended_at, why_of_end}
+use Rattle.ill_normal.specs.Visiting.{no_counts, with_accepted}
+use Rattle.ill_normal.specs.declared.visit.MessageCounts.{MessageCounts}
 use Rattle.ill_normal.specs.declared.messages.RenderedMessage.{RenderedMessage}
 use Rattle.ill_normal.specs.declared.messages.MessagePlace.{MessagePlace}
 use Rattle.ill_normal.specs.declared.messages.StreamErrorKind.{StreamErrorKind}
@@ -71,10 +73,6 @@ counted_right a n =
     let f : n + a ≡ a + n = omega arith in
     ap counted e ∙ counted_left n a ∙ ap counted f
 
--- an offset that isn't too great grows by the octets of a message
-grows : (number offset n : ℕ) → offset + n ≤ 18_446_744_073_709_551_615 → after (position number offset) n ≡ position (number + 1) (offset + n)
-grows number offset n le = ap (position (number + 1)) (min-eq_left le)
-
 module _ (q : Named) where
   pub spelled_front : (b t : List ℕ) (ms : List Spelling) → AreSpelledIn (profile_of q) b ms [] → AreSpelledIn (profile_of q) (b ++ t) ms t
   spelled_front b t [] h = ap (λ l. l ++ t) h
@@ -84,22 +82,15 @@ module _ (q : Named) where
   spelled_more b [] m h k = ([], ap (λ l. l ++ m.octets) h ∙ sym (append-nil m.octets), k, refl)
   spelled_more b (x ∷ ms) m h k = (h.0 ++ m.octets, ap (λ l. l ++ m.octets) h.1 ∙ append_assoc x.octets h.0 m.octets, h.2, spelled_more h.0 ms m h.3 k)
 
-  -- `whole` messages of `before` octets were read and written, whose output has `written` octets, and this many were good
-  pub record Reached (text : MessagePlace → Spelling → List ℕ) (is_good : Spelling → Bool) (left left' held held' : Option (List ℕ)) (whole before written good : ℕ) : Type 0 where
-    pub messages : List Spelling
-    pub writes : WritesIn (profile_of q) text left left' held held' messages
-    pub count : whole ≡ length messages
-    pub input : before ≡ length writes.octets
-    pub next : position_after first messages ≡ position (whole + 1) before
-    pub size : written ≡ length (output_from text first messages)
-    pub good_ones : good ≡ good_of is_good messages
-
-  pub reached_none : (text : MessagePlace → Spelling → List ℕ) (is_good : Spelling → Bool) (left held : Option (List ℕ)) → Reached text is_good left left held held 0 0 0 0
-  reached_none text is_good left held = record {
+  pub written_none : (text : MessagePlace → Spelling → List ℕ) (is_good : Spelling → Bool) (left held : Option (List ℕ)) (x y : Bool)
+      → HasWritten (profile_of q) text is_good (taking left left x) (putting held held y) 0 no_counts
+  written_none text is_good left held x y = record {
     messages = [];
     writes = record { octets = []; spelled = refl; taken = Consumes-nil left; written = Appends-nil held };
     count = refl;
+    few = omega arith;
     input = refl;
+    bound = omega arith;
     next = refl;
     size = refl;
     good_ones = refl;
@@ -114,24 +105,26 @@ module _ (q : Named) where
       → Made is text is_good i left left' piece → piece.octets ≤ 1_048_576
   made_bound is text is_good i left left' piece p = let h : length p.0 ≤ 1_048_576 = p.2.spells.encodes.short in omega (arith, p.2.size)
 
-  module _ (text : MessagePlace → Spelling → List ℕ) (is_good : Spelling → Bool) (left left' left'' held held' held'' : Option (List ℕ)) (whole before written good : ℕ)
-      (r : Reached text is_good left left' held held' whole before written good) where
+  module _ (text : MessagePlace → Spelling → List ℕ) (is_good : Spelling → Bool) (left left' left'' held held' held'' : Option (List ℕ)) (x₀ y₀ x y : Bool) (written : ℕ) (counts : MessageCounts)
+      (r : HasWritten (profile_of q) text is_good (taking left left' x₀) (putting held held' y₀) written counts) where
     here : MessagePlace
-    here = position (whole + 1) before
+    here = position (counts.messages + 1) counts.octets
 
     pushed : (m : Spelling) → output_from text first (r.messages ++ m ∷ []) ≡ output_from text first r.messages ++ text here m
     unfolding here
     pushed m = output_push text first r.messages m ∙ ap (λ (p : MessagePlace). output_from text first r.messages ++ text p m) r.next
 
-    pub reached_more : {T : Type 0} (is : T → List ℕ → Type 0) (piece : RenderedMessage T) (p : Made is text is_good (position (whole + 1) before) left' left'' piece) (size : ℕ)
-        → before + piece.octets ≤ 18_446_744_073_709_551_615
-        → size ≡ length (text (position (whole + 1) before) (spelling p.2.apdu p.0)) → Appends held' held'' (text (position (whole + 1) before) (spelling p.2.apdu p.0))
-        → Reached text is_good left left'' held held'' (whole + 1) (before + piece.octets) (written + size) (good + one_if piece.is_good)
+    pub written_more : {T : Type 0} (is : T → List ℕ → Type 0) (piece : RenderedMessage T) (p : Made is text is_good (position (counts.messages + 1) counts.octets) left' left'' piece) (size : ℕ) → counts.messages < 1_000_000
+        → size ≡ length (text (position (counts.messages + 1) counts.octets) (spelling p.2.apdu p.0)) → Appends held' held'' (text (position (counts.messages + 1) counts.octets) (spelling p.2.apdu p.0))
+        → HasWritten (profile_of q) text is_good (taking left left'' x) (putting held held'' y) (written + size) (with_accepted piece.octets piece.is_good counts)
     unfolding here
-    reached_more is piece p size le n w =
+    written_more is piece p size lt n w =
         let m : Spelling = spelling p.2.apdu p.0 in
         let so_far = output_from text first r.messages in
-        let all : so_far ++ text (position (whole + 1) before) m ≡ output_from text first (r.messages ++ m ∷ []) = sym (pushed m) in
+        let all : so_far ++ text (position (counts.messages + 1) counts.octets) m ≡ output_from text first (r.messages ++ m ∷ []) = sym (pushed m) in
+        let short : piece.octets ≤ 1_048_576 = made_bound is text is_good (position (counts.messages + 1) counts.octets) left' left'' piece p in
+        let le : counts.octets + piece.octets ≤ 18_446_744_073_709_551_615 = omega (arith, r.bound, short, lt) in
+        let sum : counted (counts.octets + piece.octets) ≡ counts.octets + piece.octets = min-eq_left le in
         record {
           messages = r.messages ++ m ∷ [];
           writes = record {
@@ -141,15 +134,17 @@ module _ (q : Named) where
             written = subst (Appends held held'') all (Appends-trans held held' held'' _ _ r.writes.written w);
           };
           count = omega (arith, r.count, length-append r.messages (m ∷ []));
-          input = omega (arith, r.input, p.2.size, length-append r.writes.octets p.0);
-          next = position_push first r.messages m ∙ ap (λ (p : MessagePlace). after p (length m.octets)) r.next ∙ ap (after (position (whole + 1) before)) (sym p.2.size) ∙ grows (whole + 1) before piece.octets le;
-          size = omega (arith, r.size, n, ap length all, length-append so_far (text (position (whole + 1) before) m));
+          few = omega (arith, lt);
+          input = omega (arith, sum, r.input, p.2.size, length-append r.writes.octets p.0);
+          bound = omega (arith, sum, r.bound, short);
+          next = position_push first r.messages m ∙ ap (λ (p : MessagePlace). after p (length m.octets)) r.next ∙ ap (after (position (counts.messages + 1) counts.octets)) (sym p.2.size);
+          size = omega (arith, r.size, n, ap length all, length-append so_far (text (position (counts.messages + 1) counts.octets) m));
           good_ones = omega (arith, r.good_ones, ap one_if p.2.good, good_push is_good r.messages m);
         }
 
     -- nothing was left
-    pub passes_all : (n : ℕ) → n ≡ whole → Consumes left' left'' [] → IsAtEnd left'' → n ≤ 1_000_000 → PassesAllIn (profile_of q) text is_good left left'' held held' (all_passed n good before)
-    passes_all n same h e le = record {
+    pub passes_all : Consumes left' left'' [] → IsAtEnd left'' → PassesAllIn (profile_of q) text is_good left left'' held held' (all_passed counts)
+    passes_all h e = record {
       messages = r.messages;
       writes = record {
         octets = r.writes.octets;
@@ -158,89 +153,88 @@ module _ (q : Named) where
         written = r.writes.written;
       };
       end = e;
-      few = omega (arith, r.count, le, same);
-      count = same ∙ r.count;
+      few = omega (arith, r.count, r.few);
+      count = r.count;
       good = r.good_ones;
       octets = r.input;
-      all = ap₂ nat_eq r.good_ones (same ∙ r.count) ∙ all_good is_good r.messages;
+      all = ap₂ nat_eq r.good_ones r.count ∙ all_good is_good r.messages;
     }
 
-    module _ (x y : Bool) where
-      -- the next message was not read
-      read_ends : {T : Type 0} (was : Bool) (Is : T → List ℕ → Type 0) (e : ReadFailure) → whole < 1_000_000 → ReadsNextIn (profile_of q) left' left'' was x Is (Err e)
-          → EndsIn (profile_of q) text (taking left' left'' x) (putting held' held' y) whole (position_after first r.messages) (StreamErrorKind.Read e)
-      read_ends was Is (ReadFailure.Refused refusal) lt h = (lt, h.refused, Keeps-refl held')
-      read_ends was Is ReadFailure.OutOfMemory lt h = (lt, Keeps-refl held')
-      read_ends was Is ReadFailure.ReadFault lt h = (omega arith, h.fault.0, (h.fault.1, λ full. absurd (omega (arith, lt, full))), Keeps-refl held')
+    -- the next message was not read
+    read_ends : {T : Type 0} (was : Bool) (Is : T → List ℕ → Type 0) (e : ReadFailure) → counts.messages < 1_000_000 → ReadsNextIn (profile_of q) left' left'' was x Is (Err e)
+        → EndsIn (profile_of q) text (taking left' left'' x) (putting held' held' y) counts.messages (position_after first r.messages) (StreamErrorKind.Read e)
+    read_ends was Is (ReadFailure.Refused refusal) lt h = (lt, h.refused, Keeps-refl held')
+    read_ends was Is ReadFailure.OutOfMemory lt h = (lt, Keeps-refl held')
+    read_ends was Is ReadFailure.ReadFault lt h = (omega arith, h.fault.0, (h.fault.1, λ full. absurd (omega (arith, lt, full))), Keeps-refl held')
 
-      pub ends_reading : {T : Type 0} (was : Bool) (Is : T → List ℕ → Type 0) (e : ReadFailure) → whole < 1_000_000 → ReadsNextIn (profile_of q) left' left'' was x Is (Err e)
-          → EndsAfterIn (profile_of q) text is_good (taking left left'' x) (putting held held' y) (ended_at whole good before written (StreamErrorKind.Read e))
-      ends_reading was Is e lt h = record {
-        messages = r.messages;
-        rest = left';
-        grown = held';
-        writes = r.writes;
-        taken = h.taken;
-        count = r.count;
-        good = r.good_ones;
-        before = r.input;
-        written = omega (arith, r.size);
-        ends = read_ends was Is e lt h;
-      }
+    pub ends_reading : {T : Type 0} (was : Bool) (Is : T → List ℕ → Type 0) (e : ReadFailure) → counts.messages < 1_000_000 → ReadsNextIn (profile_of q) left' left'' was x Is (Err e)
+        → EndsAfterIn (profile_of q) text is_good (taking left left'' x) (putting held held' y) (ended_at counts.messages counts.good counts.octets (written + 0) (StreamErrorKind.Read e))
+    ends_reading was Is e lt h = record {
+      messages = r.messages;
+      rest = left';
+      grown = held';
+      writes = r.writes;
+      taken = h.taken;
+      count = r.count;
+      good = r.good_ones;
+      before = r.input;
+      written = omega (arith, r.size);
+      ends = read_ends was Is e lt h;
+    }
 
-      -- the sink broke
-      pub ends_writing : {T : Type 0} (is : T → List ℕ → Type 0) (piece : RenderedMessage T) (n : ℕ) → whole < 1_000_000 → TakesFront left' left'' → (p : Made is text is_good (position (whole + 1) before) left' left'' piece)
-          → Appends held' held'' (take n (text (position (whole + 1) before) (spelling p.2.apdu p.0))) → n < length (text (position (whole + 1) before) (spelling p.2.apdu p.0)) → IsTrue y
-          → EndsAfterIn (profile_of q) text is_good (taking left left'' x) (putting held held'' y) (ended_at whole good before (written + n) (StreamErrorKind.Write n))
-      ends_writing is piece n lt t p w fewer broken = record {
-        messages = r.messages;
-        rest = left';
-        grown = held';
-        writes = r.writes;
-        taken = t;
-        count = r.count;
-        good = r.good_ones;
-        before = r.input;
-        written = omega (arith, r.size);
-        ends = (
-          lt,
-          subst (λ (i : MessagePlace). BreaksWithinIn (profile_of q) (text i) (taking left' left'' x) (putting held' held'' y) n) (sym r.next) (record {
-            message = spelling p.2.apdu p.0;
-            spells = p.2.spells;
-            taken = p.1;
-            written = w;
-            fewer = fewer;
-            broken = broken;
-          }),
-        );
-      }
+    -- the sink broke
+    pub ends_writing : {T : Type 0} (is : T → List ℕ → Type 0) (piece : RenderedMessage T) (n : ℕ) → counts.messages < 1_000_000 → TakesFront left' left'' → (p : Made is text is_good (position (counts.messages + 1) counts.octets) left' left'' piece)
+        → Appends held' held'' (take n (text (position (counts.messages + 1) counts.octets) (spelling p.2.apdu p.0))) → n < length (text (position (counts.messages + 1) counts.octets) (spelling p.2.apdu p.0)) → IsTrue y
+        → EndsAfterIn (profile_of q) text is_good (taking left left'' x) (putting held held'' y) (ended_at counts.messages counts.good counts.octets (written + n) (StreamErrorKind.Write n))
+    ends_writing is piece n lt t p w fewer broken = record {
+      messages = r.messages;
+      rest = left';
+      grown = held';
+      writes = r.writes;
+      taken = t;
+      count = r.count;
+      good = r.good_ones;
+      before = r.input;
+      written = omega (arith, r.size);
+      ends = (
+        lt,
+        subst (λ (i : MessagePlace). BreaksWithinIn (profile_of q) (text i) (taking left' left'' x) (putting held' held'' y) n) (sym r.next) (record {
+          message = spelling p.2.apdu p.0;
+          spells = p.2.spells;
+          taken = p.1;
+          written = w;
+          fewer = fewer;
+          broken = broken;
+        }),
+      );
+    }
 
-      -- after the last message that an input may have an octet was taken, or the source broke
-      pub ends_at_last : (n : ℕ) (error : EndError) → n ≡ whole → n ≡ 1_000_000 → GoesOn left' left'' x error
-          → EndsAfterIn (profile_of q) text is_good (taking left left'' x) (putting held held' y) (ended_at n good before written (why_of_end error))
-      ends_at_last n EndError.MoreOctets same last h = record {
-        messages = r.messages;
-        rest = left';
-        grown = held';
-        writes = r.writes;
-        taken = (h.0 ∷ [], h.1, omega arith);
-        count = same ∙ r.count;
-        good = r.good_ones;
-        before = r.input;
-        written = omega (arith, r.size);
-        ends = (last, h, Keeps-refl held');
-      }
-      ends_at_last n EndError.Broken same last h =
-          let none = Consumes-kept left' left' left'' [] (Consumes-nil left') h.1 in
-          record {
-            messages = r.messages;
-            rest = left';
-            grown = held';
-            writes = r.writes;
-            taken = ([], none, omega arith);
-            count = same ∙ r.count;
-            good = r.good_ones;
-            before = r.input;
-            written = omega (arith, r.size);
-            ends = (omega arith, h.0, (([], none, λ a n accepted. accepts_some (profile_of q) [] a n refl accepted), λ full. h.1), Keeps-refl held');
-          }
+    -- after the last message that an input may have an octet was taken, or the source broke
+    pub ends_at_last : (error : EndError) → counts.messages ≡ 1_000_000 → GoesOn left' left'' x error
+        → EndsAfterIn (profile_of q) text is_good (taking left left'' x) (putting held held' y) (ended_at counts.messages counts.good counts.octets (written + 0) (why_of_end error))
+    ends_at_last EndError.MoreOctets last h = record {
+      messages = r.messages;
+      rest = left';
+      grown = held';
+      writes = r.writes;
+      taken = (h.0 ∷ [], h.1, omega arith);
+      count = r.count;
+      good = r.good_ones;
+      before = r.input;
+      written = omega (arith, r.size);
+      ends = (last, h, Keeps-refl held');
+    }
+    ends_at_last EndError.Broken last h =
+        let none = Consumes-kept left' left' left'' [] (Consumes-nil left') h.1 in
+        record {
+          messages = r.messages;
+          rest = left';
+          grown = held';
+          writes = r.writes;
+          taken = ([], none, omega arith);
+          count = r.count;
+          good = r.good_ones;
+          before = r.input;
+          written = omega (arith, r.size);
+          ends = (omega (arith, last), h.0, (([], none, λ a n accepted. accepts_some (profile_of q) [] a n refl accepted), λ full. h.1), Keeps-refl held');
+        }

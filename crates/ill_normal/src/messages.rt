@@ -1,15 +1,18 @@
 //! The messages of an input, one after another.
-ghost use Rattle.std.specs.Prelude.{◌≡◌, ℕ, ◌+◌, ◌<◌, ◌≤◌, ◌^◌, Bool, List, [], ◌∷◌, length, take, IfOk, IfErr, OnOk, IsErr, IsTrue};
+ghost use Rattle.std.specs.Prelude.{◌≡◌, ℕ, ◌+◌, ◌*◌, ◌<◌, ◌≤◌, ◌^◌, Bool, List, [], ◌∷◌, length, take, IfOk, IfErr, OnOk, IsErr, IsTrue};
 ghost use Rattle.std.specs.Io.KnownBytes.{Appends, Consumes, IsAtEnd, Keeps};
 ghost use Rattle.ill_schema.specs.Profiles.{profile_of};
 ghost use Rattle.ill_schema.specs.declared.profile.Profile.{Profile as Named};
 ghost use Rattle.ill_read.specs.Answers.{ReadsNextIn};
+ghost use Rattle.ill_normal.specs.Visiting.{putting_of, taking_of};
 ghost use Rattle.ill_normal.specs.Calls.{taking, putting};
 ghost use Rattle.ill_normal.specs.Messages.{EndsAfterIn, MakesIn, PassesAllIn, Spelling};
 ghost use Rattle.ill_normal.specs.declared.messages.MessagePlace.{MessagePlace};
-ghost use Rattle.ill_normal.specs.code.Ending.{all_passed, ended_at, why_of_end};
+ghost use Rattle.ill_normal.specs.code.Ending.{HasWritten, all_passed, ended_at, why_of_end};
 
-use crate::input_end::{EndError, end_of_input};
+use crate::input_end::EndError;
+use crate::report::{NoReports, ReportRefusals};
+use crate::visit::{MessageCounts, VisitMessages, Visited, visit_messages};
 use ber_core::{Lookahead, Sink, Source, put_all};
 use ill_read::ReadFailure;
 use std::alloc::Global;
@@ -180,70 +183,129 @@ pub fn for_each_message<M: Render, R: Source, L: Lookahead<R>, W: Sink>(
     ensures source_stays { IsTrue (R.is_broken source.old) → IsTrue (R.is_broken source.new) }
     ensures sink_stays { IsTrue (W.is_broken sink.old) → IsTrue (W.is_broken sink.new) }
 {
-    let mut good = 0;
-    let mut before = 0;
-    let mut written = 0;
-    let mut reader = M::reader(alloc);
-    let mut buffer = M::Out::empty(alloc);
-    for whole in 0..MAX_MESSAGES {
-        let position = MessagePlace {
-            number: whole + 1,
-            offset: before,
-        };
-        let piece = match maker.next::<R, L>(alloc, &mut reader, position, source, buffer) {
-            Ok(Some(piece)) => piece,
-            Ok(None) => return Ok(all_passed(whole, good, before)),
-            Err(failure) => return Err(ended(
-                whole,
-                good,
-                before,
-                written,
-                StreamErrorKind::Read(failure),
-            )),
-        };
-        let count = match piece.text.put(sink) {
-            Ok(count) => count,
-            Err(count) => {
-                let written = written + count as u128;
-                return Err(ended(whole, good, before, written, StreamErrorKind::Write(count)));
-            }
-        };
-        before += u64::from(piece.octets);
-        written += count as u128;
-        good += u32::from(piece.is_good);
-        buffer = piece.text;
+    let mut writer = MessageWriter {
+        alloc,
+        maker,
+        reader: M::reader(alloc),
+        written: 0,
+    };
+    match visit_messages::<MessageWriter<'_, M>, R, L, W, NoReports>(
+        alloc,
+        &mut writer,
+        source,
+        sink,
+        &mut NoReports,
+    ) {
+        Ok(counts) => Ok(all_passed(counts)),
+        Err(error) => Err(error),
     }
-    drop(reader);
-    drop(buffer);
-    match end_of_input(source) {
-        Ok(()) => Ok(all_passed(MAX_MESSAGES, good, before)),
-        Err(error) => Err(ended(MAX_MESSAGES, good, before, written, why_of_end(error))),
+}
+
+/// Writes what is made of each message. A refused message stops it.
+#[derive(Drop)]
+struct MessageWriter<'a, M: Render> {
+    alloc: Global,
+    maker: &'a M,
+    reader: M::Reader,
+    /// The number of octets that were written.
+    written: u128,
+}
+
+impl<M: Render> MessageWriter<'_, M> {
+    /// The end of messages that were not all written, where this many octets of the last one were.
+    #[inline(always)]
+    fn stopped(&self, counts: MessageCounts, part: usize, why: StreamErrorKind) -> StreamError
+        requires { self.now.written ≤ 1_000_000 * 2 ^ 63 }
+        ensures { result ≡ ended_at counts.messages counts.good counts.octets
+            (self.now.written + part) why }
+    {
+        StreamError {
+            whole: counts.messages,
+            good: counts.good,
+            before: counts.octets,
+            written: self.written + part as u128,
+            why,
+        }
+    }
+}
+
+impl<M: Render> VisitMessages for MessageWriter<'_, M> {
+    type Buffer = M::Out;
+
+    type Error = StreamError;
+
+    ghost can_visit = { λ writer counts. writer.written ≤ counts.messages * 2 ^ 63 };
+
+    ghost has_visited = { λ start now from to counts.
+        (now.maker ≡ start.maker)
+        × HasWritten (profile_of (M.profile now.maker.now)) (M.text now.maker.now)
+        (M.is_good now.maker.now) (taking_of from to) (putting_of from to) now.written counts };
+
+    ghost ends = { λ start from to counts.
+        PassesAllIn (profile_of (M.profile start.maker.now)) (M.text start.maker.now)
+        (M.is_good start.maker.now) from.left to.left from.held to.held
+        (all_passed counts) };
+
+    ghost fails = { λ start from to error.
+        EndsAfterIn (profile_of (M.profile start.maker.now)) (M.text start.maker.now)
+        (M.is_good start.maker.now) (taking_of from to) (putting_of from to) error };
+
+    fn empty_buffer(alloc: Global) -> M::Out {
+        M::Out::empty(alloc)
+    }
+
+    fn is_enough(&self, _counts: MessageCounts) -> bool {
+        false
+    }
+
+    #[inline(always)]
+    fn visit<R: Source, L: Lookahead<R>, W: Sink, T: ReportRefusals>(
+        &mut self,
+        counts: MessageCounts,
+        source: &mut R,
+        sink: &mut W,
+        _reports: &mut T,
+        buffer: M::Out,
+    ) -> Result<Visited<M::Out>, StreamError> {
+        let place = counts.next_place();
+        let next = self
+            .maker
+            .next::<R, L>(self.alloc, &mut self.reader, place, source, buffer);
+        let piece = match next {
+            Ok(Some(piece)) => piece,
+            Ok(None) => return Ok(Visited::End),
+            Err(failure) => return Err(self.stopped(counts, 0, StreamErrorKind::Read(failure))),
+        };
+        match piece.text.put(sink) {
+            Ok(count) => {
+                self.written += count as u128;
+                Ok(Visited::Accepted {
+                    octets: u64::from(piece.octets),
+                    is_good: piece.is_good,
+                    buffer: piece.text,
+                })
+            }
+            Err(count) => Err(self.stopped(counts, count, StreamErrorKind::Write(count))),
+        }
+    }
+
+    fn at_end(&self, counts: MessageCounts, end: Result<(), EndError>) -> Result<(), StreamError> {
+        match end {
+            Ok(()) => Ok(()),
+            Err(error) => Err(self.stopped(counts, 0, why_of_end(error))),
+        }
     }
 }
 
 #[inline(always)]
-fn all_passed(whole: u32, good: u32, octets: u64) -> StreamCounts
-    ensures { result ≡ all_passed whole good octets }
+fn all_passed(counts: MessageCounts) -> StreamCounts
+    ensures { result ≡ all_passed counts }
 {
     StreamCounts {
-        whole,
-        good,
-        octets,
-        all_good: good == whole,
-    }
-}
-
-/// The end of messages that were not all written: how far they were, and the reason.
-#[inline(always)]
-fn ended(whole: u32, good: u32, before: u64, written: u128, why: StreamErrorKind) -> StreamError
-    ensures { result ≡ ended_at whole good before written why }
-{
-    StreamError {
-        whole,
-        good,
-        before,
-        written,
-        why,
+        whole: counts.messages,
+        good: counts.good,
+        octets: counts.octets,
+        all_good: counts.good == counts.messages,
     }
 }
 

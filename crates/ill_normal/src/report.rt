@@ -55,3 +55,15 @@ pub trait ReportRefusals {
     fn report(&mut self, report: RefusalReport, octets: &[u8])
         ensures { Adds (reported self.old) (reported self.new) (report ∷ []) };
 }
+
+/// A receiver of no reports, for work that reports nothing.
+#[derive(Clone, Copy, Debug)]
+pub struct NoReports;
+
+impl ReportRefusals for NoReports {
+    ghost use Rattle.std.specs.Prelude.{None};
+
+    ghost reported = { λ _. None };
+
+    fn report(&mut self, _report: RefusalReport, _octets: &[u8]) {}
+}

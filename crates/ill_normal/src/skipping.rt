@@ -1,15 +1,17 @@
-//! The loop over the messages of an input.
-ghost use Rattle.std.specs.Prelude.{◌≡◌, ℕ, ◌+◌, ◌≤◌, List, [], ◌∷◌, IfOk, IfErr, OnOk, IsTrue};
+//! The messages of an input, where the work goes on after one that is refused.
+ghost use Rattle.std.specs.Prelude.{◌≡◌, ℕ, ◌+◌, ◌*◌, ◌^◌, ◌≤◌, List, [], ◌∷◌, IfOk, IfErr, OnOk, IsTrue};
 ghost use Rattle.std.specs.Io.KnownBytes.{Consumes, IsAtEnd, Keeps};
 ghost use Rattle.ill_schema.specs.Profiles.{profile_of};
+ghost use Rattle.ill_normal.specs.Visiting.{putting_of, reporting_of, taking_of};
 ghost use Rattle.ill_normal.specs.Calls.{taking, putting};
 ghost use Rattle.ill_normal.specs.Skipping.{SkipsToEnd, SkipsAndStops, reporting};
-ghost use Rattle.ill_normal.specs.code.SkippingEnds.{counts_of, error_at, why_of_end};
+ghost use Rattle.ill_normal.specs.code.SkippingEnds.{HasSkipped, error_at, skipping_counts, why_of_end};
 
-use crate::input_end::{EndError, end_of_input};
-use crate::messages::{MAX_MESSAGES, MessagePlace, Render, Rendered};
+use crate::input_end::EndError;
+use crate::messages::{Render, Rendered};
 use crate::next_message::{NextMessage, take_message};
 use crate::report::{RefusalReport, ReportRefusals};
+use crate::visit::{MessageCounts, VisitMessages, Visited, visit_messages};
 use ber_core::{Lookahead, Sink, Source};
 use std::alloc::Global;
 
@@ -86,108 +88,153 @@ pub fn for_each_accepted_message<M: Render, R: Source, L: Lookahead<R>, W: Sink,
     ensures source_stays { IsTrue (R.is_broken source.old) → IsTrue (R.is_broken source.new) }
     ensures sink_stays { IsTrue (W.is_broken sink.old) → IsTrue (W.is_broken sink.new) }
 {
-    let mut refused = 0;
-    let mut good = 0;
-    let mut offset: u64 = 0;
-    let mut written = 0;
-    let mut reader = M::reader(alloc);
-    let mut recorded = Vec::new(alloc);
-    let mut buffer = M::Out::empty(alloc);
-    for before in 0..MAX_MESSAGES {
-        let position = MessagePlace {
-            number: before + 1,
-            offset,
-        };
+    let mut writer = AcceptedWriter {
+        alloc,
+        maker,
+        reader: M::reader(alloc),
+        recorded: Vec::new(alloc),
+        written: 0,
+    };
+    match visit_messages::<AcceptedWriter<'_, M>, R, L, W, T>(
+        alloc,
+        &mut writer,
+        source,
+        sink,
+        reports,
+    ) {
+        Ok(counts) => Ok(skipping_counts(counts)),
+        Err(error) => Err(error),
+    }
+}
+
+/// Writes what is made of each accepted message, and reports each refused one.
+#[derive(Drop)]
+struct AcceptedWriter<'a, M: Render> {
+    alloc: Global,
+    maker: &'a M,
+    reader: M::Reader,
+    /// The first octets of a message.
+    recorded: Vec<u8>,
+    /// The number of octets that were written.
+    written: u128,
+}
+
+impl<M: Render> AcceptedWriter<'_, M> {
+    /// The end of work that did not reach the end of the input, where this many octets of a message were written.
+    #[inline(always)]
+    fn stopped(&self, counts: MessageCounts, part: usize, why: SkippingErrorKind) -> SkippingError
+        requires { self.now.written ≤ 1_000_000 * 2 ^ 63 }
+        ensures { result ≡ error_at counts (self.now.written + part) why }
+    {
+        SkippingError {
+            messages: counts.messages,
+            refused: counts.refused,
+            good: counts.good,
+            octets: counts.octets,
+            written: self.written + part as u128,
+            why,
+        }
+    }
+}
+
+impl<M: Render> VisitMessages for AcceptedWriter<'_, M> {
+    type Buffer = M::Out;
+
+    type Error = SkippingError;
+
+    ghost can_visit = { λ writer counts. writer.written ≤ counts.messages * 2 ^ 63 };
+
+    ghost has_visited = { λ start now from to counts.
+        (now.maker ≡ start.maker)
+        × HasSkipped (profile_of (M.profile now.maker.now)) (M.text now.maker.now)
+        (M.is_good now.maker.now) (taking_of from to) (putting_of from to)
+        (reporting_of from to) now.written counts };
+
+    ghost ends = { λ start from to counts.
+        SkipsToEnd (profile_of (M.profile start.maker.now)) (M.text start.maker.now)
+        (M.is_good start.maker.now) (taking_of from to) (putting_of from to)
+        (reporting_of from to) (skipping_counts counts) };
+
+    ghost fails = { λ start from to error.
+        SkipsAndStops (profile_of (M.profile start.maker.now)) (M.text start.maker.now)
+        (M.is_good start.maker.now) (taking_of from to) (putting_of from to)
+        (reporting_of from to) error };
+
+    fn empty_buffer(alloc: Global) -> M::Out {
+        M::Out::empty(alloc)
+    }
+
+    fn is_enough(&self, _counts: MessageCounts) -> bool {
+        false
+    }
+
+    fn visit<R: Source, L: Lookahead<R>, W: Sink, T: ReportRefusals>(
+        &mut self,
+        counts: MessageCounts,
+        source: &mut R,
+        sink: &mut W,
+        reports: &mut T,
+        buffer: M::Out,
+    ) -> Result<Visited<M::Out>, SkippingError> {
+        let place = counts.next_place();
         let next = match take_message::<M, R, L>(
-            alloc,
-            maker,
-            &mut reader,
-            position,
+            self.alloc,
+            self.maker,
+            &mut self.reader,
+            place,
             source,
-            &mut recorded,
+            &mut self.recorded,
             buffer,
         ) {
             Ok(Some(next)) => next,
-            Ok(None) => return Ok(counts_of(before, refused, good, offset)),
-            Err(unread) => {
-                let why = unread.why();
-                return Err(error_at(before, refused, good, offset, written, why));
-            }
+            Ok(None) => return Ok(Visited::End),
+            Err(unread) => return Err(self.stopped(counts, 0, unread.why())),
         };
         match next {
-            NextMessage::Read(piece) => {
-                let count = match piece.text.put(sink) {
-                    Ok(count) => count,
-                    Err(count) => {
-                        let written = written + count as u128;
-                        let why = SkippingErrorKind::WriteFault(count);
-                        return Err(error_at(before, refused, good, offset, written, why));
-                    }
-                };
-                written += count as u128;
-                good += u32::from(piece.is_good);
-                offset = offset.saturating_add(u64::from(piece.octets));
-                buffer = piece.text;
-            }
+            NextMessage::Read(piece) => match piece.text.put(sink) {
+                Ok(count) => {
+                    self.written += count as u128;
+                    Ok(Visited::Accepted {
+                        octets: u64::from(piece.octets),
+                        is_good: piece.is_good,
+                        buffer: piece.text,
+                    })
+                }
+                Err(count) => {
+                    Err(self.stopped(counts, count, SkippingErrorKind::WriteFault(count)))
+                }
+            },
             NextMessage::Refused { refusal, end } => {
-                refused += 1;
-                let report = RefusalReport::new(position, refusal, end);
-                reports.report(report, recorded.as_slice());
-                let Some(octets) = end else {
-                    return Ok(counts_of(before + 1, refused, good, offset));
-                };
-                offset = offset.saturating_add(octets);
-                buffer = M::Out::empty(alloc);
+                let report = RefusalReport::new(place, refusal, end);
+                reports.report(report, self.recorded.as_slice());
+                Ok(Visited::Refused { octets: end })
             }
         }
     }
-    drop(reader);
-    drop(buffer);
-    match end_of_input(source) {
-        Ok(()) => Ok(counts_of(MAX_MESSAGES, refused, good, offset)),
-        Err(error) => Err(error_at(
-            MAX_MESSAGES,
-            refused,
-            good,
-            offset,
-            written,
-            why_of_end(error),
-        )),
+
+    fn at_end(
+        &self,
+        counts: MessageCounts,
+        end: Result<(), EndError>,
+    ) -> Result<(), SkippingError> {
+        match end {
+            Ok(()) => Ok(()),
+            Err(error) => Err(self.stopped(counts, 0, why_of_end(error))),
+        }
     }
 }
 
 #[inline(always)]
-fn counts_of(messages: u32, refused: u32, good: u32, octets: u64) -> SkippingCounts
-    requires { refused + good ≤ messages }
-    ensures { result ≡ counts_of messages refused good octets }
+fn skipping_counts(counts: MessageCounts) -> SkippingCounts
+    requires { counts.refused + counts.good ≤ counts.messages }
+    ensures { result ≡ skipping_counts counts }
 {
     SkippingCounts {
-        messages,
-        refused,
-        good,
-        octets,
-        all_good: refused + good == messages,
-    }
-}
-
-#[inline(always)]
-fn error_at(
-    messages: u32,
-    refused: u32,
-    good: u32,
-    octets: u64,
-    written: u128,
-    why: SkippingErrorKind,
-) -> SkippingError
-    ensures { result ≡ error_at messages refused good octets written why }
-{
-    SkippingError {
-        messages,
-        refused,
-        good,
-        octets,
-        written,
-        why,
+        messages: counts.messages,
+        refused: counts.refused,
+        good: counts.good,
+        octets: counts.octets,
+        all_good: counts.refused + counts.good == counts.messages,
     }
 }
 

@@ -1,16 +1,19 @@
 //! The messages of an input, where the work goes on after one that is refused.
-ghost use Rattle.std.specs.Prelude.{◌≡◌, ◌+◌, ◌≤◌, IfOk, IfErr, IsTrue};
+ghost use Rattle.std.specs.Prelude.{◌≡◌, [], IfOk, IfErr, IsTrue};
+ghost use Rattle.ill_normal.specs.Visiting.{putting_of, reporting_of, taking_of};
 ghost use Rattle.ill_normal.specs.Calls.{putting, taking};
 ghost use Rattle.ill_normal.specs.Skipping.{reporting};
-ghost use Rattle.ill_dump.specs.Going.{DumpHalts, DumpOnDone, DumpOnFails, DumpsOn};
+ghost use Rattle.ill_dump.specs.Skipping.{DumpHalts, DumpOnDone, DumpOnFails, DumpsOn};
+ghost use Rattle.ill_dump.specs.code.Dumping.{HasDumpedOn, dump_counts};
 ghost use Rattle.ill_dump.specs.code.Failing.{fault_of_end, fault_of_take};
 
 use crate::put::{DumpSink, put_message, put_refused};
 use crate::run::DumpOptions;
 use ber_core::{Buffered, FromSlice, Lookahead, Sink, Source};
 use ill_normal::{
-    EndError, MAX_MESSAGES, MessagePlace, NextMessage, NormalFormsIn, NormalReader, RefusalReport,
-    ReportRefusals, RunFault, TakeError, end_of_input, read_hex, take_message,
+    EndError, MessageCounts, NextMessage, NormalFormsIn, NormalReader, RefusalReport,
+    ReportRefusals, RunFault, TakeError, VisitMessages, Visited, read_hex, take_message,
+    visit_messages,
 };
 use std::alloc::Global;
 
@@ -48,14 +51,20 @@ pub fn run_dump_skipping<R: Source, L: Lookahead<R>, W: Sink, T: ReportRefusals>
     ensures sink_stays { IsTrue (W.is_broken sink.old) → IsTrue (W.is_broken sink.new) }
 {
     if !dump.hex {
-        return go_on::<R, L, W, T>(alloc, dump, source, sink, reports);
+        return dump_messages_skipping::<R, L, W, T>(alloc, dump, source, sink, reports);
     }
     let octets = read_hex(alloc, source)?;
     let mut messages = FromSlice::new(&octets);
-    go_on::<FromSlice<'_>, Buffered, W, T>(alloc, dump, &mut messages, sink, reports)
+    dump_messages_skipping::<FromSlice<'_>, Buffered, W, T>(
+        alloc,
+        dump,
+        &mut messages,
+        sink,
+        reports,
+    )
 }
 
-fn go_on<R: Source, L: Lookahead<R>, W: Sink, T: ReportRefusals>(
+fn dump_messages_skipping<R: Source, L: Lookahead<R>, W: Sink, T: ReportRefusals>(
     alloc: Global,
     dump: DumpOptions<'_>,
     source: &mut R,
@@ -72,71 +81,122 @@ fn go_on<R: Source, L: Lookahead<R>, W: Sink, T: ReportRefusals>(
     ensures source_stays { IsTrue (R.is_broken source.old) → IsTrue (R.is_broken source.new) }
     ensures sink_stays { IsTrue (W.is_broken sink.old) → IsTrue (W.is_broken sink.new) }
 {
-    let forms = NormalFormsIn {
-        profile: dump.profile,
+    let mut dumper = SkippingDumper {
+        alloc,
+        dump,
+        out: DumpSink::new(alloc, dump.format),
+        reader: NormalReader::new(alloc),
+        recorded: Vec::new(alloc),
     };
-    let mut out = DumpSink::new(alloc, dump.format);
-    let mut reader = NormalReader::new(alloc);
-    let mut recorded = Vec::new(alloc);
-    let mut buffer = Vec::new(alloc);
-    let mut refused = 0;
-    let mut offset: u64 = 0;
-    for before in 0..MAX_MESSAGES {
-        if dump.is_enough(before) {
-            return Ok(counts_of(before, refused));
-        }
-        let message = before + 1;
-        let position = MessagePlace {
-            number: message,
-            offset,
+    match visit_messages::<SkippingDumper<'_>, R, L, W, T>(
+        alloc,
+        &mut dumper,
+        source,
+        sink,
+        reports,
+    ) {
+        Ok(counts) => Ok(dump_counts(counts)),
+        Err(fault) => Err(fault),
+    }
+}
+
+/// Writes the lines of each message, and reports each refused one.
+#[derive(Drop)]
+struct SkippingDumper<'a> {
+    alloc: Global,
+    dump: DumpOptions<'a>,
+    out: DumpSink,
+    reader: NormalReader,
+    /// The first octets of a message.
+    recorded: Vec<u8>,
+}
+
+impl VisitMessages for SkippingDumper<'_> {
+    type Buffer = Vec<u8>;
+
+    type Error = RunFault;
+
+    ghost can_visit = { λ dumper counts. dumper.out.head.octets.items ≡ [] };
+
+    ghost has_visited = { λ start now from to counts.
+        (now.dump ≡ start.dump) × HasDumpedOn now.dump (taking_of from to) (putting_of from to)
+        (reporting_of from to) counts };
+
+    ghost ends = { λ start from to counts.
+        DumpsOn start.dump from.left to.left from.held to.held (reporting_of from to)
+        (dump_counts counts) };
+
+    ghost fails = { λ start from to fault.
+        DumpHalts start.dump (taking_of from to) (putting_of from to)
+        (reporting_of from to) fault };
+
+    fn empty_buffer(alloc: Global) -> Vec<u8> {
+        Vec::new(alloc)
+    }
+
+    fn is_enough(&self, counts: MessageCounts) -> bool {
+        self.dump.is_enough(counts.messages)
+    }
+
+    fn visit<R: Source, L: Lookahead<R>, W: Sink, T: ReportRefusals>(
+        &mut self,
+        counts: MessageCounts,
+        source: &mut R,
+        sink: &mut W,
+        reports: &mut T,
+        buffer: Vec<u8>,
+    ) -> Result<Visited<Vec<u8>>, RunFault> {
+        let SkippingDumper {
+            alloc,
+            dump,
+            out,
+            reader,
+            recorded,
+        } = self;
+        let place = counts.next_place();
+        let message = place.number;
+        let forms = NormalFormsIn {
+            profile: dump.profile,
         };
         let next = match take_message::<NormalFormsIn, R, L>(
-            alloc,
-            &forms,
-            &mut reader,
-            position,
-            source,
-            &mut recorded,
-            buffer,
+            *alloc, &forms, reader, place, source, recorded, buffer,
         ) {
             Ok(Some(next)) => next,
-            Ok(None) => return Ok(counts_of(before, refused)),
+            Ok(None) => return Ok(Visited::End),
             Err(unread) => return Err(fault_of_take(unread)),
         };
         match next {
             NextMessage::Read(piece) => {
-                put_message(alloc, dump, message, &recorded, &piece.text, &mut out, sink)?;
-                offset = offset.saturating_add(u64::from(piece.octets));
-                buffer = piece.text;
+                put_message(*alloc, *dump, message, recorded, &piece.text, out, sink)?;
+                Ok(Visited::Accepted {
+                    octets: u64::from(piece.octets),
+                    is_good: true,
+                    buffer: piece.text,
+                })
             }
             NextMessage::Refused { refusal, end } => {
-                put_refused(alloc, dump, message, &recorded, refusal, &mut out, sink)?;
-                refused += 1;
-                reports.report(RefusalReport::new(position, refusal, end), &recorded);
-                let Some(octets) = end else {
-                    return Ok(counts_of(message, refused));
-                };
-                offset = offset.saturating_add(octets);
-                buffer = Vec::new(alloc);
+                put_refused(*alloc, *dump, message, recorded, refusal, out, sink)?;
+                reports.report(RefusalReport::new(place, refusal, end), recorded);
+                Ok(Visited::Refused { octets: end })
             }
         }
     }
-    drop(reader);
-    drop(buffer);
-    if dump.is_enough(MAX_MESSAGES) {
-        return Ok(counts_of(MAX_MESSAGES, refused));
-    }
-    match end_of_input(source) {
-        Ok(()) => Ok(counts_of(MAX_MESSAGES, refused)),
-        Err(error) => Err(fault_of_end(error)),
+
+    fn at_end(&self, _counts: MessageCounts, end: Result<(), EndError>) -> Result<(), RunFault> {
+        match end {
+            Ok(()) => Ok(()),
+            Err(error) => Err(fault_of_end(error)),
+        }
     }
 }
 
-fn counts_of(messages: u32, refused: u32) -> DumpCounts
-    ensures messages { result.messages ≡ messages }
-    ensures refused { result.refused ≡ refused }
+fn dump_counts(counts: MessageCounts) -> DumpCounts
+    ensures { result ≡ dump_counts counts }
 {
-    DumpCounts { messages, refused }
+    DumpCounts {
+        messages: counts.messages,
+        refused: counts.refused,
+    }
 }
 
 /// The reason why no message was taken.

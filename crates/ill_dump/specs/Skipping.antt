@@ -11,7 +11,7 @@ use Rattle.ill_normal.specs.Skipping.{Reporting, reporting, IsDone, LosesEnd}
 use Rattle.ill_normal.specs.declared.run_fault.RunFault.{RunFault}
 use Rattle.ill_normal.specs.Inputs.{FailsText, TextOf}
 use Rattle.ill_dump.specs.Dumped.{Dumps}
-use Rattle.ill_dump.specs.declared.going.DumpCounts.{DumpCounts}
+use Rattle.ill_dump.specs.declared.skipping.DumpCounts.{DumpCounts}
 use Rattle.ill_dump.specs.declared.run.DumpOptions.{DumpOptions}
 
 -- the octets that were taken are these messages, and those that are refused were reported

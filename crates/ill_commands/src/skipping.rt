@@ -79,17 +79,17 @@ pub fn run_skipping_peeking<R: Source, L: Lookahead<R>, W: Sink, T: ReportRefusa
     ensures sink_stays { IsTrue (W.is_broken sink.old) → IsTrue (W.is_broken sink.new) }
 {
     if !work.hex {
-        return go_on::<R, L, W, T>(alloc, work, source, sink, reports);
+        return skip_messages::<R, L, W, T>(alloc, work, source, sink, reports);
     }
     let octets = match read_hex(alloc, source) {
         Ok(octets) => octets,
         Err(fault) => return Err(JobError::at_start(fault)),
     };
     let mut messages = FromSlice::new(&octets);
-    go_on::<FromSlice<'_>, Buffered, W, T>(alloc, work, &mut messages, sink, reports)
+    skip_messages::<FromSlice<'_>, Buffered, W, T>(alloc, work, &mut messages, sink, reports)
 }
 
-fn go_on<R: Source, L: Lookahead<R>, W: Sink, T: ReportRefusals>(
+fn skip_messages<R: Source, L: Lookahead<R>, W: Sink, T: ReportRefusals>(
     alloc: Global,
     work: JobOptions<'_>,
     source: &mut R,
