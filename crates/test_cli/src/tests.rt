@@ -7,7 +7,6 @@ mod json;
 mod lines;
 mod lists;
 mod names;
-mod orders;
 mod outputs;
 mod profiles;
 mod progress;

@@ -3,5 +3,3 @@ pub mod FrontForms
 pub mod Refused
 pub mod ModuleForms
 pub mod WrittenForms
-pub mod Runs
-pub mod FrameEndings

@@ -8,7 +8,7 @@ use std::io::Write;
 ///
 /// The contract says: the writer took exactly as many of the first octets as `put` returns, at least one if there is one; `put` returns
 /// [`Broken`] exactly where the sink is broken after the call, and then the writer took nothing; a broken sink stays broken. It doesn't
-/// say when the sink breaks, since the contract of [`Write`] has no word for a call that failed. The tests in the crate `test_messages` show
+/// say when the sink breaks, since the contract of [`Write`] has no word for a call that failed. The tests in the crate `test_encoding` show
 /// the rest: the sink breaks where a write returned an error, also that of an interrupted write, or took nothing of a piece that isn't
 /// empty, and nowhere else, and then no further call reaches the writer.
 #[derive(Drop)]

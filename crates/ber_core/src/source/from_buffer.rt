@@ -12,7 +12,7 @@ const BUFFER_LEN: usize = 65_536;
 ///
 /// The contract says: the octets at hand, and after them what the reader has left, are what `take` and `consume` give, each octet once and
 /// in order; `take` returns [`Broken`] exactly where the source is broken after the call, and then nothing was taken; a broken source
-/// stays broken. As for [`FromRead`](super::FromRead), it doesn't say when the source breaks. The tests in the crate `test_messages` show
+/// stays broken. As for [`FromRead`](super::FromRead), it doesn't say when the source breaks. The tests in the crate `test_encoding` show
 /// the rest: the source breaks where a read returned an error, also that of an interrupted read, and nowhere else, and then no further
 /// call reaches the reader; no read is made while octets are at hand, so a source that broke has none; with nothing at hand, a `take`
 /// with a buffer of 65,536 octets or more reads straight into that.

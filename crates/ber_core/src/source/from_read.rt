@@ -7,7 +7,7 @@ use std::io::Read;
 ///
 /// The contract says: `take` gives exactly the octets that the reader gave; it returns [`Broken`] exactly where the source is broken
 /// after the call, and then the reader gave nothing; a broken source stays broken. It doesn't say when the source breaks, since the
-/// contract of [`Read`] has no word for a call that failed. The tests in the crate `test_messages` show the rest: the source breaks where a
+/// contract of [`Read`] has no word for a call that failed. The tests in the crate `test_encoding` show the rest: the source breaks where a
 /// read returned an error, also that of an interrupted read, and nowhere else, and then no further call reaches the reader.
 #[derive(Drop)]
 pub struct FromRead<R> {

@@ -1,0 +1,5 @@
+//! Laws and tests of the command line (`ill_args`) alone.
+#![tactic(auto)]
+
+#[cfg(test)]
+mod orders;

@@ -1,0 +1,2 @@
+pub mod FrameEndings
+pub mod Runs
