@@ -277,6 +277,7 @@ fn labelled_text(
 }
 
 /// The label that the line of a message begins with, in the memory of `buffer`, whose octets are forgotten.
+#[inline(always)]
 fn label(buffer: Vec<u8>, work: JobOptions<'_>) -> Result<Vec<u8>, AllocError>
     ensures { IfOk result (λ line. line.items
         ≡ label_of work.entry.names_input work.entry.name.now) }
@@ -324,6 +325,7 @@ fn checked<R: Source, L: Lookahead<R>>(
 }
 
 /// The line that says whether a message is its normal form, in the memory of `buffer`, whose octets are forgotten.
+#[inline(always)]
 fn check_line(
     buffer: Vec<u8>,
     work: JobOptions<'_>,

@@ -50,6 +50,7 @@ impl Rendered for JobOutput {
 }
 
 /// Puts a text after a label. That takes no memory.
+#[inline(never)]
 fn put_shown<W: Sink>(label: &[u8], text: &Text, sink: &mut W) -> Result<usize, usize>
     ensures all { (octets : List ℕ) → IsShown label.now text.now octets
         → OnOk result (Appends (W.contents sink.old) (W.contents sink.new) octets) }
