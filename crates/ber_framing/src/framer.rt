@@ -32,7 +32,7 @@ pub enum Framing {
 #[derive(Clone, Copy, Debug)]
 pub struct Framer {
     stage: Stage,
-    // How many end marks are to come: one for each element of the indefinite form that is open.
+    // The number of end marks that are to come: one for each element of the indefinite form that is open.
     marks: u64,
 }
 

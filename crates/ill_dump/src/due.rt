@@ -33,7 +33,7 @@ impl Due {
         matches!(self, Due::LeftOut(_, _, _))
     }
 
-    /// What is due, in words.
+    /// Puts what is due, in words.
     pub fn put(self, lines: &mut LineBuffer) -> Result<(), AllocError> {
         match self {
             Due::Any => lines.text("one element of any tag"),
@@ -59,7 +59,7 @@ fn put_element(
     label.put(lines)
 }
 
-/// What is due where a walk has come to: one for each tag, and the end of the element, where nothing is missing in it.
+/// Everything that is due where a walk stands: one entry for each tag, and one for the end of the element, where nothing is missing in it.
 pub fn due_after(alloc: Global, walk: &ElementWalk) -> Result<Vec<Due>, AllocError> {
     let place = walk.place();
     let mut due = Vec::new(alloc);
@@ -85,7 +85,7 @@ pub fn is_foreign(place: Place) -> bool {
     kind(place.node()) == Kind::Any
 }
 
-/// What is due with a tag.
+/// The element that is due with a tag, if one is.
 fn due_of_tag(walk: &ElementWalk, id: Option<Id>) -> Option<Due> {
     let id = id?;
     let place = walk.place();

@@ -21,13 +21,13 @@ pub enum Label {
 }
 
 /// The name of what was found by this identifier in an element of this node, after `items` elements.
-pub fn label_of(found: Found, id: Id, round: NodeId, items: usize) -> Label {
+pub fn label_of(found: Found, id: Id, parent: NodeId, items: usize) -> Label {
     let part = found.part();
     match found.slot() {
         EntryRole::Row => match found.alternative() {
             Some(_) => {
                 let row = found.row();
-                Label::Alternative(PartId { node: round, row }, part)
+                Label::Alternative(PartId { node: parent, row }, part)
             }
             None => Label::Row(part),
         },

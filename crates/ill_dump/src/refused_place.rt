@@ -61,7 +61,7 @@ impl<'a> RefusedPlace<'a> {
         label.is_named().then_some(label)
     }
 
-    /// What was found.
+    /// Puts what was found, in words.
     pub fn put_found(&self, lines: &mut LineBuffer) -> Result<(), AllocError> {
         match self.cause {
             Cause::Truncated => lines.text("the end of the input"),
@@ -89,7 +89,7 @@ impl<'a> RefusedPlace<'a> {
         lines.hex(first_of(self.rest, size))
     }
 
-    /// What was due in place of what was found, where a tag or the end of the element was.
+    /// Everything that was due in place of what was found, where that is a tag or the end of the element.
     pub fn due(&self, alloc: Global) -> Result<Vec<Due>, AllocError> {
         match self.cause {
             Cause::UnexpectedTag | Cause::Missing(_) => due_after(alloc, self.walk),

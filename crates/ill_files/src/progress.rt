@@ -147,7 +147,7 @@ enum Rest {
 }
 
 impl Rest {
-    /// What is left at this time.
+    /// The work that is left at this time.
     fn at(state: State, now: Instant) -> Rest {
         let (Some(total), Some(since)) = (state.total, state.since) else {
             return Rest::Unknown;

@@ -11,9 +11,9 @@ use json::Token;
 pub struct RefusalPlace {
     /// The names of the elements round the place, the outermost one first.
     pub path: String,
-    /// What is there.
+    /// The octets or the end that is there.
     pub found: String,
-    /// What was due there, a text for each thing.
+    /// The elements that were due there, a text for each.
     pub due: Vec<String>,
 }
 

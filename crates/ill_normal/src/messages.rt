@@ -92,10 +92,10 @@ pub trait Render {
     // The profile of the messages that it reads.
     ghost profile: { Self → Named };
 
-    // What is written of the message at this position.
+    // The octets that are written of the message at this position.
     ghost text: { Self → MessagePlace → Spelling → List ℕ };
 
-    // Whether a message is as it should be.
+    // True if a message is as it should be.
     ghost is_good: { Self → Spelling → Bool };
 
     /// A reader that has read nothing. That takes no memory.

@@ -47,7 +47,7 @@ impl RefusalReport {
 pub trait ReportRefusals {
     ghost use Rattle.ill_normal.specs.Items.{Adds};
 
-    // What was reported, in order, where that is known.
+    // The reports so far, in order, where they are known.
     ghost reported: { Self → Option (List RefusalReport) };
 
     /// Takes a report, and the octets of the message: the first 1,048,576 where it has more, and all that are left of the input where its

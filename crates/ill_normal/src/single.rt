@@ -81,7 +81,7 @@ pub fn normalise<R: Source, W: Sink>(
     ensures fails { IfErr result
         (Fails (taking (R.left source.old) (R.left source.new) (R.is_broken source.new))
         (putting (W.contents sink.old) (W.contents sink.new) (W.is_broken sink.new))) }
-    // What begins with a spelling is normalised, what is empty is no message, and what is refused is refused so.
+    // An input that begins with a spelling is normalised, an empty one is no message, and any other is refused with its cause.
     ensures accepts { IfSome (R.left source.old)
         (λ s. (a : Apdu) (n : ℕ) → Accepts profile_two s a n
         → Answers result (Some (length (normal_form a)))) }
@@ -120,7 +120,7 @@ pub fn normalise_as<R: Source, W: Sink>(
     ensures fails { IfErr result (FailsIn (profile_of profile)
         (taking (R.left source.old) (R.left source.new) (R.is_broken source.new))
         (putting (W.contents sink.old) (W.contents sink.new) (W.is_broken sink.new))) }
-    // What begins with a spelling is normalised, what is empty is no message, and what is refused is refused so.
+    // An input that begins with a spelling is normalised, an empty one is no message, and any other is refused with its cause.
     ensures accepts { IfSome (R.left source.old)
         (λ s. (a : Apdu) (n : ℕ) → Accepts (profile_of profile) s a n
         → Answers result (Some (length (normal_form_in (profile_of profile) a)))) }

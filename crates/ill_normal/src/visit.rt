@@ -124,16 +124,16 @@ pub trait VisitMessages {
     /// The reason why the work stops.
     type Error: Drop;
 
-    // Whether the next message can be visited after these.
+    // The condition for a visit of the next message after these.
     ghost can_visit: { Self → MessageCounts → Type 0 };
 
-    // What holds after these messages, of the visitor that began, this one, and the streams then and now.
+    // The state after these messages: of the visitor that began, this one, and the streams then and now.
     ghost has_visited: { Self → Self → Streams → Streams → MessageCounts → Type 0 };
 
-    // What holds where the work ends after these messages.
+    // The result of work that ends after these messages.
     ghost ends: { Self → Streams → Streams → MessageCounts → Type 0 };
 
-    // What holds where the work stops.
+    // The result of work that stops with this error.
     ghost fails: { Self → Streams → Streams → Self.Error → Type 0 };
 
     /// Holds nothing, and takes no memory yet.

@@ -45,7 +45,7 @@ const ELEMENTS: &[u8] = b"message 7: Expired, 33 octets, normal
      23          80 08  date = 20240229
 ";
 
-/// What a dump of INCOMPLETE begins with.
+/// The first lines of a dump of INCOMPLETE.
 const FIRST_ELEMENTS: &[u8] = b"message 7: refused
       0  74 80  Expired  (indefinite)
       2    30 80  SEQUENCE  (indefinite)

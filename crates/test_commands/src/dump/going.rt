@@ -62,7 +62,7 @@ refused at 0: BadTag
       0  00  octets  (not judged)
 ";
 
-/// What was written, reported and returned.
+/// The text that was written, the reports and the result.
 #[derive(Drop)]
 struct Dumped {
     text: Vec<u8>,
