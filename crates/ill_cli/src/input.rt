@@ -13,9 +13,9 @@ ghost use Rattle.ill_dump.specs.Skipping.{DumpOnDone};
 ghost use Rattle.ill_dump.specs.declared.skipping.DumpCounts.{DumpCounts};
 ghost use Rattle.ill_lines.specs.Lines.{LinesDone};
 
-use crate::going::PrintReports;
 use crate::plan::InputAction;
 use crate::refused::KeepRefused;
+use crate::report_lines::PrintReports;
 use crate::results::{has_json_result, put_first_results, put_results};
 use crate::summary::LeftAt;
 use crate::tally::Tally;

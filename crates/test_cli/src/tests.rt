@@ -2,7 +2,6 @@
 mod commands;
 mod contracts;
 mod files;
-mod going;
 mod json;
 mod lines;
 mod lists;
@@ -13,3 +12,4 @@ mod progress;
 mod refused;
 mod reports;
 mod runs;
+mod skipping;
