@@ -10,7 +10,7 @@ use Rattle.ber_framing.specs.declared.framer.Stage.{Stage}
 use Rattle.ber_framing.specs.declared.framer.Stage.TheVariants.{Identifier, BetweenElements, Number, Length, EndOfContents, Unframed}
 use Rattle.ber_framing.specs.declared.framer.Stage.TheVariants as stage
 use Rattle.ber_framing.specs.declared.framer.Contents.{Contents}
-use Rattle.ber_framing.specs.Framed.{last, low, IsFramed, AreFramed, none, IsFrame, IsPart, IsUnframed}
+use Rattle.ber_framing.specs.Framed.{last, low, IsFramed, none, IsFrame, IsPartOfFrame, IsUnframed}
 use Rattle.ber_framing.specs.Framed as framed
 use Rattle.ber_framing.proofs.FrameSteps.{contents_more}
 use Rattle.ber_framing.specs.Framer.{Closes, IsElementThen, IsContentsThen, IsLongThen, IsLengthThen, definite, indefinite, FinishesAt, Finishes, IsFed}
@@ -114,7 +114,7 @@ between_needs : (marks deep n : ℕ) (x : List ℕ) → n ≤ 1 → (marks ≡ 0
 between_needs zero deep n x le z h = let none : n ≡ 0 = z refl in omega (arith, none)
 between_needs (suc marks) deep n x le z h = omega (arith, le, ap length h.4, length-append h.0 (0 ∷ 0 ∷ h.1))
 
-some_number : (number : List ℕ) → framed.IsNumber number → 1 ≤ length number
+some_number : (number : List ℕ) → framed.IsTagNumber number → 1 ≤ length number
 some_number number (last h) = lit≤ tt
 some_number number (framed.more {rest = r} h k) = omega arith
 
@@ -172,7 +172,7 @@ first_element deep x = (
   (λ h. subst (IsFramed deep) (sym (h.joined ∙ ap (λ z. h.element ++ z) h.closes ∙ append-nil h.element)) h.framed),
 )
 
-pub is_part : (f : Framer) (b : List ℕ) → IsFed f b → ((missing_len : ℕ) → f.stage ≡ Unframed missing_len → ⊥) → (f.stage ≡ BetweenElements → 0 < f.marks) → IsPart b
+pub is_part : (f : Framer) (b : List ℕ) → IsFed f b → ((missing_len : ℕ) → f.stage ≡ Unframed missing_len → ⊥) → (f.stage ≡ BetweenElements → 0 < f.marks) → IsPartOfFrame b
 unfolding IsFed
 is_part f b h known some =
     let c = can_finish f.stage f.marks (18_446_744_073_709_551_615 - f.marks) known some in
@@ -192,7 +192,7 @@ unfolding IsFed
 is_whole f b h e z = subst IsFrame (append-nil b) ((h []).1 ((ended f [] e z).1 refl))
 
 -- nothing more is part of a whole one
-pub no_part : (f : Framer) (b : List ℕ) → IsFed f b → f.stage ≡ BetweenElements → f.marks ≡ 0 → IsPart b → ⊥
+pub no_part : (f : Framer) (b : List ℕ) → IsFed f b → f.stage ≡ BetweenElements → f.marks ≡ 0 → IsPartOfFrame b → ⊥
 unfolding IsFed
 no_part f b h e z p = p.1 ((ended f p.0 e z).0 ((h p.0).0 p.2))
 
@@ -211,7 +211,7 @@ needs_one EndOfContents marks b c = lit≤ tt
 needs_one (Unframed missing_len) marks b c = tt
 
 -- no octet more is part of an element whose end can't be known
-pub no_more : (f : Framer) (b : List ℕ) (missing_len : ℕ) → IsFed f b → f.stage ≡ Unframed missing_len → IsPart b → ⊥
+pub no_more : (f : Framer) (b : List ℕ) (missing_len : ℕ) → IsFed f b → f.stage ≡ Unframed missing_len → IsPartOfFrame b → ⊥
 no_more f b missing_len h e p = is_unframed f b missing_len h e p.0 p.2
 
 -- some first octets, and then the first ones of the rest
@@ -224,7 +224,7 @@ pub next_octets : (f : Framer) (b xs : List ℕ) (m n : ℕ) → IsFed f (b ++ t
 next_octets f b xs m n h = subst (IsFed f) (append_assoc b (take m xs) (take n (take (length xs - m) (drop m xs))) ∙ ap (λ z. b ++ z) (two_parts xs m n)) h
 
 -- fewer octets than the contents still have leave it part of an element
-pub within_contents : (f : Framer) (c : Contents) (b w : List ℕ) → f.stage ≡ stage.Contents c → length w < c.missing_len → IsFed f b → IsPart (b ++ w)
+pub within_contents : (f : Framer) (c : Contents) (b w : List ℕ) → f.stage ≡ stage.Contents c → length w < c.missing_len → IsFed f b → IsPartOfFrame (b ++ w)
 within_contents f c b w e lt h =
     let deep = 18_446_744_073_709_551_615 - f.marks in
     let rest : Contents = record { missing_len = c.missing_len - length w; some = omega arith } in
@@ -235,12 +235,12 @@ within_contents f c b w e lt h =
     is_part g (b ++ w) (fed_all f g w same b h) (λ _ k. cc) (λ k. cc)
 
 -- no octets leave it so
-pub with_none : (b w : List ℕ) → length w < 1 → IsPart b → IsPart (b ++ w)
-with_none b [] lt p = subst IsPart (sym (append-nil b)) p
+pub with_none : (b w : List ℕ) → length w < 1 → IsPartOfFrame b → IsPartOfFrame (b ++ w)
+with_none b [] lt p = subst IsPartOfFrame (sym (append-nil b)) p
 with_none b (o ∷ w) lt p = absurd (omega (arith, lt))
 
 -- of some first octets and then more, part of an element is fed each time
-pub within_next : (b xs : List ℕ) (m k : ℕ) → m ≤ k → IsPart (b ++ take m xs ++ take (k - m) (take (length xs - m) (drop m xs))) → IsPart (b ++ take k xs)
+pub within_next : (b xs : List ℕ) (m k : ℕ) → m ≤ k → IsPartOfFrame (b ++ take m xs ++ take (k - m) (take (length xs - m) (drop m xs))) → IsPartOfFrame (b ++ take k xs)
 within_next b xs m k le h =
     let sum : m + (k - m) ≡ k = omega arith in
-    subst IsPart (append_assoc b (take m xs) (take (k - m) (take (length xs - m) (drop m xs))) ∙ ap (λ z. b ++ z) (two_parts xs m (k - m) ∙ ap (λ (i : ℕ). take i xs) sum)) h
+    subst IsPartOfFrame (append_assoc b (take m xs) (take (k - m) (take (length xs - m) (drop m xs))) ∙ ap (λ z. b ++ z) (two_parts xs m (k - m) ∙ ap (λ (i : ℕ). take i xs) sum)) h

@@ -2,7 +2,7 @@
 use Rattle.std.proofs.Common.{◌≡◌, ◌≢◌, ◌⊎◌, ◌↔◌, ℕ, suc, ◌+◌, ◌-◌, ◌%◌, ◌<◌, ◌≤◌, Bool, true, List, [], ◌∷◌, ◌++◌, length, refl, sym, ap, ap₂, subst, ◌∙◌, arith, append_assoc, length-append, inl, inr}
 use Rattle.ber_core.specs.Length.{IsLength}
 use Rattle.ber_core.proofs.Lists.{cells}
-use Rattle.ber_framing.specs.Framed.{is_constructed, IsNumber, last, more, IsIdentifier, low, high, IsFramed, definite, indefinite, AreFramed, none, next}
+use Rattle.ber_framing.specs.Framed.{is_constructed, IsTagNumber, last, more, IsIdentifier, low, high, IsFramed, definite, indefinite, AreFramed, none, next}
 use Rattle.ber_framing.specs.Framer.{Closes, IsElementThen, IsContentsThen, IsLengthThen, IsNumberThen, IsMarkThen}
 use Rattle.ber_framing.specs.Framer as then
 
@@ -102,7 +102,7 @@ module _ (marks deep o : ℕ) (x : List ℕ) where
     (λ h. element_of marks deep (is_constructed o) (o ∷ x) (o ∷ h.number) h.rest (high n refl h.is_number) h.length_then (ap (λ z. o ∷ z) h.joined)),
   )
 
-  number_parts : (f : Bool) (number rest : List ℕ) → 128 ≤ o → IsNumber number → IsLengthThen f marks deep rest → o ∷ x ≡ number ++ rest → IsNumberThen f marks deep x
+  number_parts : (f : Bool) (number rest : List ℕ) → 128 ≤ o → IsTagNumber number → IsLengthThen f marks deep rest → o ∷ x ≡ number ++ rest → IsNumberThen f marks deep x
   number_parts f number rest le (last h) l j = let c = cells j in absurd (omega (arith, c.0, h))
   number_parts f number rest le (more {rest = n} _ k) l j = record { number = n; rest = rest; is_number = k; length_then = l; joined = (cells j).1 }
 
@@ -112,7 +112,7 @@ module _ (marks deep o : ℕ) (x : List ℕ) where
     (λ h. record { number = o ∷ h.number; rest = h.rest; is_number = more le h.is_number; length_then = h.length_then; joined = ap (λ z. o ∷ z) h.joined }),
   )
 
-  number_ends : (f : Bool) (number rest : List ℕ) → o < 128 → IsNumber number → IsLengthThen f marks deep rest → o ∷ x ≡ number ++ rest → IsLengthThen f marks deep x
+  number_ends : (f : Bool) (number rest : List ℕ) → o < 128 → IsTagNumber number → IsLengthThen f marks deep rest → o ∷ x ≡ number ++ rest → IsLengthThen f marks deep x
   number_ends f number rest lt (last h) l j = subst (λ z. IsLengthThen f marks deep z) (sym ((cells j).1)) l
   number_ends f number rest lt (more h _) l j = let c = cells j in absurd (omega (arith, c.0, h))
 

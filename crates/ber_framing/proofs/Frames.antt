@@ -12,12 +12,12 @@ use Rattle.ber_core.proofs.Lists.{cells, fronts}
 use Rattle.ber_core.proofs.Trees.{no_length_128}
 use Rattle.ber_framing.specs.declared.framer.Framing.{Framing}
 use Rattle.ber_framing.specs.declared.framer.Framing.TheVariants.{Part, Whole, Unframed}
-use Rattle.ber_framing.specs.Framed.{is_constructed, IsNumber, last, IsIdentifier, low, high, IsFramed, definite, indefinite, AreFramed, next, IsFrame, IsPart, IsUnframed}
+use Rattle.ber_framing.specs.Framed.{is_constructed, IsTagNumber, last, IsIdentifier, low, high, IsFramed, definite, indefinite, AreFramed, next, IsFrame, IsPartOfFrame, IsUnframed}
 use Rattle.ber_framing.specs.Framed as framed
-use Rattle.ber_framing.specs.Framer.{Judged}
+use Rattle.ber_framing.specs.Framer.{HasFraming}
 use Rattle.ber_framing.proofs.FrameSteps.{begins}
 
-number_unique : (a b x y : List ℕ) → IsNumber a → IsNumber b → a ++ x ≡ b ++ y → x ≡ y
+number_unique : (a b x y : List ℕ) → IsTagNumber a → IsTagNumber b → a ++ x ≡ b ++ y → x ≡ y
 number_unique a b x y (last h) (last k) e = (cells e).1
 number_unique a b x y (last h) (framed.more k _) e = let c = cells e in absurd (omega (arith, c.0, h, k))
 number_unique a b x y (framed.more h _) (last k) e = let c = cells e in absurd (omega (arith, c.0, h, k))
@@ -64,17 +64,17 @@ pub one_frame : (a b x y : List ℕ) → IsFrame a → IsFrame b → a ++ x ≡ 
 one_frame a b x y h k e =
     let r = unique _ _ a b x y h k e in append_cancel_right a b y (ap (λ z. a ++ z) (sym r) ∙ e)
 
-pub part_and_whole : {A : Type 0} (b : List ℕ) → IsPart b → IsFrame b → A
+pub part_and_whole : {A : Type 0} (b : List ℕ) → IsPartOfFrame b → IsFrame b → A
 part_and_whole b p h =
     let e : p.0 ≡ [] = unique _ _ b (b ++ p.0) p.0 [] h p.2 (sym (append-nil (b ++ p.0))) in absurd (p.1 e)
 
-part_and_unframed : {A : Type 0} (b : List ℕ) → IsPart b → IsUnframed b → A
+part_and_unframed : {A : Type 0} (b : List ℕ) → IsPartOfFrame b → IsUnframed b → A
 part_and_unframed b p h = absurd (h p.0 p.2)
 
 whole_and_unframed : {A : Type 0} (b : List ℕ) → IsFrame b → IsUnframed b → A
 whole_and_unframed b p h = absurd (h [] (subst IsFrame (sym (append-nil b)) p))
 
-pub one_judgment : (b : List ℕ) (r s : Framing) → Judged b r → Judged b s → r ≡ s
+pub one_judgment : (b : List ℕ) (r s : Framing) → HasFraming b r → HasFraming b s → r ≡ s
 one_judgment b Part Part h k = refl
 one_judgment b Part Whole h k = part_and_whole b h k
 one_judgment b Part Unframed h k = part_and_unframed b h k
@@ -87,7 +87,7 @@ one_judgment b Unframed Unframed h k = refl
 
 -- ---- encodings
 
-digits_are_number : (n : ℕ) (octets : List ℕ) → Digits n octets → IsNumber octets
+digits_are_number : (n : ℕ) (octets : List ℕ) → Digits n octets → IsTagNumber octets
 digits_are_number n octets (one h) = last h
 digits_are_number n octets (two a b _ _ h _) = framed.more (omega arith) (last h)
 digits_are_number n octets (three a b c _ _ _ h _) = framed.more (omega arith) (framed.more (omega arith) (last h))

@@ -7,14 +7,14 @@ abbrev pub is_constructed : ℕ → Bool
 is_constructed first = nat_eq (first / 32 % 2) 1
 
 -- a tag number's octets after the first one: bit 8 is set on each but the last (8.1.2.4.2), whatever number they say
-pub data IsNumber : List ℕ → Type 0 where
-  last : {octet : ℕ} → octet < 128 → IsNumber (octet ∷ [])
-  more : {octet : ℕ} {rest : List ℕ} → 128 ≤ octet → IsNumber rest → IsNumber (octet ∷ rest)
+pub data IsTagNumber : List ℕ → Type 0 where
+  last : {octet : ℕ} → octet < 128 → IsTagNumber (octet ∷ [])
+  more : {octet : ℕ} {rest : List ℕ} → 128 ≤ octet → IsTagNumber rest → IsTagNumber (octet ∷ rest)
 
 -- identifier octets: one, or where bits 5 to 1 are ones, also those of a number (8.1.2.2, 8.1.2.4); 00 begins an end mark (8.1.5)
 pub data IsIdentifier (constructed : Bool) : List ℕ → Type 0 where
   low : {first : ℕ} → first ≢ 0 → first % 32 ≢ 31 → constructed ≡ is_constructed first → IsIdentifier constructed (first ∷ [])
-  high : {first : ℕ} {number : List ℕ} → first % 32 ≡ 31 → constructed ≡ is_constructed first → IsNumber number → IsIdentifier constructed (first ∷ number)
+  high : {first : ℕ} {number : List ℕ} → first % 32 ≡ 31 → constructed ≡ is_constructed first → IsTagNumber number → IsIdentifier constructed (first ∷ number)
 
 mutual
   -- one element, in which at most `deep` elements of the indefinite form are open at once
@@ -36,8 +36,8 @@ abbrev pub IsFrame : List ℕ → Type 0
 IsFrame b = IsFramed 18_446_744_073_709_551_615 b
 
 -- the first octets of a framed element, but not all
-abbrev pub IsPart : List ℕ → Type 0
-IsPart b = (rest : List ℕ) × (rest ≢ []) × IsFrame (b ++ rest)
+abbrev pub IsPartOfFrame : List ℕ → Type 0
+IsPartOfFrame b = (rest : List ℕ) × (rest ≢ []) × IsFrame (b ++ rest)
 
 -- the first octets of no framed element
 abbrev pub IsUnframed : List ℕ → Type 0

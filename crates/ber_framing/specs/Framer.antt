@@ -8,13 +8,13 @@ use Rattle.ber_framing.specs.declared.framer.Framing.TheVariants as frame
 use Rattle.ber_framing.specs.declared.framer.Framer.{Framer}
 use Rattle.ber_framing.specs.declared.framer.Stage.{Stage}
 use Rattle.ber_framing.specs.declared.framer.Stage.TheVariants.{Identifier, BetweenElements, Number, Length, LongLength, Contents, EndOfContents, Unframed}
-use Rattle.ber_framing.specs.Framed.{IsNumber, IsFramed, AreFramed, IsFrame, IsPart, IsUnframed}
+use Rattle.ber_framing.specs.Framed.{IsTagNumber, IsFramed, AreFramed, IsFrame, IsPartOfFrame, IsUnframed}
 
 -- what the octets are: the first ones of a framed element, one, or the first ones of none
-abbrev pub Judged : List ℕ → Framing → Type 0
-Judged b Part = IsPart b
-Judged b Whole = IsFrame b
-Judged b frame.Unframed = IsUnframed b
+abbrev pub HasFraming : List ℕ → Framing → Type 0
+HasFraming b Part = IsPartOfFrame b
+HasFraming b Whole = IsFrame b
+HasFraming b frame.Unframed = IsUnframed b
 
 -- what closes `marks` elements of the indefinite form: for each the elements that are still to come, and its end mark
 abbrev pub Closes : ℕ → ℕ → List ℕ → Type 0
@@ -58,7 +58,7 @@ pub data IsLengthThen (constructed : Bool) (marks deep : ℕ) (x : List ℕ) : T
 pub record IsNumberThen (constructed : Bool) (marks deep : ℕ) (x : List ℕ) : Type 0 where
   pub number : List ℕ
   pub rest : List ℕ
-  pub is_number : IsNumber number
+  pub is_number : IsTagNumber number
   pub length_then : IsLengthThen constructed marks deep rest
   pub joined : x ≡ number ++ rest
 

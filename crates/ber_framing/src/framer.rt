@@ -73,8 +73,8 @@ struct Contents {
 
 impl Framer {
     ghost use Rattle.std.specs.Prelude.{◌≡◌, ℕ, ◌-◌, List, [], ◌∷◌, ◌++◌, length, take};
-    ghost use Rattle.ber_framing.specs.Framed.{IsFrame, IsPart, IsUnframed};
-    ghost use Rattle.ber_framing.specs.Framer.{IsFed, Judged, Finishes, Closes, IsElementThen, IsContentsThen, IsLongThen, IsLengthThen, IsNumberThen, IsMarkThen};
+    ghost use Rattle.ber_framing.specs.Framed.{IsFrame, IsPartOfFrame, IsUnframed};
+    ghost use Rattle.ber_framing.specs.Framer.{IsFed, HasFraming, Finishes, Closes, IsElementThen, IsContentsThen, IsLongThen, IsLengthThen, IsNumberThen, IsMarkThen};
 
     /// A framer that was fed nothing.
     pub fn new() -> Framer
@@ -88,7 +88,7 @@ impl Framer {
 
     /// The framing of the octets that it was fed.
     pub fn framing(&self) -> Framing
-        ensures { (b : List ℕ) → IsFed self.now b → Judged b result }
+        ensures { (b : List ℕ) → IsFed self.now b → HasFraming b result }
     {
         match self.stage {
             Stage::Unframed(_) => Framing::Unframed,
@@ -107,10 +107,10 @@ impl Framer {
     pub fn missing_len(&self) -> u32
         ensures at_least { (b rest : List ℕ) → IsFed self.now b → IsFrame (b ++ rest)
             → result ≤ length rest }
-        ensures some { (b : List ℕ) → IsFed self.now b → IsPart b → 0 < result }
+        ensures some { (b : List ℕ) → IsFed self.now b → IsPartOfFrame b → 0 < result }
         // Any fewer octets leave it part of an element.
         ensures any { (b octets : List ℕ) → IsFed self.now b → length octets < result
-            → IsPart (b ++ octets) }
+            → IsPartOfFrame (b ++ octets) }
     {
         match self.stage {
             Stage::Unframed(_) => 0,
@@ -145,8 +145,8 @@ impl Framer {
             → IsFed self.new (b ++ take result octets.now) }
         // It takes an octet only after part of an element, and all octets of a part.
         ensures within { (b : List ℕ) (n : ℕ) → IsFed self.old b → n < result
-            → IsPart (b ++ take n octets.now) }
-        ensures all { (b : List ℕ) → IsFed self.new b → IsPart b → result ≡ length octets.now }
+            → IsPartOfFrame (b ++ take n octets.now) }
+        ensures all { (b : List ℕ) → IsFed self.new b → IsPartOfFrame b → result ≡ length octets.now }
     {
         let mut count = 0;
         while count < octets.len() && self.missing_len() > 0 {
@@ -162,8 +162,8 @@ impl Framer {
         ensures count { result ≤ length octets.now }
         ensures fed { (b : List ℕ) → IsFed self.old b
             → IsFed self.new (b ++ take result octets.now) }
-        ensures within { (b : List ℕ) (n : ℕ) → IsFed self.old b → IsPart b → n < result
-            → IsPart (b ++ take n octets.now) }
+        ensures within { (b : List ℕ) (n : ℕ) → IsFed self.old b → IsPartOfFrame b → n < result
+            → IsPartOfFrame (b ++ take n octets.now) }
     {
         let Stage::Contents(contents) = self.stage else {
             self.push(octets[0]);

@@ -17,9 +17,9 @@ use Rattle.ill_schema.specs.Value.{content_of, apdu_with}
 use Rattle.ill_schema.specs.declared.value.Value.{Value}
 use Rattle.ill_typed.specs.Shape.{Is}
 use Rattle.ill_apdu.specs.declared.apdu.Apdu.{Apdu}
-use Rattle.ill_apdu.specs.Carried.{number_of, node_of, body_of, view_of}
+use Rattle.ill_apdu.specs.Carried.{number_of, body_node_of, body_of, view_of}
 
-pub node_is : (a : Apdu) → apdu_node_of (number_of a) ≡ Some (node_of a)
+pub node_is : (a : Apdu) → apdu_node_of (number_of a) ≡ Some (body_node_of a)
 node_is (Apdu.IllRequest p) = refl
 node_is (Apdu.Shipped p) = refl
 node_is (Apdu.IllAnswer p) = refl
@@ -104,10 +104,10 @@ abbrev numbered : ℕ → Content → NumberedBody
 numbered n c = record { number = n; body = c }
 
 -- an APDU that has no message is too long
-pub has_none_is_long : (u : Unfit) (a : Apdu) (n : ℕ) (body : Value) → n ≡ number_of a → content_of body ≡ body_of a → Is (node_of a) (content_of body)
+pub has_none_is_long : (u : Unfit) (a : Apdu) (n : ℕ) (body : Value) → n ≡ number_of a → content_of body ≡ body_of a → Is (body_node_of a) (content_of body)
     → IsUnfit u (apdu_with n body) → profile_two.limit < length (normal_form (view_of a))
 unfolding Is
 has_none_is_long u a n body same value fits unfit =
-    let long = unfit_is_long u (apdu_with n body) (node_of a) (ap apdu_node_of same ∙ node_is a) fits unfit in
+    let long = unfit_is_long u (apdu_with n body) (body_node_of a) (ap apdu_node_of same ∙ node_is a) fits unfit in
     let is : apdu_with n body ≡ view_of a = ap (λ k. numbered k (content_of body)) same ∙ ap (numbered (number_of a)) value in
     subst (λ b. profile_two.limit < length (normal_form b)) is long

@@ -1,5 +1,5 @@
 -- A request that is read group by group has the content of its value.
-use Rattle.std.proofs.Common.{◌≡◌, ℕ, List, [], ◌∷◌, Option, Some, None, option_map, refl, sym, ap, ◌∙◌}
+use Rattle.std.proofs.Common.{◌≡◌, ℕ, List, ◌∷◌, Option, Some, None, option_map, refl, sym, ap, ◌∙◌}
 use Rattle.ill_schema.specs.Content.{Content}
 use Rattle.ill_schema.specs.declared.node.NodeId.TheVariants.{IllRequest as RequestNode}
 use Rattle.ill_schema.specs.Table.{rows_of}

@@ -27,25 +27,25 @@ number_of (Apdu.StatusQuery p) = 18
 number_of (Apdu.Expired p) = 20
 
 -- the node of the body
-abbrev pub node_of : Apdu → NodeId
-node_of (Apdu.IllRequest p) = NodeId.IllRequest
-node_of (Apdu.Shipped p) = NodeId.Shipped
-node_of (Apdu.IllAnswer p) = NodeId.IllAnswer
-node_of (Apdu.ConditionalReply p) = NodeId.ConditionalReply
-node_of (Apdu.Cancel p) = NodeId.Cancel
-node_of (Apdu.CancelReply p) = NodeId.CancelReply
-node_of (Apdu.Received p) = NodeId.Received
-node_of (Apdu.Recall p) = NodeId.Recall
-node_of (Apdu.Returned p) = NodeId.Returned
-node_of (Apdu.CheckedIn p) = NodeId.CheckedIn
-node_of (Apdu.Overdue p) = NodeId.Overdue
-node_of (Apdu.Renew p) = NodeId.Renew
-node_of (Apdu.RenewAnswer p) = NodeId.RenewAnswer
-node_of (Apdu.Lost p) = NodeId.Lost
-node_of (Apdu.Damaged p) = NodeId.Damaged
-node_of (Apdu.MessageApdu p) = NodeId.MessageApdu
-node_of (Apdu.StatusQuery p) = NodeId.StatusQuery
-node_of (Apdu.Expired p) = NodeId.Expired
+abbrev pub body_node_of : Apdu → NodeId
+body_node_of (Apdu.IllRequest p) = NodeId.IllRequest
+body_node_of (Apdu.Shipped p) = NodeId.Shipped
+body_node_of (Apdu.IllAnswer p) = NodeId.IllAnswer
+body_node_of (Apdu.ConditionalReply p) = NodeId.ConditionalReply
+body_node_of (Apdu.Cancel p) = NodeId.Cancel
+body_node_of (Apdu.CancelReply p) = NodeId.CancelReply
+body_node_of (Apdu.Received p) = NodeId.Received
+body_node_of (Apdu.Recall p) = NodeId.Recall
+body_node_of (Apdu.Returned p) = NodeId.Returned
+body_node_of (Apdu.CheckedIn p) = NodeId.CheckedIn
+body_node_of (Apdu.Overdue p) = NodeId.Overdue
+body_node_of (Apdu.Renew p) = NodeId.Renew
+body_node_of (Apdu.RenewAnswer p) = NodeId.RenewAnswer
+body_node_of (Apdu.Lost p) = NodeId.Lost
+body_node_of (Apdu.Damaged p) = NodeId.Damaged
+body_node_of (Apdu.MessageApdu p) = NodeId.MessageApdu
+body_node_of (Apdu.StatusQuery p) = NodeId.StatusQuery
+body_node_of (Apdu.Expired p) = NodeId.Expired
 
 abbrev pub body_of : Apdu → Content
 body_of (Apdu.IllRequest p) = ill_request p

@@ -5,7 +5,7 @@ ghost use Rattle.ill_schema.specs.Apdu.{normal_form};
 ghost use Rattle.ill_schema.specs.Message.{apdu_of, octets_of};
 ghost use Rattle.ill_schema.specs.Value.{content_of};
 ghost use Rattle.ill_typed.specs.Shape.{Is};
-ghost use Rattle.ill_apdu.specs.Carried.{number_of, node_of, body_of, view_of};
+ghost use Rattle.ill_apdu.specs.Carried.{number_of, body_node_of, body_of, view_of};
 
 use crate::answer::IllAnswer;
 use crate::cancel::{Cancel, CancelReply};
@@ -99,7 +99,7 @@ impl Apdu {
     /// The value of the body.
     fn body(&self, alloc: Global) -> Result<Value, AllocError>
         ensures value { IfOk result (λ v. content_of v ≡ body_of self.now) }
-        ensures fits { IfOk result (λ v. Is (node_of self.now) (content_of v)) }
+        ensures fits { IfOk result (λ v. Is (body_node_of self.now) (content_of v)) }
     {
         match self {
             Apdu::IllRequest(part) => part.to_value(alloc),
@@ -148,7 +148,7 @@ impl Apdu {
     /// The message of the APDU, where its body is at hand. This takes no memory, so there is one fault.
     fn message_of(&self, body: Value) -> Result<Message, MessageFault>
         requires value { content_of body ≡ body_of self.now }
-        requires fits { Is (node_of self.now) (content_of body) }
+        requires fits { Is (body_node_of self.now) (content_of body) }
         ensures apdu { IfOk result (λ m. apdu_of m ≡ view_of self.now) }
         ensures octets { IfOk result (λ m. octets_of m ≡ length (normal_form (view_of self.now))) }
         ensures within { IfOk result (λ _. length (normal_form (view_of self.now))

@@ -4,7 +4,7 @@ use Rattle.std.specs.Prelude.{IsTrue}
 use Rattle.std.proofs.lemmas.List.{length-map}
 use Rattle.clap.specs.Walk.{Row, Text, first_of}
 use Rattle.ill_args.specs.Orders.{files_in, verb, HasFiles, HasInputs}
-use Rattle.ill_args.specs.Refused.{IsFaultOf, IsOutOfMemory, IsRefusal}
+use Rattle.ill_args.specs.Refused.{IsFaultOf, IsOutOfMemory, IsFaultOfKinds}
 use Rattle.ill_args.specs.code.Commands.{IsInAndOut, IsNotInAndOut}
 use Rattle.ill_args.specs.declared.fault.LineFault.{LineFault}
 use Rattle.ill_args.specs.declared.orders.Inputs.{Inputs}
@@ -23,7 +23,7 @@ list_some f None h = h
 list_some f (Some x) h = h
 
 pub not_in_and_out : (rows : List Row) (inputs : Inputs) (fault : LineFault) → HasInputs rows inputs → first_of (codes "output") rows ≡ None → IsNotInAndOut inputs fault
-    → IsFaultOf (Some (codes "canonicalise", rows)) fault × IsRefusal [] fault
+    → IsFaultOf (Some (codes "canonicalise", rows)) fault × IsFaultOfKinds [] fault
 not_in_and_out rows inputs (LineFault.Line error) h output n = (tt, inl n)
 not_in_and_out rows inputs (LineFault.Missing error) h output n =
     let count : length inputs.files.items ≡ length (files_in rows) = sym (length-map inputs.files.items (λ word. word.now)) ∙ ap length (sym h.0) in (
@@ -49,6 +49,6 @@ not_in_and_out rows inputs (LineFault.Unexpected error) h output n =
 not_in_and_out rows inputs _ h output n = absurd n
 
 -- out of memory is a fault of any words
-pub out_of_memory : (found : Option (Text × List Row)) (fault : LineFault) → IsOutOfMemory fault → IsFaultOf found fault × IsRefusal [] fault
+pub out_of_memory : (found : Option (Text × List Row)) (fault : LineFault) → IsOutOfMemory fault → IsFaultOf found fault × IsFaultOfKinds [] fault
 out_of_memory found (LineFault.Line error) m = (tt, inl m)
 out_of_memory found _ m = absurd m

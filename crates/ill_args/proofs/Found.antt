@@ -9,7 +9,7 @@ use Rattle.std.proofs.lemmas.Bool.{and_parts}
 use Rattle.std.proofs.lemmas.Slice.Eq.{bytes_eq-Decides}
 use Rattle.clap.specs.Words.{ReadsOne}
 use Rattle.clap.specs.Walk.{Row, Text}
-use Rattle.ill_args.specs.Orders.{IsNumber}
+use Rattle.ill_args.specs.Orders.{IsOptionNumber}
 
 abbrev pair : {X : Type 0} → (X → Text) → (X → List Row) → X → Text × List Row
 pair f g b = (f b, g b)
@@ -42,7 +42,7 @@ flag_is E (Some t) None none value = sym (is_false _ (λ e. (value t refl).1.0 (
 
 -- a value that clap reads as a `u32`
 pub number_is : (found : Option Text) (number : Option ℕ) → (found ≡ None → number ≡ None)
-    → ((t : Text) → found ≡ Some t → ReadsOne (λ t r. ParsesUnsigned 32 10 t r × ExplainsUnsignedError 10 t r × HasUnsignedDigitsIfOk t r) t number) → IsNumber found number
+    → ((t : Text) → found ≡ Some t → ReadsOne (λ t r. ParsesUnsigned 32 10 t r × ExplainsUnsignedError 10 t r × HasUnsignedDigitsIfOk t r) t number) → IsOptionNumber found number
 number_is None number none value = none refl
 number_is (Some t) (Some n) none value = (value t refl).0
 number_is (Some t) None none value = (value t refl).1.0

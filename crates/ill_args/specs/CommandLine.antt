@@ -65,8 +65,8 @@ with_names a = with_rule (with_files a) filename_rule
 abbrev pub with_skipping : App → App
 with_skipping a = with_rule (with_rule a (flag_rule (codes "keep-going"))) refused_rule
 
-abbrev pub top : App
-top = let a = new_app (codes "illcanon") in
+abbrev pub bare_program : App
+bare_program = let a = new_app (codes "illcanon") in
     record a { top = record a.top { has_version = true; subcommand_required = true; arg_required_else_help = true } }
 
 -- a topic of `help`: a command that has only a help text
@@ -92,14 +92,14 @@ module _ (names : ProfileNames) where
   abbrev pub each_counted : Text → App
   each_counted name = with_rule (with_skipping (each_file name)) (flag_rule (codes "summary"))
 
-  abbrev pub each_going : Text → App
-  each_going name = with_rule (each_counted name) (flag_rule (codes "json"))
+  abbrev pub each_json : Text → App
+  each_json name = with_rule (each_counted name) (flag_rule (codes "json"))
 
-  abbrev pub with_going : Text → App
-  with_going name = with_rule (with_skipping (with_hex name)) (flag_rule (codes "summary"))
+  abbrev pub with_summary : Text → App
+  with_summary name = with_rule (with_skipping (with_hex name)) (flag_rule (codes "summary"))
 
   abbrev pub with_lines : Text → App
-  with_lines name = with_rule (with_going name) (flag_rule (codes "lines"))
+  with_lines name = with_rule (with_summary name) (flag_rule (codes "lines"))
 
   abbrev pub each_line : Text → App
   each_line name = with_rule (with_names (with_lines name)) (flag_rule (codes "json"))
@@ -120,8 +120,8 @@ module _ (names : ProfileNames) where
 
   -- the program with its six commands, and two topics
   abbrev pub program_of : App
-  program_of = with_subcommand (with_subcommand (with_subcommand (with_subcommand (with_subcommand (with_subcommand (with_subcommand (with_subcommand top
-      (each_going (codes "show")).top) (each_line (codes "check")).top) (each_line (codes "digest")).top) (each_dumped (codes "dump")).top)
+  program_of = with_subcommand (with_subcommand (with_subcommand (with_subcommand (with_subcommand (with_subcommand (with_subcommand (with_subcommand bare_program
+      (each_json (codes "show")).top) (each_line (codes "check")).top) (each_line (codes "digest")).top) (each_dumped (codes "dump")).top)
       (two_files (codes "same")).top) (into_one (codes "canonicalise")).top) (topic (codes "causes")).top) (topic (codes "profile")).top
 
 -- a reference, where the place in memory makes no difference

@@ -67,10 +67,10 @@ abbrev pub is_set : Text → List Row → Bool
 is_set name rows = option_map_or (λ text. bytes_eq text (codes "true")) (one_of name rows) false
 
 -- the value of an option is the word for this number, in decimal digits; there is none where it has no value, or one that is no such word
-abbrev pub IsNumber : Option Text → Option ℕ → Type 0
-IsNumber None number = number ≡ None
-IsNumber (Some word) (Some n) = (IsNumeral 10 (without_leading_plus word) × (digits_value 10 (without_leading_plus word) < 2 ^ 32)) × (n ≡ digits_value 10 (without_leading_plus word))
-IsNumber (Some word) None = IsNumeral 10 (without_leading_plus word) × (digits_value 10 (without_leading_plus word) < 2 ^ 32) → ⊥
+abbrev pub IsOptionNumber : Option Text → Option ℕ → Type 0
+IsOptionNumber None number = number ≡ None
+IsOptionNumber (Some word) (Some n) = (IsNumeral 10 (without_leading_plus word) × (digits_value 10 (without_leading_plus word) < 2 ^ 32)) × (n ≡ digits_value 10 (without_leading_plus word))
+IsOptionNumber (Some word) None = IsNumeral 10 (without_leading_plus word) × (digits_value 10 (without_leading_plus word) < 2 ^ 32) → ⊥
 
 -- the value of `--profile` is the word for this profile
 abbrev pub NamesProfile : List Row → Profile → Type 0
@@ -83,13 +83,13 @@ pub record IsOrderOf (found : Option (Text × List Row)) (order : Order) : Type 
   pub profile : NamesProfile rows order.profile
   pub hex : order.hex ≡ is_set (codes "hex") rows
   pub lines : order.lines ≡ is_set (codes "lines") rows
-  pub going : order.keep_going ≡ is_set (codes "keep-going") rows
+  pub keep_going : order.keep_going ≡ is_set (codes "keep-going") rows
   pub refused : first_of (codes "refused") rows ≡ option_map (λ word. word.now) order.refused
   pub summary : order.summary ≡ is_set (codes "summary") rows
   pub json : order.json ≡ is_set (codes "json") rows
   pub filename : order.with_filename ≡ is_set (codes "with-filename") rows
   pub whole : order.whole ≡ is_set (codes "whole") rows
-  pub message : IsNumber (one_of (codes "message") rows) order.message
+  pub message : IsOptionNumber (one_of (codes "message") rows) order.message
   pub html : order.html ≡ is_set (codes "html") rows
   pub files : HasFiles rows order.task
 
@@ -106,8 +106,8 @@ abbrev pub reads : Inputs → Text → ℕ
 reads inputs name = times name (map (λ word. word.now) inputs.files.items) + list_times name (option_map (λ word. word.now) inputs.list)
 
 -- a file of this name is read, which isn't standard output
-abbrev pub IsRead : Inputs → Text → Type 0
-IsRead inputs output = (output ≢ codes "-") × (0 < reads inputs output)
+abbrev pub IsInputFile : Inputs → Text → Type 0
+IsInputFile inputs output = (output ≢ codes "-") × (0 < reads inputs output)
 
 -- `same` has standard input twice, or IN and OUT of `canonicalise` are the same word other than `-`
 abbrev pub HasSameWord : Order → Type 0
@@ -132,7 +132,7 @@ abbrev pub ReadsOutput : Order → Type 0
 ReadsOutput order = elim order.task as (λ _. Type 0) [
   | Task.Each job inputs ↦ ⊥
   | Task.Canonicalise input output ↦ ⊥
-  | Task.Collect inputs output ↦ IsRead inputs output.now
+  | Task.Collect inputs output ↦ IsInputFile inputs output.now
   | Task.Compare first second ↦ ⊥
 ]
 

@@ -43,11 +43,11 @@ IsOutOfMemory (Line error) = kind_of error ≡ ErrorKind.OutOfMemory
 IsOutOfMemory _ = ⊥
 
 -- the fault of words in which clap finds faults of these kinds: one of them, or out of memory; and where it finds none, another fault
-abbrev pub IsRefusal : Kinds → LineFault → Type 0
-IsRefusal kinds (Line error) = HasKind kinds error
-IsRefusal kinds _ = kinds ≡ []
+abbrev pub IsFaultOfKinds : Kinds → LineFault → Type 0
+IsFaultOfKinds kinds (Line error) = HasKind kinds error
+IsFaultOfKinds kinds _ = kinds ≡ []
 
 -- words in which clap finds faults give no order
 abbrev pub IsRefusedBy : Kinds → Result Order LineFault → Type 0
 IsRefusedBy kinds (Ok order) = kinds ≡ []
-IsRefusedBy kinds (Err fault) = IsRefusal kinds fault
+IsRefusedBy kinds (Err fault) = IsFaultOfKinds kinds fault

@@ -2,7 +2,7 @@
 ghost use Rattle.std.specs.Prelude.{◌≡◌, codes, false, IfOk};
 ghost use Rattle.clap.specs.Words.{app_of, rule_of};
 ghost use Rattle.clap.specs.declared.builder.command.Command.TheViews.{out-Command as fields_of};
-ghost use Rattle.ill_args.specs.CommandLine.{each_counted, each_dumped, each_file, each_going, each_line, each_numbered, file_rule, filename_rule, files_rule, flag_rule, into_one, list_rule, message_rule, output_rule, profile_rule, program_of, refused_rule, topic, two_files, with_files, with_going, with_hex, with_lines, with_names, with_output, with_skipping, with_whole};
+ghost use Rattle.ill_args.specs.CommandLine.{each_counted, each_dumped, each_file, each_json, each_line, each_numbered, file_rule, filename_rule, files_rule, flag_rule, into_one, list_rule, message_rule, output_rule, profile_rule, program_of, refused_rule, topic, two_files, with_files, with_summary, with_hex, with_lines, with_names, with_output, with_skipping, with_whole};
 ghost use Rattle.ill_args.specs.code.Commands.{AreAllNames};
 
 use crate::{help, topics};
@@ -235,7 +235,7 @@ fn by_messages<'a>(
     about: &'a str,
     after: &'a str,
 ) -> Result<Command<'a>, AllocError>
-    ensures { IfOk result (λ c. (app_of c ≡ with_going profiles.entry name.entry.now)
+    ensures { IfOk result (λ c. (app_of c ≡ with_summary profiles.entry name.entry.now)
         × ((fields_of c).has_globals ≡ false)) }
 {
     with_skipping(alloc, by_hex(alloc, profiles, name, about, after)?)?.arg(flag(
@@ -344,14 +344,14 @@ fn on_each_as_json<'a>(
     about: &'a str,
     after: &'a str,
 ) -> Result<Command<'a>, AllocError>
-    ensures { IfOk result (λ c. (app_of c ≡ each_going profiles.entry name.entry.now)
+    ensures { IfOk result (λ c. (app_of c ≡ each_json profiles.entry name.entry.now)
         × ((fields_of c).has_globals ≡ false)) }
 {
     on_each_counted(alloc, profiles, name, about, after)?.arg(flag(alloc, "json", JSON))
 }
 
 pub fn show<'a>(alloc: Global, profiles: &'a [&'a str]) -> Result<Command<'a>, AllocError>
-    ensures { IfOk result (λ c. (app_of c ≡ each_going profiles.entry (codes "show"))
+    ensures { IfOk result (λ c. (app_of c ≡ each_json profiles.entry (codes "show"))
         × ((fields_of c).has_globals ≡ false)) }
 {
     let about = "Writes the messages as text";

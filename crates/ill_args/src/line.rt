@@ -4,7 +4,7 @@ ghost use Rattle.std.specs.String.{string_bytes};
 ghost use Rattle.clap.specs.Words.{fault_of, kind_of, subcommand_of};
 ghost use Rattle.clap.specs.declared.error.kind.ErrorKind.{ErrorKind};
 ghost use Rattle.ill_args.specs.CommandLine.{program};
-ghost use Rattle.ill_args.specs.Orders.{reads, HasSameWord, IsBoth, IsOrderOf, IsRead, LinesAreCounted, LinesAreJson, LinesGoOn, NamesFile, NamesNotOne, NamesNothing, ReadsInputTwice, ReadsOutput, RefusedEndsWork, SharesRefused, WholeIsPrinted};
+ghost use Rattle.ill_args.specs.Orders.{reads, HasSameWord, IsBoth, IsOrderOf, IsInputFile, LinesAreCounted, LinesAreJson, LinesGoOn, NamesFile, NamesNotOne, NamesNothing, ReadsInputTwice, ReadsOutput, RefusedEndsWork, SharesRefused, WholeIsPrinted};
 ghost use Rattle.ill_args.specs.Refused.{IsFaultOf, IsRefusedBy};
 
 use crate::commands::{canonicalise, check, digest, dump, profiles, show};
@@ -124,7 +124,7 @@ fn reads_output(order: &Order<'_>) -> bool
 
 /// Tells whether a file of this name is read, which isn't standard output.
 fn is_read(inputs: &Inputs<'_>, output: &str) -> bool
-    ensures { IsTrue result ↔ IsRead inputs.now output.now }
+    ensures { IsTrue result ↔ IsInputFile inputs.now output.now }
 {
     output != "-" && reads(inputs, output) > 0
 }
@@ -207,7 +207,7 @@ fn names_file(task: &Task<'_>, word: &str) -> bool
     }
 }
 
-/// That a job has no file, in clap's words.
+/// The error of a job that has no file, in clap's words.
 fn no_file(alloc: Global, task: &Task<'_>) -> Result<Error, AllocError>
     ensures { IfOk result (λ e. kind_of e ≡ ErrorKind.MissingRequiredArgument) }
 {

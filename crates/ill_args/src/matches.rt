@@ -8,8 +8,8 @@ ghost use Rattle.ill_args.specs.declared.orders.Inputs.{Inputs};
 ghost use Rattle.ill_args.specs.declared.orders.Task.{Task};
 ghost use Rattle.ill_args.specs.declared.orders.Verb.{Verb};
 ghost use Rattle.clap.specs.Walk.{one_of};
-ghost use Rattle.ill_args.specs.Orders.{files_in, is_set, verb as verb_of_task, verb_name, HasFiles, HasInputs, IsNumber, IsOrderOf, NamesProfile};
-ghost use Rattle.ill_args.specs.Refused.{IsFaultOf, IsOutOfMemory, IsRefusal, IsRefusedBy};
+ghost use Rattle.ill_args.specs.Orders.{files_in, is_set, verb as verb_of_task, verb_name, HasFiles, HasInputs, IsOptionNumber, IsOrderOf, NamesProfile};
+ghost use Rattle.ill_args.specs.Refused.{IsFaultOf, IsOutOfMemory, IsFaultOfKinds, IsRefusedBy};
 ghost use Rattle.ill_args.specs.code.Commands.{HasBoth, HasProfile, IsCommand, IsInAndOut, IsNotInAndOut, IsVerb};
 
 use crate::commands::{canonicalise, profiles, program};
@@ -99,7 +99,7 @@ fn is_set(words: &ArgMatches<'_>, name: &str) -> bool
 
 /// The number that is the value of an option; None where it isn't given.
 fn number_of(words: &ArgMatches<'_>, name: &str) -> Option<u32>
-    ensures { IsNumber (one_of name.now (rows_of (found_of words.now))) result }
+    ensures { IsOptionNumber (one_of name.now (rows_of (found_of words.now))) result }
 {
     words.get_one(name)
 }
@@ -126,7 +126,7 @@ fn task_of<'a>(alloc: Global, verb: Verb, words: &ArgMatches<'a>) -> Result<Task
     ensures verb { IfOk result (λ task. verb_of_task task ≡ verb) }
     ensures files { IfOk result (HasFiles (rows_of (found_of words.now))) }
     ensures fault { IfErr result (IsFaultOf (Some (verb_name verb, rows_of (found_of words.now)))) }
-    ensures faults { IfErr result (IsRefusal []) }
+    ensures faults { IfErr result (IsFaultOfKinds []) }
 {
     match verb {
         Verb::Show => each(alloc, FileJob::Show, words),
@@ -197,7 +197,7 @@ fn normal_forms<'a>(alloc: Global, words: &ArgMatches<'a>) -> Result<Task<'a>, L
     ensures files { IfOk result (HasFiles (rows_of (found_of words.now))) }
     ensures fault { IfErr result
         (IsFaultOf (Some (codes "canonicalise", rows_of (found_of words.now)))) }
-    ensures faults { IfErr result (IsRefusal []) }
+    ensures faults { IfErr result (IsFaultOfKinds []) }
 {
     let inputs = inputs(alloc, words)?;
     match words.get_str("output") {
@@ -222,14 +222,14 @@ fn in_and_out<'a>(alloc: Global, inputs: &Inputs<'a>) -> Result<Task<'a>, LineFa
     }
 }
 
-/// That `canonicalise` has too few words.
+/// The error of `canonicalise` with too few words.
 fn missing(alloc: Global, message: &str) -> Result<Error, AllocError>
     ensures { IfOk result (λ e. kind_of e ≡ ErrorKind.MissingRequiredArgument) }
 {
     fault_of_words(alloc, ErrorKind::MissingRequiredArgument, message)
 }
 
-/// That `canonicalise` has a third word.
+/// The error of `canonicalise` with a third word.
 fn unexpected(alloc: Global, word: &str) -> Result<Error, AllocError>
     ensures { IfOk result (λ e. kind_of e ≡ ErrorKind.UnknownArgument) }
 {

@@ -10,10 +10,10 @@ use Rattle.ill_normal.proofs.Canonical.{refuses_once, refuses_whole, spells_once
 use Rattle.ill_c.specs.declared.refusal.IllcanonRefusal.{IllcanonRefusal}
 use Rattle.ill_c.specs.declared.status.Status.{Status}
 use Rattle.ill_c.specs.Calls.{IsMade, WritesIn, ChecksIn, ComparesIn, FindsIn, WritesFrontIn, DumpsIn, Frames, NamesCause, Puts}
-use Rattle.ill_c.specs.Memory.{Change, Fills, Lacks, Reports, IsFlag}
+use Rattle.ill_c.specs.Memory.{Change, Fills, IsTooShort, Reports, IsFlag}
 use Rattle.ill_c.specs.OneResult.{WritesOnce, ChecksOnce, ComparesOnce, FindsOnce, WritesFrontOnce, DumpsOnce, FramesOnce, NamesCauseOnce, PutsOnce}
 use Rattle.ill_c.specs.Refusals.{reported}
-use Rattle.ill_c.specs.Status.{EndsWith, status_number}
+use Rattle.ill_c.specs.Status.{ReturnsStatus, status_number}
 use Rattle.ill_schema.proofs.CauseNumbers.{one_name}
 use Rattle.ill_c.proofs.Framings.{frame_at_front, part_has_no_front}
 
@@ -37,7 +37,7 @@ module _ (p : Profile) (make : Apdu → List ℕ) (s : List ℕ) (buffer : Chang
   }
   wrote Status.NoRoom ((octets, made, lacks), stays) = record {
     room = λ a h le ne. let e = ap length (one_made octets a made h) in absurd (let short = lacks.short in omega (arith, e, le, short));
-    no_room = λ a h lt ne. (refl, subst (λ o. Lacks o buffer size) (one_made octets a made h) lacks);
+    no_room = λ a h lt ne. (refl, subst (λ o. IsTooShort o buffer size) (one_made octets a made h) lacks);
     refused = λ f h ne. absurd (refuses_whole s f made.0 h made.1);
     buffer_stays = λ ne. lacks.kept;
     size_stays = λ ne ne'. absurd (ne' refl);
@@ -64,7 +64,7 @@ module _ (p : Profile) (make : Apdu → List ℕ) (s : List ℕ) (buffer : Chang
   wrote Status.UnknownProfile h = absurd h
   wrote Status.UnknownCause h = absurd h
 
-  pub writes_once : (n : ℕ) → EndsWith n (WritesIn p make s buffer size refusal) → WritesOnce p make s buffer size refusal n
+  pub writes_once : (n : ℕ) → ReturnsStatus n (WritesIn p make s buffer size refusal) → WritesOnce p make s buffer size refusal n
   writes_once n (status, e, h) = subst (WritesOnce p make s buffer size refusal) (sym e) (wrote status h)
 
 module _ (p : Profile) (s : List ℕ) (normal : Change ℕ) (refusal : Change IllcanonRefusal) where
@@ -93,7 +93,7 @@ module _ (p : Profile) (s : List ℕ) (normal : Change ℕ) (refusal : Change Il
   checked Status.UnknownProfile h = absurd h
   checked Status.UnknownCause h = absurd h
 
-  pub checks_once : (n : ℕ) → EndsWith n (ChecksIn p s normal refusal) → ChecksOnce p s normal refusal n
+  pub checks_once : (n : ℕ) → ReturnsStatus n (ChecksIn p s normal refusal) → ChecksOnce p s normal refusal n
   checks_once n (status, e, h) = subst (ChecksOnce p s normal refusal) (sym e) (checked status h)
 
 module _ (p : Profile) (s t : List ℕ) (same : Change ℕ) (refusal : Change IllcanonRefusal) where
@@ -135,7 +135,7 @@ module _ (p : Profile) (s t : List ℕ) (same : Change ℕ) (refusal : Change Il
   compared Status.UnknownProfile h = absurd h
   compared Status.UnknownCause h = absurd h
 
-  pub compares_once : (n : ℕ) → EndsWith n (ComparesIn p s t same refusal) → ComparesOnce p s t same refusal n
+  pub compares_once : (n : ℕ) → ReturnsStatus n (ComparesIn p s t same refusal) → ComparesOnce p s t same refusal n
   compares_once n (status, e, h) = subst (ComparesOnce p s t same refusal) (sym e) (compared status h)
 
 module _ (p : Profile) (s : List ℕ) (size : Change ℕ) (refusal : Change IllcanonRefusal) where
@@ -173,7 +173,7 @@ module _ (p : Profile) (s : List ℕ) (size : Change ℕ) (refusal : Change Illc
   found Status.UnknownProfile h = absurd h
   found Status.UnknownCause h = absurd h
 
-  pub finds_once : (n : ℕ) → EndsWith n (FindsIn p s size refusal) → FindsOnce p s size refusal n
+  pub finds_once : (n : ℕ) → ReturnsStatus n (FindsIn p s size refusal) → FindsOnce p s size refusal n
   finds_once n (status, e, h) = subst (FindsOnce p s size refusal) (sym e) (found status h)
 
 module _ (p : Profile) (s : List ℕ) (read : Change ℕ) (buffer : Change (List ℕ)) (size : Change ℕ) (refusal : Change IllcanonRefusal) where
@@ -196,7 +196,7 @@ module _ (p : Profile) (s : List ℕ) (read : Change ℕ) (buffer : Change (List
   wrote_front Status.NoRoom ((b, accepts, lacks), stays) = record {
     room = λ a m h le ne.
         let e = ap length (one_front b a read.after m accepts h).0 in absurd (let short = lacks.short in omega (arith, e, le, short));
-    no_room = λ a m h lt ne. let one = one_front b a read.after m accepts h in (refl, one.1, subst (λ o. Lacks o buffer size) one.0 lacks);
+    no_room = λ a m h lt ne. let one = one_front b a read.after m accepts h in (refl, one.1, subst (λ o. IsTooShort o buffer size) one.0 lacks);
     part = λ h ne. absurd (h.2 b read.after accepts);
     refused = λ f h ends ne. absurd (h.2 b read.after accepts);
     buffer_stays = λ ne. lacks.kept;
@@ -238,7 +238,7 @@ module _ (p : Profile) (s : List ℕ) (read : Change ℕ) (buffer : Change (List
   wrote_front Status.UnknownProfile h = absurd h
   wrote_front Status.UnknownCause h = absurd h
 
-  pub writes_front_once : (n : ℕ) → EndsWith n (WritesFrontIn p s read buffer size refusal) → WritesFrontOnce p s read buffer size refusal n
+  pub writes_front_once : (n : ℕ) → ReturnsStatus n (WritesFrontIn p s read buffer size refusal) → WritesFrontOnce p s read buffer size refusal n
   writes_front_once n (status, e, h) = subst (WritesFrontOnce p s read buffer size refusal) (sym e) (wrote_front status h)
 
 module _ (p : Profile) (s : List ℕ) (buffer : Change (List ℕ)) (size : Change ℕ) (refusal : Change IllcanonRefusal) where
@@ -276,7 +276,7 @@ module _ (p : Profile) (s : List ℕ) (buffer : Change (List ℕ)) (size : Chang
   dumped Status.UnknownProfile h = absurd h
   dumped Status.UnknownCause h = absurd h
 
-  pub dumps_once : (n : ℕ) → EndsWith n (DumpsIn p s buffer size refusal) → DumpsOnce p s buffer size refusal n
+  pub dumps_once : (n : ℕ) → ReturnsStatus n (DumpsIn p s buffer size refusal) → DumpsOnce p s buffer size refusal n
   dumps_once n (status, e, h) = subst (DumpsOnce p s buffer size refusal) (sym e) (dumped status h)
 
 module _ (s : List ℕ) (size : Change ℕ) where
@@ -305,7 +305,7 @@ module _ (s : List ℕ) (size : Change ℕ) where
   framed_once Status.UnknownProfile h = absurd h
   framed_once Status.UnknownCause h = absurd h
 
-  pub frames_once : (n : ℕ) → EndsWith n (Frames s size) → FramesOnce s size n
+  pub frames_once : (n : ℕ) → ReturnsStatus n (Frames s size) → FramesOnce s size n
   frames_once n (status, e, h) = subst (FramesOnce s size) (sym e) (framed_once status h)
 
 module _ (number : ℕ) (buffer : Change (List ℕ)) (size : Change ℕ) where
@@ -321,7 +321,7 @@ module _ (number : ℕ) (buffer : Change (List ℕ)) (size : Change ℕ) where
   cause_named Status.NoRoom (d, is, lacks) = record {
     room = λ c e le.
         let same = ap length (one_name d c (is ∙ sym e)) in absurd (let short = lacks.short in omega (arith, same, le, short));
-    no_room = λ c e lt. (refl, subst (λ o. Lacks o buffer size) (one_name d c (is ∙ sym e)) lacks);
+    no_room = λ c e lt. (refl, subst (λ o. IsTooShort o buffer size) (one_name d c (is ∙ sym e)) lacks);
     unknown = λ none. absurd (none d is);
     buffer_stays = λ ne. lacks.kept;
     size_stays = λ e. absurd (omega (arith, e));
@@ -339,7 +339,7 @@ module _ (number : ℕ) (buffer : Change (List ℕ)) (size : Change ℕ) where
   cause_named Status.OutOfMemory h = absurd h
   cause_named Status.UnknownProfile h = absurd h
 
-  pub names_cause_once : (n : ℕ) → EndsWith n (NamesCause number buffer size) → NamesCauseOnce number buffer size n
+  pub names_cause_once : (n : ℕ) → ReturnsStatus n (NamesCause number buffer size) → NamesCauseOnce number buffer size n
   names_cause_once n (status, e, h) = subst (NamesCauseOnce number buffer size) (sym e) (cause_named status h)
 
 module _ (octets : List ℕ) (buffer : Change (List ℕ)) (size : Change ℕ) where
@@ -361,5 +361,5 @@ module _ (octets : List ℕ) (buffer : Change (List ℕ)) (size : Change ℕ) wh
   put_once Status.UnknownProfile h = absurd h
   put_once Status.UnknownCause h = absurd h
 
-  pub puts_once : (n : ℕ) → EndsWith n (Puts octets buffer size) → PutsOnce octets buffer size n
+  pub puts_once : (n : ℕ) → ReturnsStatus n (Puts octets buffer size) → PutsOnce octets buffer size n
   puts_once n (status, e, h) = subst (PutsOnce octets buffer size) (sym e) (put_once status h)

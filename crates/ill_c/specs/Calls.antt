@@ -1,7 +1,7 @@
 -- What each call does, by the status that it returns: in a profile (`In`), in the profile of a number if it has one (`As`), and in profile 2.
 use Rattle.std.specs.Prelude.{◌≡◌, ◌≢◌, ℕ, ◌≤◌, List, ◌++◌, length, take, Option, Some, None}
 use Rattle.std.specs.Str.{bytes_eq}
-use Rattle.ber_framing.specs.Framed.{IsFrame, IsPart}
+use Rattle.ber_framing.specs.Framed.{IsFrame, IsPartOfFrame}
 use Rattle.ber_leaf.specs.Profile.{Profile, profile_two}
 use Rattle.sha2.specs.Sha256.{sha256}
 use Rattle.ill_schema.specs.Apdu.{Apdu, SpellsApdu, Accepts, normal_form_in}
@@ -18,7 +18,7 @@ use Rattle.ill_json.specs.Json.{json_line_in}
 use Rattle.ill_json.specs.declared.line.LineHead.{LineHead}
 use Rattle.ill_c.specs.declared.refusal.IllcanonRefusal.{IllcanonRefusal}
 use Rattle.ill_c.specs.declared.status.Status.{Status}
-use Rattle.ill_c.specs.Memory.{Change, Stays, Fills, Lacks, Reports, IsFlag}
+use Rattle.ill_c.specs.Memory.{Change, Stays, Fills, IsTooShort, Reports, IsFlag}
 
 -- of the APDU that the octets spell, this is made
 abbrev pub IsMade : Profile → (Apdu → List ℕ) → List ℕ → List ℕ → Type 0
@@ -31,13 +31,13 @@ abbrev pub digest : Apdu → List ℕ
 digest a = digest_in profile_two a
 
 -- what the line of JSON of an APDU says beside its value: the octets s spell it, under a number and after as many octets as the offset says
-abbrev pub head_of : ℕ → ℕ → List ℕ → Profile → Apdu → LineHead
-head_of number offset s p a =
+abbrev pub line_head_of : ℕ → ℕ → List ℕ → Profile → Apdu → LineHead
+line_head_of number offset s p a =
     record { number = number; offset = offset; octets = length s; is_normal = bytes_eq s (normal_form_in p a) }
 
 -- that line, without the name of a file
 abbrev pub json_in : ℕ → ℕ → List ℕ → Profile → Apdu → List ℕ
-json_in number offset s p a = json_line_in p None (head_of number offset s p a) a
+json_in number offset s p a = json_line_in p None (line_head_of number offset s p a) a
 
 -- the octets are refused whatever follows them
 abbrev pub RefusesFront : Profile → List ℕ → Fault → Type 0
@@ -46,7 +46,7 @@ RefusesFront p s f = OnlyRefuses p s f × (f.cause ≢ Cause.Truncated)
 -- what is made of the message that s is, is in the buffer, or the buffer is too short, or s is refused; where memory ran out, nothing changed
 abbrev pub WritesIn : Profile → (Apdu → List ℕ) → List ℕ → Change (List ℕ) → Change ℕ → Change IllcanonRefusal → Status → Type 0
 WritesIn p make s buffer size refusal Status.Done = ((octets : List ℕ) × IsMade p make s octets × Fills octets buffer size) × Stays refusal
-WritesIn p make s buffer size refusal Status.NoRoom = ((octets : List ℕ) × IsMade p make s octets × Lacks octets buffer size) × Stays refusal
+WritesIn p make s buffer size refusal Status.NoRoom = ((octets : List ℕ) × IsMade p make s octets × IsTooShort octets buffer size) × Stays refusal
 WritesIn p make s buffer size refusal Status.Refused = Reports (RefusesWholeIn p s) refusal × Stays buffer × Stays size
 WritesIn p make s buffer size refusal Status.OutOfMemory = Stays buffer × Stays size × Stays refusal
 WritesIn p make s buffer size refusal _ = ⊥
@@ -112,7 +112,7 @@ Finds s size refusal status = FindsIn profile_two s size refusal status
 -- whatever follows it
 abbrev pub WritesFrontIn : Profile → List ℕ → Change ℕ → Change (List ℕ) → Change ℕ → Change IllcanonRefusal → Status → Type 0
 WritesFrontIn p s read buffer size refusal Status.Done = ((a : Apdu) × Accepts p s a read.after × Fills (normal_form_in p a) buffer size) × Stays refusal
-WritesFrontIn p s read buffer size refusal Status.NoRoom = ((a : Apdu) × Accepts p s a read.after × Lacks (normal_form_in p a) buffer size) × Stays refusal
+WritesFrontIn p s read buffer size refusal Status.NoRoom = ((a : Apdu) × Accepts p s a read.after × IsTooShort (normal_form_in p a) buffer size) × Stays refusal
 WritesFrontIn p s read buffer size refusal Status.NeedsMore = IsPartIn p s × Stays read × Stays buffer × Stays size × Stays refusal
 WritesFrontIn p s read buffer size refusal Status.Refused = Reports (RefusesFront p s) refusal × Stays read × Stays buffer × Stays size
 WritesFrontIn p s read buffer size refusal Status.OutOfMemory = Stays read × Stays buffer × Stays size × Stays refusal
@@ -130,7 +130,7 @@ WritesFront s read buffer size refusal status = WritesFrontIn profile_two s read
 abbrev pub DumpsIn : Profile → List ℕ → Change (List ℕ) → Change ℕ → Change IllcanonRefusal → Status → Type 0
 DumpsIn p s buffer size refusal Status.Done = ((text : List ℕ) × Fills text buffer size) × ((a : Apdu) × SpellsApdu p a s) × Stays refusal
 DumpsIn p s buffer size refusal Status.Refused = ((text : List ℕ) × Fills text buffer size) × Reports (RefusesWholeIn p s) refusal
-DumpsIn p s buffer size refusal Status.NoRoom = ((text : List ℕ) × Lacks text buffer size) × Stays refusal
+DumpsIn p s buffer size refusal Status.NoRoom = ((text : List ℕ) × IsTooShort text buffer size) × Stays refusal
 DumpsIn p s buffer size refusal Status.OutOfMemory = Stays buffer × Stays size × Stays refusal
 DumpsIn p s buffer size refusal _ = ⊥
 
@@ -149,19 +149,19 @@ IsNeverFramed s = (more front rest : List ℕ) → s ++ more ≡ front ++ rest �
 -- the size is that of the framed element at the front of s, or s is a part of one, or none is at the front of s, whatever follows it
 abbrev pub Frames : List ℕ → Change ℕ → Status → Type 0
 Frames s size Status.Done = IsFrame (take size.after s) × (size.after ≤ length s)
-Frames s size Status.NeedsMore = IsPart s × Stays size
+Frames s size Status.NeedsMore = IsPartOfFrame s × Stays size
 Frames s size Status.Refused = IsNeverFramed s × Stays size
 Frames s size _ = ⊥
 
 -- the octets were put into the buffer, where it has room for them
 abbrev pub Puts : List ℕ → Change (List ℕ) → Change ℕ → Status → Type 0
 Puts octets buffer size Status.Done = Fills octets buffer size
-Puts octets buffer size Status.NoRoom = Lacks octets buffer size
+Puts octets buffer size Status.NoRoom = IsTooShort octets buffer size
 Puts octets buffer size _ = ⊥
 
 -- the name of the cause of a number was put into the buffer, or no cause has the number
 abbrev pub NamesCause : ℕ → Change (List ℕ) → Change ℕ → Status → Type 0
 NamesCause number buffer size Status.Done = (cause : Cause) × (cause_number cause ≡ number) × Fills (cause_name cause) buffer size
-NamesCause number buffer size Status.NoRoom = (cause : Cause) × (cause_number cause ≡ number) × Lacks (cause_name cause) buffer size
+NamesCause number buffer size Status.NoRoom = (cause : Cause) × (cause_number cause ≡ number) × IsTooShort (cause_name cause) buffer size
 NamesCause number buffer size Status.UnknownCause = ((cause : Cause) → cause_number cause ≢ number) × Stays buffer × Stays size
 NamesCause number buffer size _ = ⊥

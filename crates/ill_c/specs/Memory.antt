@@ -22,7 +22,7 @@ pub record Fills (octets : List ℕ) (buffer : Change (List ℕ)) (size : Change
   pub counted : size.after ≡ length octets
 
 -- the buffer is too short for the octets, and is as it was, and their number is reported
-pub record Lacks (octets : List ℕ) (buffer : Change (List ℕ)) (size : Change ℕ) : Type 0 where
+pub record IsTooShort (octets : List ℕ) (buffer : Change (List ℕ)) (size : Change ℕ) : Type 0 where
   pub short : length buffer.before < length octets
   pub kept : Stays buffer
   pub counted : size.after ≡ length octets

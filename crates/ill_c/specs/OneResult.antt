@@ -1,6 +1,6 @@
 -- What each call leaves in a profile, by what its octets are: one result, unless memory runs out (5).
 use Rattle.std.specs.Prelude.{◌≡◌, ◌≢◌, ℕ, ◌≤◌, ◌<◌, List, ◌++◌, length}
-use Rattle.ber_framing.specs.Framed.{IsFrame, IsPart}
+use Rattle.ber_framing.specs.Framed.{IsFrame, IsPartOfFrame}
 use Rattle.ber_leaf.specs.Profile.{Profile}
 use Rattle.ill_schema.specs.Apdu.{Apdu, SpellsApdu, Accepts, normal_form_in}
 use Rattle.ill_schema.specs.Causes.{cause_name, cause_number}
@@ -10,18 +10,18 @@ use Rattle.ill_refusals.specs.Outcome.{OnlyRefuses}
 use Rattle.ill_read.specs.Answers.{IsPartIn, RefusesWholeIn}
 use Rattle.ill_c.specs.declared.refusal.IllcanonRefusal.{IllcanonRefusal}
 use Rattle.ill_c.specs.Calls.{IsNeverFramed}
-use Rattle.ill_c.specs.Memory.{Change, Stays, Fills, Lacks, IsFlag}
+use Rattle.ill_c.specs.Memory.{Change, Stays, Fills, IsTooShort, IsFlag}
 use Rattle.ill_c.specs.Refusals.{reported}
 
 -- a refusal was reported, by this status
-abbrev pub IsRefusal : ℕ → Fault → Change IllcanonRefusal → ℕ → Type 0
-IsRefusal status f refusal n = n ≢ 5 → (n ≡ status) × (refusal.after ≡ reported f)
+abbrev pub IsRefusalReported : ℕ → Fault → Change IllcanonRefusal → ℕ → Type 0
+IsRefusalReported status f refusal n = n ≢ 5 → (n ≡ status) × (refusal.after ≡ reported f)
 
 -- of a call that writes what is made of a message
 pub record WritesOnce (p : Profile) (make : Apdu → List ℕ) (s : List ℕ) (buffer : Change (List ℕ)) (size : Change ℕ) (refusal : Change IllcanonRefusal) (n : ℕ) : Type 0 where
   pub room : (a : Apdu) → SpellsApdu p a s → length (make a) ≤ length buffer.before → n ≢ 5 → (n ≡ 0) × Fills (make a) buffer size
-  pub no_room : (a : Apdu) → SpellsApdu p a s → length buffer.before < length (make a) → n ≢ 5 → (n ≡ 4) × Lacks (make a) buffer size
-  pub refused : (f : Fault) → RefusesWholeIn p s f → IsRefusal 1 f refusal n
+  pub no_room : (a : Apdu) → SpellsApdu p a s → length buffer.before < length (make a) → n ≢ 5 → (n ≡ 4) × IsTooShort (make a) buffer size
+  pub refused : (f : Fault) → RefusesWholeIn p s f → IsRefusalReported 1 f refusal n
   pub buffer_stays : n ≢ 0 → Stays buffer
   pub size_stays : n ≢ 0 → n ≢ 4 → Stays size
   pub refusal_stays : n ≢ 1 → Stays refusal
@@ -29,15 +29,15 @@ pub record WritesOnce (p : Profile) (make : Apdu → List ℕ) (s : List ℕ) (b
 -- of the call that checks a message
 pub record ChecksOnce (p : Profile) (s : List ℕ) (normal : Change ℕ) (refusal : Change IllcanonRefusal) (n : ℕ) : Type 0 where
   pub checked : (a : Apdu) → SpellsApdu p a s → n ≢ 5 → (n ≡ 0) × IsFlag normal.after (s ≡ normal_form_in p a)
-  pub refused : (f : Fault) → RefusesWholeIn p s f → IsRefusal 1 f refusal n
+  pub refused : (f : Fault) → RefusesWholeIn p s f → IsRefusalReported 1 f refusal n
   pub answer_stays : n ≢ 0 → Stays normal
   pub refusal_stays : n ≢ 1 → Stays refusal
 
 -- of the call that compares two
 pub record ComparesOnce (p : Profile) (s t : List ℕ) (same : Change ℕ) (refusal : Change IllcanonRefusal) (n : ℕ) : Type 0 where
   pub compared : (a b : Apdu) → SpellsApdu p a s → SpellsApdu p b t → n ≢ 5 → (n ≡ 0) × IsFlag same.after (a ≡ b)
-  pub first : (f : Fault) → RefusesWholeIn p s f → IsRefusal 1 f refusal n
-  pub second : (a : Apdu) (f : Fault) → SpellsApdu p a s → RefusesWholeIn p t f → IsRefusal 2 f refusal n
+  pub first : (f : Fault) → RefusesWholeIn p s f → IsRefusalReported 1 f refusal n
+  pub second : (a : Apdu) (f : Fault) → SpellsApdu p a s → RefusesWholeIn p t f → IsRefusalReported 2 f refusal n
   pub answer_stays : n ≢ 0 → Stays same
   pub refusal_stays : n ≢ 1 → n ≢ 2 → Stays refusal
 
@@ -45,7 +45,7 @@ pub record ComparesOnce (p : Profile) (s t : List ℕ) (same : Change ℕ) (refu
 pub record FindsOnce (p : Profile) (s : List ℕ) (size : Change ℕ) (refusal : Change IllcanonRefusal) (n : ℕ) : Type 0 where
   pub found : (a : Apdu) (m : ℕ) → Accepts p s a m → n ≢ 5 → (n ≡ 0) × (size.after ≡ m)
   pub part : IsPartIn p s → n ≢ 5 → n ≡ 3
-  pub refused : (f : Fault) → OnlyRefuses p s f → f.cause ≢ Cause.Truncated → IsRefusal 1 f refusal n
+  pub refused : (f : Fault) → OnlyRefuses p s f → f.cause ≢ Cause.Truncated → IsRefusalReported 1 f refusal n
   pub size_stays : n ≢ 0 → Stays size
   pub refusal_stays : n ≢ 1 → Stays refusal
 
@@ -54,9 +54,9 @@ pub record WritesFrontOnce (p : Profile) (s : List ℕ) (read : Change ℕ) (buf
   pub room : (a : Apdu) (m : ℕ) → Accepts p s a m → length (normal_form_in p a) ≤ length buffer.before → n ≢ 5
       → (n ≡ 0) × (read.after ≡ m) × Fills (normal_form_in p a) buffer size
   pub no_room : (a : Apdu) (m : ℕ) → Accepts p s a m → length buffer.before < length (normal_form_in p a) → n ≢ 5
-      → (n ≡ 4) × (read.after ≡ m) × Lacks (normal_form_in p a) buffer size
+      → (n ≡ 4) × (read.after ≡ m) × IsTooShort (normal_form_in p a) buffer size
   pub part : IsPartIn p s → n ≢ 5 → n ≡ 3
-  pub refused : (f : Fault) → OnlyRefuses p s f → f.cause ≢ Cause.Truncated → IsRefusal 1 f refusal n
+  pub refused : (f : Fault) → OnlyRefuses p s f → f.cause ≢ Cause.Truncated → IsRefusalReported 1 f refusal n
   pub buffer_stays : n ≢ 0 → Stays buffer
   pub read_stays : n ≢ 0 → n ≢ 4 → Stays read
   pub size_stays : n ≢ 0 → n ≢ 4 → Stays size
@@ -65,7 +65,7 @@ pub record WritesFrontOnce (p : Profile) (s : List ℕ) (read : Change ℕ) (buf
 -- of the call that writes a message as it is spelled: nothing is said of the text
 pub record DumpsOnce (p : Profile) (s : List ℕ) (buffer : Change (List ℕ)) (size : Change ℕ) (refusal : Change IllcanonRefusal) (n : ℕ) : Type 0 where
   pub read : (a : Apdu) → SpellsApdu p a s → n ≢ 4 → n ≢ 5 → n ≡ 0
-  pub refused : (f : Fault) → RefusesWholeIn p s f → n ≢ 4 → IsRefusal 1 f refusal n
+  pub refused : (f : Fault) → RefusesWholeIn p s f → n ≢ 4 → IsRefusalReported 1 f refusal n
   pub buffer_stays : n ≢ 0 → n ≢ 1 → Stays buffer
   pub size_stays : n ≡ 5 → Stays size
   pub refusal_stays : n ≢ 1 → Stays refusal
@@ -73,14 +73,14 @@ pub record DumpsOnce (p : Profile) (s : List ℕ) (buffer : Change (List ℕ)) (
 -- of the call that finds where an element ends
 pub record FramesOnce (s : List ℕ) (size : Change ℕ) (n : ℕ) : Type 0 where
   pub framed : (front rest : List ℕ) → IsFrame front → s ≡ front ++ rest → (n ≡ 0) × (size.after ≡ length front)
-  pub part : IsPart s → n ≡ 3
+  pub part : IsPartOfFrame s → n ≡ 3
   pub unframed : IsNeverFramed s → n ≡ 1
   pub size_stays : n ≢ 0 → Stays size
 
 -- of the call that writes the name of a cause
 pub record NamesCauseOnce (number : ℕ) (buffer : Change (List ℕ)) (size : Change ℕ) (n : ℕ) : Type 0 where
   pub room : (c : Cause) → cause_number c ≡ number → length (cause_name c) ≤ length buffer.before → (n ≡ 0) × Fills (cause_name c) buffer size
-  pub no_room : (c : Cause) → cause_number c ≡ number → length buffer.before < length (cause_name c) → (n ≡ 4) × Lacks (cause_name c) buffer size
+  pub no_room : (c : Cause) → cause_number c ≡ number → length buffer.before < length (cause_name c) → (n ≡ 4) × IsTooShort (cause_name c) buffer size
   pub unknown : ((c : Cause) → cause_number c ≢ number) → n ≡ 7
   pub buffer_stays : n ≢ 0 → Stays buffer
   pub size_stays : n ≡ 7 → Stays size
@@ -88,5 +88,5 @@ pub record NamesCauseOnce (number : ℕ) (buffer : Change (List ℕ)) (size : Ch
 -- of the call that writes the version: a text that is always the same
 pub record PutsOnce (octets : List ℕ) (buffer : Change (List ℕ)) (size : Change ℕ) (n : ℕ) : Type 0 where
   pub room : length octets ≤ length buffer.before → (n ≡ 0) × Fills octets buffer size
-  pub no_room : length buffer.before < length octets → (n ≡ 4) × Lacks octets buffer size
+  pub no_room : length buffer.before < length octets → (n ≡ 4) × IsTooShort octets buffer size
   pub buffer_stays : n ≢ 0 → Stays buffer

@@ -14,5 +14,5 @@ status_number Status.UnknownProfile = 6
 status_number Status.UnknownCause = 7
 
 -- the call returned the number of a status of which this holds
-abbrev pub EndsWith : ℕ → (Status → Type 0) → Type 0
-EndsWith n P = (status : Status) × (n ≡ status_number status) × P status
+abbrev pub ReturnsStatus : ℕ → (Status → Type 0) → Type 0
+ReturnsStatus n P = (status : Status) × (n ≡ status_number status) × P status

@@ -1,7 +1,7 @@
 //! The names of causes, by their numbers.
 ghost use Rattle.ill_c.specs.Calls.{NamesCause};
 ghost use Rattle.ill_c.specs.Memory.{change};
-ghost use Rattle.ill_c.specs.Status.{EndsWith};
+ghost use Rattle.ill_c.specs.Status.{ReturnsStatus};
 
 use crate::put::put;
 use crate::status::Status;
@@ -10,7 +10,7 @@ use ill_normal::Cause;
 /// Writes the name of the cause of a number.
 #[unsafe(no_mangle)]
 pub extern "C" fn illcanon_cause_name(cause: u32, buffer: &mut [u8], size: &mut usize) -> u32
-    ensures { EndsWith result (NamesCause cause (change buffer.old buffer.new)
+    ensures { ReturnsStatus result (NamesCause cause (change buffer.old buffer.new)
         (change size.old size.new)) }
 {
     put_name(cause, buffer, size).number()

@@ -3,7 +3,7 @@ ghost use Rattle.ill_schema.specs.Profiles.{profile_of};
 ghost use Rattle.ill_c.specs.Calls.{Dumps, DumpsAs, DumpsIn};
 ghost use Rattle.ill_c.specs.Memory.{change};
 ghost use Rattle.ill_c.specs.Profiles.{profile_numbered};
-ghost use Rattle.ill_c.specs.Status.{EndsWith};
+ghost use Rattle.ill_c.specs.Status.{ReturnsStatus};
 
 use crate::profile::profile_numbered;
 use crate::put::put;
@@ -23,7 +23,7 @@ pub extern "C" fn illcanon_dump(
     size: &mut usize,
     refusal: &mut IllcanonRefusal,
 ) -> u32
-    ensures { EndsWith result (Dumps octets.now (change buffer.old buffer.new)
+    ensures { ReturnsStatus result (Dumps octets.now (change buffer.old buffer.new)
         (change size.old size.new) (change refusal.old refusal.new)) }
 {
     dump(alloc, Profile::Two, octets, number, buffer, size, refusal).number()
@@ -41,7 +41,7 @@ pub extern "C" fn illcanon_dump_as(
     size: &mut usize,
     refusal: &mut IllcanonRefusal,
 ) -> u32
-    ensures { EndsWith result (DumpsAs (profile_numbered profile) octets.now
+    ensures { ReturnsStatus result (DumpsAs (profile_numbered profile) octets.now
         (change buffer.old buffer.new) (change size.old size.new)
         (change refusal.old refusal.new)) }
 {

@@ -4,10 +4,10 @@ ghost use Rattle.ber_leaf.specs.Profile.{Profile as Meaning, profile_two};
 ghost use Rattle.ill_schema.specs.Apdu.{Apdu, normal_form_in};
 ghost use Rattle.ill_schema.specs.Profiles.{profile_of};
 ghost use Rattle.ill_read.specs.Outline.{IsOutlineOf};
-ghost use Rattle.ill_c.specs.Calls.{Writes, WritesAs, WritesIn, head_of, json_in};
+ghost use Rattle.ill_c.specs.Calls.{Writes, WritesAs, WritesIn, line_head_of, json_in};
 ghost use Rattle.ill_c.specs.Memory.{change};
 ghost use Rattle.ill_c.specs.Profiles.{profile_numbered};
-ghost use Rattle.ill_c.specs.Status.{EndsWith};
+ghost use Rattle.ill_c.specs.Status.{ReturnsStatus};
 
 use crate::profile::profile_numbered;
 use crate::put::put;
@@ -30,7 +30,7 @@ pub extern "C" fn illcanon_json(
     size: &mut usize,
     refusal: &mut IllcanonRefusal,
 ) -> u32
-    ensures { EndsWith result (Writes (json_in number offset octets.now profile_two) octets.now
+    ensures { ReturnsStatus result (Writes (json_in number offset octets.now profile_two) octets.now
         (change buffer.old buffer.new) (change size.old size.new)
         (change refusal.old refusal.new)) }
 {
@@ -51,7 +51,7 @@ pub extern "C" fn illcanon_json_as(
     size: &mut usize,
     refusal: &mut IllcanonRefusal,
 ) -> u32
-    ensures { EndsWith result (WritesAs (profile_numbered profile)
+    ensures { ReturnsStatus result (WritesAs (profile_numbered profile)
         (json_in number offset octets.now) octets.now (change buffer.old buffer.new)
         (change size.old size.new) (change refusal.old refusal.new)) }
 {
@@ -112,7 +112,7 @@ fn line(
 fn head(octets: &[u8], place: MessagePlace, normal: &NormalForm) -> LineHead
     ensures { (p : Meaning) (a : Apdu) → normal.now.octets.items ≡ normal_form_in p a
         → normal.now.input_len ≡ length octets.now
-        → result ≡ head_of place.number place.offset octets.now p a }
+        → result ≡ line_head_of place.number place.offset octets.now p a }
 {
     LineHead {
         number: place.number,

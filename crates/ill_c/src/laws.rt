@@ -2,12 +2,13 @@
 ghost use Rattle.std.specs.Prelude.{ℕ, ◌≤◌, List, length};
 ghost use Rattle.ber_leaf.specs.Profile.{Profile};
 ghost use Rattle.ill_schema.specs.Apdu.{Apdu};
+ghost use Rattle.ill_schema.specs.Names.{cause_part_name_of};
 ghost use Rattle.ill_schema.specs.declared.refusal.Cause.{Cause};
 ghost use Rattle.ill_c.specs.Calls.{WritesIn, ChecksIn, ComparesIn, FindsIn, WritesFrontIn, DumpsIn, Frames, NamesCause, Puts};
 ghost use Rattle.ill_c.specs.Memory.{Change};
 ghost use Rattle.ill_c.specs.OneResult.{WritesOnce, ChecksOnce, ComparesOnce, FindsOnce, WritesFrontOnce, DumpsOnce, FramesOnce, NamesCauseOnce, PutsOnce};
 ghost use Rattle.ill_c.specs.Refusals.{part_text};
-ghost use Rattle.ill_c.specs.Status.{EndsWith};
+ghost use Rattle.ill_c.specs.Status.{ReturnsStatus};
 
 use crate::refusal::IllcanonRefusal;
 
@@ -16,33 +17,33 @@ use crate::refusal::IllcanonRefusal;
 pub fn calls_have_one_result()
     ensures writes { (p : Profile) (make : Apdu → List ℕ) (s : List ℕ) (buffer : Change (List ℕ))
         (size : Change ℕ) (refusal : Change IllcanonRefusal) (n : ℕ)
-        → EndsWith n (WritesIn p make s buffer size refusal)
+        → ReturnsStatus n (WritesIn p make s buffer size refusal)
         → WritesOnce p make s buffer size refusal n }
     ensures checks { (p : Profile) (s : List ℕ) (normal : Change ℕ)
         (refusal : Change IllcanonRefusal) (n : ℕ)
-        → EndsWith n (ChecksIn p s normal refusal) → ChecksOnce p s normal refusal n }
+        → ReturnsStatus n (ChecksIn p s normal refusal) → ChecksOnce p s normal refusal n }
     ensures compares { (p : Profile) (s t : List ℕ) (same : Change ℕ)
         (refusal : Change IllcanonRefusal) (n : ℕ)
-        → EndsWith n (ComparesIn p s t same refusal) → ComparesOnce p s t same refusal n }
+        → ReturnsStatus n (ComparesIn p s t same refusal) → ComparesOnce p s t same refusal n }
     ensures finds { (p : Profile) (s : List ℕ) (size : Change ℕ)
         (refusal : Change IllcanonRefusal) (n : ℕ)
-        → EndsWith n (FindsIn p s size refusal) → FindsOnce p s size refusal n }
+        → ReturnsStatus n (FindsIn p s size refusal) → FindsOnce p s size refusal n }
     ensures writes_front { (p : Profile) (s : List ℕ) (read : Change ℕ)
         (buffer : Change (List ℕ)) (size : Change ℕ) (refusal : Change IllcanonRefusal) (n : ℕ)
-        → EndsWith n (WritesFrontIn p s read buffer size refusal)
+        → ReturnsStatus n (WritesFrontIn p s read buffer size refusal)
         → WritesFrontOnce p s read buffer size refusal n }
     ensures dumps { (p : Profile) (s : List ℕ) (buffer : Change (List ℕ)) (size : Change ℕ)
         (refusal : Change IllcanonRefusal) (n : ℕ)
-        → EndsWith n (DumpsIn p s buffer size refusal) → DumpsOnce p s buffer size refusal n }
+        → ReturnsStatus n (DumpsIn p s buffer size refusal) → DumpsOnce p s buffer size refusal n }
     ensures frames { (s : List ℕ) (size : Change ℕ) (n : ℕ)
-        → EndsWith n (Frames s size) → FramesOnce s size n }
+        → ReturnsStatus n (Frames s size) → FramesOnce s size n }
     ensures names_cause { (number : ℕ) (buffer : Change (List ℕ)) (size : Change ℕ) (n : ℕ)
-        → EndsWith n (NamesCause number buffer size) → NamesCauseOnce number buffer size n }
+        → ReturnsStatus n (NamesCause number buffer size) → NamesCauseOnce number buffer size n }
     ensures puts { (octets : List ℕ) (buffer : Change (List ℕ)) (size : Change ℕ) (n : ℕ)
-        → EndsWith n (Puts octets buffer size) → PutsOnce octets buffer size n }
+        → ReturnsStatus n (Puts octets buffer size) → PutsOnce octets buffer size n }
 {}
 
 /// The name of a part has at most 63 octets, so a zero follows it in the 64 of a refusal.
 pub fn parts_are_short()
-    ensures { (cause : Cause) → length (part_text cause) ≤ 63 }
+    ensures { (cause : Cause) → length (part_text (cause_part_name_of cause)) ≤ 63 }
 {}

@@ -3,7 +3,7 @@ ghost use Rattle.ill_schema.specs.Profiles.{profile_of};
 ghost use Rattle.ill_c.specs.Calls.{Finds, FindsAs, FindsIn, WritesFront, WritesFrontAs, WritesFrontIn};
 ghost use Rattle.ill_c.specs.Memory.{change};
 ghost use Rattle.ill_c.specs.Profiles.{profile_numbered};
-ghost use Rattle.ill_c.specs.Status.{EndsWith};
+ghost use Rattle.ill_c.specs.Status.{ReturnsStatus};
 
 use crate::front::read_front;
 use crate::profile::profile_numbered;
@@ -21,7 +21,7 @@ pub extern "C" fn illcanon_next(
     size: &mut usize,
     refusal: &mut IllcanonRefusal,
 ) -> u32
-    ensures { EndsWith result (Finds octets.now (change size.old size.new)
+    ensures { ReturnsStatus result (Finds octets.now (change size.old size.new)
         (change refusal.old refusal.new)) }
 {
     next(alloc, Profile::Two, octets, size, refusal).number()
@@ -36,7 +36,7 @@ pub extern "C" fn illcanon_next_as(
     size: &mut usize,
     refusal: &mut IllcanonRefusal,
 ) -> u32
-    ensures { EndsWith result (FindsAs (profile_numbered profile) octets.now
+    ensures { ReturnsStatus result (FindsAs (profile_numbered profile) octets.now
         (change size.old size.new) (change refusal.old refusal.new)) }
 {
     match profile_numbered(profile) {
@@ -75,7 +75,7 @@ pub extern "C" fn illcanon_normalise_next(
     size: &mut usize,
     refusal: &mut IllcanonRefusal,
 ) -> u32
-    ensures { EndsWith result (WritesFront octets.now (change read.old read.new)
+    ensures { ReturnsStatus result (WritesFront octets.now (change read.old read.new)
         (change buffer.old buffer.new) (change size.old size.new)
         (change refusal.old refusal.new)) }
 {
@@ -94,7 +94,7 @@ pub extern "C" fn illcanon_normalise_next_as(
     size: &mut usize,
     refusal: &mut IllcanonRefusal,
 ) -> u32
-    ensures { EndsWith result (WritesFrontAs (profile_numbered profile) octets.now
+    ensures { ReturnsStatus result (WritesFrontAs (profile_numbered profile) octets.now
         (change read.old read.new) (change buffer.old buffer.new) (change size.old size.new)
         (change refusal.old refusal.new)) }
 {

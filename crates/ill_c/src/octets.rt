@@ -7,7 +7,7 @@ ghost use Rattle.ill_text.specs.Shown.{shown_text, shown_text_in};
 ghost use Rattle.ill_c.specs.Calls.{Writes, WritesAs, WritesIn, digest, digest_in};
 ghost use Rattle.ill_c.specs.Memory.{change};
 ghost use Rattle.ill_c.specs.Profiles.{profile_numbered};
-ghost use Rattle.ill_c.specs.Status.{EndsWith};
+ghost use Rattle.ill_c.specs.Status.{ReturnsStatus};
 
 use crate::profile::profile_numbered;
 use crate::put::put;
@@ -28,7 +28,7 @@ pub extern "C" fn illcanon_normalise(
     size: &mut usize,
     refusal: &mut IllcanonRefusal,
 ) -> u32
-    ensures { EndsWith result (Writes normal_form octets.now (change buffer.old buffer.new)
+    ensures { ReturnsStatus result (Writes normal_form octets.now (change buffer.old buffer.new)
         (change size.old size.new) (change refusal.old refusal.new)) }
 {
     normalise(alloc, Profile::Two, octets, buffer, size, refusal).number()
@@ -44,7 +44,7 @@ pub extern "C" fn illcanon_normalise_as(
     size: &mut usize,
     refusal: &mut IllcanonRefusal,
 ) -> u32
-    ensures { EndsWith result (WritesAs (profile_numbered profile) normal_form_in octets.now
+    ensures { ReturnsStatus result (WritesAs (profile_numbered profile) normal_form_in octets.now
         (change buffer.old buffer.new) (change size.old size.new)
         (change refusal.old refusal.new)) }
 {
@@ -82,7 +82,7 @@ pub extern "C" fn illcanon_show(
     size: &mut usize,
     refusal: &mut IllcanonRefusal,
 ) -> u32
-    ensures { EndsWith result (Writes (shown_text number) octets.now (change buffer.old buffer.new)
+    ensures { ReturnsStatus result (Writes (shown_text number) octets.now (change buffer.old buffer.new)
         (change size.old size.new) (change refusal.old refusal.new)) }
 {
     show(alloc, Profile::Two, octets, number, buffer, size, refusal).number()
@@ -99,7 +99,7 @@ pub extern "C" fn illcanon_show_as(
     size: &mut usize,
     refusal: &mut IllcanonRefusal,
 ) -> u32
-    ensures { EndsWith result (WritesAs (profile_numbered profile) (λ p. shown_text_in p number)
+    ensures { ReturnsStatus result (WritesAs (profile_numbered profile) (λ p. shown_text_in p number)
         octets.now (change buffer.old buffer.new) (change size.old size.new)
         (change refusal.old refusal.new)) }
 {
@@ -155,7 +155,7 @@ pub extern "C" fn illcanon_digest(
     size: &mut usize,
     refusal: &mut IllcanonRefusal,
 ) -> u32
-    ensures { EndsWith result (Writes digest octets.now (change buffer.old buffer.new)
+    ensures { ReturnsStatus result (Writes digest octets.now (change buffer.old buffer.new)
         (change size.old size.new) (change refusal.old refusal.new)) }
 {
     digest(alloc, Profile::Two, octets, buffer, size, refusal).number()
@@ -171,7 +171,7 @@ pub extern "C" fn illcanon_digest_as(
     size: &mut usize,
     refusal: &mut IllcanonRefusal,
 ) -> u32
-    ensures { EndsWith result (WritesAs (profile_numbered profile) digest_in octets.now
+    ensures { ReturnsStatus result (WritesAs (profile_numbered profile) digest_in octets.now
         (change buffer.old buffer.new) (change size.old size.new)
         (change refusal.old refusal.new)) }
 {

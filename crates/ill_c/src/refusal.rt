@@ -1,14 +1,14 @@
 //! Refusals that are reported to C.
 ghost use Rattle.std.specs.Prelude.{◌≡◌, ◌+◌};
-ghost use Rattle.ill_schema.specs.Names.{part_name_of};
+ghost use Rattle.ill_schema.specs.Names.{cause_part_name_of};
 ghost use Rattle.ill_refusals.specs.Fault.{fault_of};
 ghost use Rattle.ill_c.specs.Memory.{change};
-ghost use Rattle.ill_c.specs.Refusals.{c_text, dotted, part_text, reported};
+ghost use Rattle.ill_c.specs.Refusals.{c_text, part_text, reported};
 ghost use Rattle.ill_c.specs.code.Steps.{IsReported};
 
 use crate::put::copy_at;
 use crate::status::Status;
-use ill_normal::{Cause, Failure, PartId, Refusal, part_name};
+use ill_normal::{Cause, Failure, Refusal};
 
 /// The reason why octets are refused.
 #[repr(C)]
@@ -48,20 +48,10 @@ pub(crate) fn reported(refusal: Refusal) -> IllcanonRefusal
 
 /// The part that a cause is about, as a text of C.
 fn part_of(cause: Cause) -> [u8; 64]
-    ensures { result ≡ c_text (part_text cause) }
-{
-    match cause {
-        Cause::LeftOut(part) | Cause::Missing(part) => names_of(part),
-        _ => [0; 64],
-    }
-}
-
-/// The names of a part, as a text of C.
-fn names_of(part: PartId) -> [u8; 64]
-    ensures { result ≡ c_text (dotted (part_name_of part)) }
+    ensures { result ≡ c_text (part_text (cause_part_name_of cause)) }
 {
     let mut text = [0; 64];
-    if let Some((node, row)) = part_name(part) {
+    if let Some((node, row)) = cause.part_name() {
         let dot = node.len();
         copy_at(node.as_bytes(), &mut text, 0);
         copy_at(b".", &mut text, dot);

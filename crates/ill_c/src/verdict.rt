@@ -3,7 +3,7 @@ ghost use Rattle.ill_schema.specs.Profiles.{profile_of};
 ghost use Rattle.ill_c.specs.Calls.{Checks, ChecksAs, ChecksIn, Compares, ComparesAs, ComparesIn};
 ghost use Rattle.ill_c.specs.Memory.{change};
 ghost use Rattle.ill_c.specs.Profiles.{profile_numbered};
-ghost use Rattle.ill_c.specs.Status.{EndsWith};
+ghost use Rattle.ill_c.specs.Status.{ReturnsStatus};
 
 use crate::profile::profile_numbered;
 use crate::refusal::{IllcanonRefusal, report, reported};
@@ -19,7 +19,7 @@ pub extern "C" fn illcanon_check(
     normal: &mut u32,
     refusal: &mut IllcanonRefusal,
 ) -> u32
-    ensures { EndsWith result (Checks octets.now (change normal.old normal.new)
+    ensures { ReturnsStatus result (Checks octets.now (change normal.old normal.new)
         (change refusal.old refusal.new)) }
 {
     check(alloc, Profile::Two, octets, normal, refusal).number()
@@ -34,7 +34,7 @@ pub extern "C" fn illcanon_check_as(
     normal: &mut u32,
     refusal: &mut IllcanonRefusal,
 ) -> u32
-    ensures { EndsWith result (ChecksAs (profile_numbered profile) octets.now
+    ensures { ReturnsStatus result (ChecksAs (profile_numbered profile) octets.now
         (change normal.old normal.new) (change refusal.old refusal.new)) }
 {
     match profile_numbered(profile) {
@@ -71,7 +71,7 @@ pub extern "C" fn illcanon_same(
     same: &mut u32,
     refusal: &mut IllcanonRefusal,
 ) -> u32
-    ensures { EndsWith result (Compares first.now second.now (change same.old same.new)
+    ensures { ReturnsStatus result (Compares first.now second.now (change same.old same.new)
         (change refusal.old refusal.new)) }
 {
     compare(alloc, Profile::Two, first, second, same, refusal).number()
@@ -87,7 +87,7 @@ pub extern "C" fn illcanon_same_as(
     same: &mut u32,
     refusal: &mut IllcanonRefusal,
 ) -> u32
-    ensures { EndsWith result (ComparesAs (profile_numbered profile) first.now second.now
+    ensures { ReturnsStatus result (ComparesAs (profile_numbered profile) first.now second.now
         (change same.old same.new) (change refusal.old refusal.new)) }
 {
     match profile_numbered(profile) {

@@ -1,5 +1,5 @@
 -- What an order does: which job, by which flags, with which files.
-use Rattle.std.specs.Prelude.{ℕ, Bool, true, false, List, Option, ◌||◌, if◌then◌else◌, nat_lt}
+use Rattle.std.specs.Prelude.{ℕ, Bool, true, false, List, ◌||◌, if◌then◌else◌, nat_lt}
 use Rattle.std.specs.Borrow.{Bor}
 use Rattle.ill_commands.specs.declared.job.Job.{Job}
 use Rattle.ill_commands.specs.declared.job.JobOptions.{JobOptions}

@@ -232,7 +232,7 @@ fn put_elements<S: BufferedSource, W: Sink>(
         (S.left source.old) (S.left source.new) (W.contents sink.old) (W.contents sink.new) count) }
 {
     match run_dump::<S, Buffered, W>(alloc, dump, source, sink) {
-        Ok(count) => match lacking(dump, count) {
+        Ok(count) => match missing_message(dump, count) {
             Some(error) => Err(error),
             None => Ok(Verdict::Good),
         },
@@ -267,7 +267,7 @@ where
         endless: None,
     };
     match run_dump_skipping::<S, Buffered, W, _>(rt.alloc(), dump, source, sink, &mut reports) {
-        Ok(counts) => match lacking(dump, counts.messages) {
+        Ok(counts) => match missing_message(dump, counts.messages) {
             Some(error) => Err(error),
             None if counts.refused == 0 => Ok(Verdict::Good),
             None => Ok(Verdict::NotGood),
@@ -276,8 +276,8 @@ where
     }
 }
 
-/// That the message which is asked for isn't among those of an input.
-fn lacking(dump: DumpOptions<'_>, count: u32) -> Option<ProgramError> {
+/// The error where the message that is asked for is not in an input; None where it is.
+fn missing_message(dump: DumpOptions<'_>, count: u32) -> Option<ProgramError> {
     match dump.only {
         Some(number) if count < number => {
             Some(ProgramError::NoMessage(MissingMessage { number, count }))

@@ -9,7 +9,7 @@ use ill_lines::{LineJob, LineOptions};
 use ill_schema::Profile;
 
 /// The options of reading messages.
-#[derive(Clone, Copy, Debug, PartialEq, Eq)]
+#[derive(Clone, Copy, PartialEq, Eq)]
 pub struct ReadOptions {
     /// The profile that messages are read in.
     pub profile: Profile,
@@ -24,7 +24,7 @@ pub struct ReadOptions {
 }
 
 /// The options of writing the elements of messages.
-#[derive(Clone, Copy, Debug, PartialEq, Eq)]
+#[derive(Clone, Copy, PartialEq, Eq)]
 pub struct ElementOptions {
     /// The number of the one message that is written, from 1; None where each is.
     pub only: Option<u32>,
@@ -33,7 +33,7 @@ pub struct ElementOptions {
 }
 
 /// The action of a command on each of its inputs.
-#[derive(Clone, Copy, Debug, PartialEq, Eq)]
+#[derive(Clone, Copy, PartialEq, Eq)]
 pub enum Action {
     /// A job with one message after another.
     Messages(Job, ReadOptions),
@@ -44,7 +44,7 @@ pub enum Action {
 }
 
 /// The plan of an order: its files, and the action on them. The word `-` is standard input, or standard output for an output.
-#[derive(Debug, Drop)]
+#[derive(Drop)]
 pub enum Plan<'a> {
     /// Prints the output for each input, in turn.
     Print {
@@ -240,7 +240,7 @@ fn format_if(html: bool) -> DumpFormat
 }
 
 /// The action on one input.
-#[derive(Clone, Copy, Debug)]
+#[derive(Clone, Copy)]
 pub enum InputAction<'a> {
     /// A job with one message after another, up to one that is refused.
     Messages(JobOptions<'a>),

@@ -27,7 +27,7 @@ pub(crate) struct OtherFiles<'a> {
 
 impl OtherFiles<'_> {
     /// Tells whether one of the files is that of this name.
-    fn have<R: Files>(&self, rt: &R, name: &str) -> bool {
+    fn contain<R: Files>(&self, rt: &R, name: &str) -> bool {
         let file = FileId::of_output(rt, name);
         let is_read = file.is_some() && (file == self.list || is_one_of(rt, self.inputs, file));
         is_read || are_one_target(rt, name, self.output)
@@ -60,7 +60,7 @@ pub(crate) fn open_refused<'a, 'r, R: Print + Eprint + Files + AllocGlobal + Hos
     let Some(name) = name else {
         return Ok(None);
     };
-    if others.have(rt, name) {
+    if others.contain(rt, name) {
         return Err(ProgramError::RefusedIsShared);
     }
     let destination = open_output(rt, output, name, false)?;

@@ -7,7 +7,7 @@ use std::fmt;
 use std::io::Write;
 
 /// A message that is refused, as one line.
-#[derive(Clone, Copy, Debug, PartialEq, Eq)]
+#[derive(Clone, Copy)]
 pub struct ReportLine(pub RefusalReport);
 
 impl fmt::Display for ReportLine {

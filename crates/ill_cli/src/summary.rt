@@ -4,7 +4,7 @@ use ill_files::Count;
 use std::fmt;
 
 /// The files that a command read, and their messages, in numbers. What is too great for a number stays at the greatest one.
-#[derive(Clone, Copy, Debug, PartialEq, Eq)]
+#[derive(Clone, Copy)]
 pub struct Summary {
     /// Files that were opened.
     pub files: u64,
@@ -132,7 +132,7 @@ impl fmt::Display for Summary {
 }
 
 /// The numbers as a line of JSON.
-#[derive(Clone, Copy, Debug, PartialEq, Eq)]
+#[derive(Clone, Copy)]
 pub struct JsonSummary(pub Summary);
 
 impl fmt::Display for JsonSummary {
@@ -166,7 +166,7 @@ impl fmt::Display for JsonSummary {
 }
 
 /// The place at which the work on a file ended before the end of the file.
-#[derive(Clone, Copy, Debug, PartialEq, Eq)]
+#[derive(Clone, Copy)]
 pub struct LeftAt {
     /// The number of the message that was not read.
     pub message: u32,

@@ -62,7 +62,7 @@ impl<'p> Tally<'p> {
         }
     }
 
-    /// Prints the line of a error, and returns the exit status.
+    /// Prints the line of an error, and returns the exit status.
     pub fn end<R: Print + Eprint>(&mut self, rt: &R, done: &Result<Verdict, ProgramError>) -> u8
         ensures { result ≡ status_is done.now }
     {
@@ -109,7 +109,7 @@ fn is_name(unopened: &FileName, name: &[u8]) -> bool {
     unopened.0.as_slice() == name || name.starts_with(b"\0")
 }
 
-/// Prints the line of a error, and returns the exit status.
+/// Prints the line of an error, and returns the exit status.
 pub(crate) fn end<R: Print + Eprint>(rt: &R, done: &Result<Verdict, ProgramError>) -> u8
     ensures { result ≡ status_is done.now }
 {

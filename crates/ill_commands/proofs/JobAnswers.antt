@@ -20,8 +20,8 @@ use Rattle.ill_normal.specs.declared.verdict.Verdict.{Verdict}
 use Rattle.ill_commands.specs.declared.job.JobOptions.{JobOptions}
 use Rattle.ill_normal.specs.declared.run_fault.RunFault.{RunFault}
 use Rattle.ill_commands.specs.Output.{verdict_of}
-use Rattle.ill_normal.specs.Inputs.{IsFault}
-use Rattle.ill_commands.specs.Runs.{Writes, Stops, StopsAfter, Done, AnswersVerdict, IsRefused, AnswersRefused, AnswersFault}
+use Rattle.ill_normal.specs.Inputs.{IsResourceFault}
+use Rattle.ill_commands.specs.Runs.{WritesMessages, Stops, JobStopsAfter, Done, AnswersVerdict, IsRefusedMessage, AnswersRefused, AnswersFault}
 
 pub same_spelling : (m n : Spelling) → m.apdu ≡ n.apdu → m.octets ≡ n.octets → m ≡ n
 same_spelling m n e f = ap (λ (a : Apdu). let x : Spelling = record { apdu = a; octets = m.octets } in x) e ∙ ap (λ (o : List ℕ). let x : Spelling = record { apdu = n.apdu; octets = o } in x) f
@@ -40,7 +40,7 @@ one_reading p s (m ∷ ms) (n ∷ ns) h k =
     ap (λ (x : Spelling). x ∷ ms) (same_spelling m n same.0 octets) ∙ ap (λ (xs : List Spelling). n ∷ xs) more
 
 -- what was taken of s, and what is left
-pub taken_of : (work : JobOptions) (s : List ℕ) (left' held held' : Option (List ℕ)) (ms : List Spelling) → Writes work (Some s) left' held held' ms
+pub taken_of : (work : JobOptions) (s : List ℕ) (left' held held' : Option (List ℕ)) (ms : List Spelling) → WritesMessages work (Some s) left' held held' ms
     → (r : List ℕ) × (left' ≡ Some r) × AreSpelledIn (profile_of work.profile) s ms r
 taken_of work s left' held held' ms w =
     let t = front s left' w.octets w.taken in
@@ -92,12 +92,12 @@ module _ (work : JobOptions) (s : List ℕ) (left' held held' : Option (List ℕ
         let a = longest work.profile s [] rest d.messages ms whole (over q) h in
         not_none rest some (one_left work.profile s rest [] ms d.messages h whole (omega (arith, a, many, d.few)))
 
-  module _ (x y : Bool) (ms : List Spelling) (rest grown : Option (List ℕ)) (w : Writes work (Some s) rest held grown ms) where
+  module _ (x y : Bool) (ms : List Spelling) (rest grown : Option (List ℕ)) (w : WritesMessages work (Some s) rest held grown ms) where
     -- what is left where a job stops
     left_then : (Q : List ℕ → Type 0) → IfSome rest Q → (r : List ℕ) × AreSpelledIn q s ms r × Q r
     left_then Q q = let t = taken_of work s rest held grown ms w in (t.0, t.2, subst (λ o. IfSome o Q) t.1 q)
 
-    stop_does : (e : RunFault) → Stops work (taking rest left' x) (putting grown held' y) held ms e → (ns : List Spelling) → AreSpelledIn q s ns [] → length ns ≤ 1_000_000 → IsFault e
+    stop_does : (e : RunFault) → Stops work (taking rest left' x) (putting grown held' y) held ms e → (ns : List Spelling) → AreSpelledIn q s ns [] → length ns ≤ 1_000_000 → IsResourceFault e
     stop_does (RunFault.Refused message refusal) h ns k le =
         let t = left_then _ h.2 in
         let a = longest work.profile s t.0 [] ms ns t.1 t.2.1.2 k in
@@ -116,7 +116,7 @@ module _ (work : JobOptions) (s : List ℕ) (left' held held' : Option (List ℕ
     stop_does RunFault.HexTooLong h ns k le = absurd h
 
     stop_refuses : (e : RunFault) → Stops work (taking rest left' x) (putting grown held' y) held ms e → (r : List ℕ) (ns : List Spelling) (f : Fault) → AreSpelledIn q s ns r → length ns < 1_000_000
-        → 0 < length r → OnlyRefuses q r f → IsRefused e (length ns + 1) f
+        → 0 < length r → OnlyRefuses q r f → IsRefusedMessage e (length ns + 1) f
     stop_refuses (RunFault.Refused message refusal) h r ns f k lt some only =
         let t = left_then _ h.2 in
         let a = longest work.profile s t.0 r ms ns t.1 t.2.1.2 k in
@@ -136,7 +136,7 @@ module _ (work : JobOptions) (s : List ℕ) (left' held held' : Option (List ℕ
     stop_refuses RunFault.HexTooLong h r ns f k lt some only = absurd h
 
     stop_many : (e : RunFault) → Stops work (taking rest left' x) (putting grown held' y) held ms e → (r : List ℕ) (ns : List Spelling) → AreSpelledIn q s ns r → length ns ≡ 1_000_000
-        → 0 < length r → (e ≡ RunFault.TooManyMessages) ⊎ IsFault e
+        → 0 < length r → (e ≡ RunFault.TooManyMessages) ⊎ IsResourceFault e
     stop_many (RunFault.Refused message refusal) h r ns k many some =
         let t = left_then _ h.2 in
         let a = longest work.profile s t.0 r ms ns t.1 t.2.1.2 k in
@@ -152,18 +152,18 @@ module _ (work : JobOptions) (s : List ℕ) (left' held held' : Option (List ℕ
 
   -- the result of messages of which s is made
   module _ (x y : Bool) where
-    pub does : (answer : Result Verdict RunFault) → IfOk answer (Done work (Some s) left' held held' counts) → IfErr answer (StopsAfter work (taking (Some s) left' x) (putting held held' y) counts)
+    pub does : (answer : Result Verdict RunFault) → IfOk answer (Done work (Some s) left' held held' counts) → IfErr answer (JobStopsAfter work (taking (Some s) left' x) (putting held held' y) counts)
         → (ms : List Spelling) → AreSpelledIn q s ms [] → length ms ≤ 1_000_000 → AnswersVerdict answer (verdict_of q work.job ms)
     does (Ok v) d n ms h le = done_does v d ms h
     does (Err e) d n ms h le = stop_does x y n.messages n.rest n.grown n.writes e n.stops ms h le
 
-    pub refuses : (answer : Result Verdict RunFault) → IfOk answer (Done work (Some s) left' held held' counts) → IfErr answer (StopsAfter work (taking (Some s) left' x) (putting held held' y) counts)
+    pub refuses : (answer : Result Verdict RunFault) → IfOk answer (Done work (Some s) left' held held' counts) → IfErr answer (JobStopsAfter work (taking (Some s) left' x) (putting held held' y) counts)
         → (rest : List ℕ) (ms : List Spelling) (f : Fault) → AreSpelledIn q s ms rest → length ms < 1_000_000 → 0 < length rest → OnlyRefuses q rest f
         → AnswersRefused answer (length ms + 1) f
     refuses (Ok v) d n rest ms f h lt some only = absurd (done_refuses v d rest ms f h some only)
     refuses (Err e) d n rest ms f h lt some only = stop_refuses x y n.messages n.rest n.grown n.writes e n.stops rest ms f h lt some only
 
-    pub refuses_more : (answer : Result Verdict RunFault) → IfOk answer (Done work (Some s) left' held held' counts) → IfErr answer (StopsAfter work (taking (Some s) left' x) (putting held held' y) counts)
+    pub refuses_more : (answer : Result Verdict RunFault) → IfOk answer (Done work (Some s) left' held held' counts) → IfErr answer (JobStopsAfter work (taking (Some s) left' x) (putting held held' y) counts)
         → (rest : List ℕ) (ms : List Spelling) → AreSpelledIn q s ms rest → length ms ≡ 1_000_000 → 0 < length rest → AnswersFault answer RunFault.TooManyMessages
     refuses_more (Ok v) d n rest ms h many some = absurd (done_many v d rest ms h many some)
     refuses_more (Err e) d n rest ms h many some = stop_many x y n.messages n.rest n.grown n.writes e n.stops rest ms h many some

@@ -8,7 +8,7 @@ use Rattle.ber_leaf.specs.Profile.{Profile}
 use Rattle.ill_schema.specs.Profiles.{profile_of}
 use Rattle.ill_read.specs.declared.failure.ReadFailure.{ReadFailure}
 use Rattle.ill_normal.specs.Calls.{Taking, taking, Putting, putting}
-use Rattle.ill_normal.specs.Messages.{Spelling, position, position_after, good_of, PassesAllIn, BreaksWithinIn, EndsIn, EndsAfterIn, TakesNoFurtherIn, part_of}
+use Rattle.ill_normal.specs.Messages.{Spelling, position, position_after, good_of, PassesAllIn, BreaksWithinIn, EndsIn, EndsAfterIn, TakesNoFurtherIn, part_written}
 use Rattle.ill_normal.specs.declared.messages.MessagePlace.{MessagePlace}
 use Rattle.ill_normal.specs.declared.messages.StreamCounts.{StreamCounts}
 use Rattle.ill_normal.specs.declared.messages.StreamError.{StreamError}
@@ -18,7 +18,7 @@ use Rattle.ill_commands.specs.declared.job.JobOptions.{JobOptions}
 use Rattle.ill_commands.specs.declared.job.Job.{Job}
 use Rattle.ill_normal.specs.Inputs.{verdict_if}
 use Rattle.ill_commands.specs.Output.{message_output, output, counts_as_good, counts_of, is_counted_good, verdict_of}
-use Rattle.ill_commands.specs.Runs.{Writes, BrokeAt, Stops, StopsAfter, Done}
+use Rattle.ill_commands.specs.Runs.{WritesMessages, BrokeAt, Stops, JobStopsAfter, Done}
 use Rattle.ill_commands.specs.code.Endings.{counts_with, fault_after, run_fault, verdict_by}
 
 -- where the first message is
@@ -62,7 +62,7 @@ module _ (work : JobOptions) where
 
   -- the sink broke within a message
   broke_within : (left : Option (List ℕ)) (source : Taking) (sink : Putting) (first : Option (List ℕ)) (ms : List Spelling) (n written : ℕ)
-      → Writes work left source.left first sink.held ms → written ≡ length (output work ms) + n
+      → WritesMessages work left source.left first sink.held ms → written ≡ length (output work ms) + n
       → BreaksWithinIn q (message_output work (position_after start ms)) source sink n → BrokeAt work source.left source.left' first sink.held' ms written
   broke_within left source sink first ms n written w size b =
       let text = message_output work (position_after start ms) in
@@ -81,7 +81,7 @@ module _ (work : JobOptions) where
       }
 
   stops : (left : Option (List ℕ)) (source : Taking) (sink : Putting) (first : Option (List ℕ)) (ms : List Spelling) (whole written : ℕ) (why : StreamErrorKind)
-      → Writes work left source.left first sink.held ms → whole ≡ length ms → written ≡ length (output work ms) + part_of why
+      → WritesMessages work left source.left first sink.held ms → whole ≡ length ms → written ≡ length (output work ms) + part_written why
       → EndsIn q (message_output work) source sink whole (position_after start ms) why → Stops work source sink first ms (fault_after whole written why)
   stops left source sink first ms whole written (StreamErrorKind.Read (ReadFailure.Refused refusal)) w count size h =
       (ap (λ (n : ℕ). n + 1) count, omega (arith, count, h.0), h.1, h.2)
@@ -93,7 +93,7 @@ module _ (work : JobOptions) where
   stops left source sink first ms whole written StreamErrorKind.TooMany w count size h = (omega (arith, count, h.0), h.1, h.2)
 
   pub stops_after : (source : Taking) (sink : Putting) (e : StreamError) → EndsAfterIn q (message_output work) (is_counted_good work) source sink e
-      → StopsAfter work source sink (counts_with e.whole e.good e.before) (run_fault e)
+      → JobStopsAfter work source sink (counts_with e.whole e.good e.before) (run_fault e)
   stops_after source sink e h = record {
     messages = h.messages;
     rest = h.rest;

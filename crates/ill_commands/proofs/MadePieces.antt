@@ -25,7 +25,7 @@ use Rattle.ill_commands.specs.code.Finding.{IsFound}
 use Rattle.ill_normal.specs.Inputs.{label_of}
 use Rattle.ill_normal.specs.Messages.{spelling}
 use Rattle.ill_commands.specs.Output.{file_of, head_of, line_of_check, line_of_digest, line_of_result, result_line}
-use Rattle.ill_commands.specs.code.Writing.{IsMade, IsMadeForm, IsWritten}
+use Rattle.ill_commands.specs.code.Writing.{IsPieceMade, IsMadeForm, IsWritten}
 use Rattle.ill_commands.specs.declared.written.JobOutput.{JobOutput}
 use Rattle.ill_normal.proofs.NormalTest.{tests_equality}
 
@@ -35,19 +35,19 @@ module _ (work : JobOptions) (p : MessagePlace) where
 
   -- the normal form as it is, and in digits
   pub makes_normal : work.hex ≡ false → (made : RenderedMessage (Vec ℕ Global)) (b : List ℕ) → IsMadeForm work.profile work.compares made b
-      → IsMade Job.Canonicalise work p (record { text = JobOutput.Octets made.text; is_good = made.is_good; octets = made.octets }) b
+      → IsPieceMade Job.Canonicalise work p (record { text = JobOutput.Octets made.text; is_good = made.is_good; octets = made.octets }) b
   makes_normal binary made b h = rw binary (record { apdu = h.apdu; spells = h.spells; text = h.text; good = h.good; size = h.size })
 
   module _ (text : Vec ℕ Global) where
     pub makes_hex : work.hex ≡ true → (made : RenderedMessage (Vec ℕ Global)) → text.items ≡ encode_lower made.text.items ++ codes "\n" → (b : List ℕ)
         → IsMadeForm work.profile work.compares made b
-        → IsMade Job.Canonicalise work p (record { text = JobOutput.Octets text; is_good = made.is_good; octets = made.octets }) b
+        → IsPieceMade Job.Canonicalise work p (record { text = JobOutput.Octets text; is_good = made.is_good; octets = made.octets }) b
     makes_hex digits made e b h =
         rw digits (record { apdu = h.apdu; spells = h.spells; text = e ∙ ap (λ l. encode_lower l ++ codes "\n") h.text; good = h.good; size = h.size })
 
     pub makes_digest : (made : RenderedMessage (Vec ℕ Global)) → text.items ≡ line_of_digest (sha256 made.text.items) work.name.now p.number → (b : List ℕ)
         → IsMadeForm work.profile work.compares made b
-        → IsMade Job.Digest work p (record { text = JobOutput.Octets text; is_good = made.is_good; octets = made.octets }) b
+        → IsPieceMade Job.Digest work p (record { text = JobOutput.Octets text; is_good = made.is_good; octets = made.octets }) b
     makes_digest made e b h = record {
       apdu = h.apdu;
       spells = h.spells;
@@ -57,7 +57,7 @@ module _ (work : JobOptions) (p : MessagePlace) where
     }
 
     pub makes_checked : (x : Checked) → text.items ≡ line_of_check q (label_of work.names_input work.name.now) p.number x.apdu x.octets x.is_normal x.normal → (b : List ℕ)
-        → DescribesIn q x b → IsMade Job.Check work p (record { text = JobOutput.Octets text; is_good = x.is_normal; octets = x.octets }) b
+        → DescribesIn q x b → IsPieceMade Job.Check work p (record { text = JobOutput.Octets text; is_good = x.is_normal; octets = x.octets }) b
     makes_checked x e b h =
         let a = h.0 in
         let i = p.number in
@@ -82,7 +82,7 @@ module _ (work : JobOptions) (p : MessagePlace) where
         ∙ ap (λ (t : Bool). line_of_result q named name p h.0.number (length b) t digest) (tests_equality x.is_normal b (normal_form_in q h.0) h.5)
 
     pub makes_check_json : (x : Checked) → text.items ≡ line_of_result q work.names_input work.name.now p x.apdu x.octets x.is_normal None → (b : List ℕ)
-        → DescribesIn q x b → IsMade Job.CheckJson work p (record { text = JobOutput.Octets text; is_good = x.is_normal; octets = x.octets }) b
+        → DescribesIn q x b → IsPieceMade Job.CheckJson work p (record { text = JobOutput.Octets text; is_good = x.is_normal; octets = x.octets }) b
     makes_check_json x e b h = record {
       apdu = h.0;
       spells = h.1;
@@ -92,7 +92,7 @@ module _ (work : JobOptions) (p : MessagePlace) where
     }
 
     pub makes_digest_json : (x : Checked) (normal : List ℕ) → text.items ≡ line_of_result q work.names_input work.name.now p x.apdu x.octets x.is_normal (Some (sha256 normal)) → (b : List ℕ)
-        → DescribesIn q x b → IsFormIn q normal b → IsMade Job.DigestJson work p (record { text = JobOutput.Octets text; is_good = x.is_normal; octets = x.octets }) b
+        → DescribesIn q x b → IsFormIn q normal b → IsPieceMade Job.DigestJson work p (record { text = JobOutput.Octets text; is_good = x.is_normal; octets = x.octets }) b
     makes_digest_json x normal e b h form = record {
       apdu = h.0;
       spells = h.1;
@@ -105,13 +105,13 @@ module _ (work : JobOptions) (p : MessagePlace) where
   pub makes_shown : (found : CheckedOutline) (text : JobOutput)
       → ((a : Apdu) (octets : List ℕ) → SpellsApdu q a octets → IsOutlineOf found.outline a → IsWritten text (label_of work.names_input work.name.now ++ shown_text_in q p.number a))
       → (b : List ℕ) → IsFound q work.compares found b
-      → IsMade Job.Show work p (record { text = text; is_good = found.is_good; octets = found.octets }) b
+      → IsPieceMade Job.Show work p (record { text = text; is_good = found.is_good; octets = found.octets }) b
   makes_shown found text is b h = record { apdu = h.apdu; spells = h.spells; text = is h.apdu b h.spells h.outline; good = h.good; size = h.size }
 
   pub makes_json : (found : CheckedOutline) (text : Vec ℕ Global)
       → ((a : Apdu) → IsOutlineOf found.outline a → text.items ≡ json_line_in q (file_of work.names_input work.name.now) (head_of p found.octets found.is_good) a) → (b : List ℕ)
       → IsFound q true found b
-      → IsMade Job.Json work p (record { text = JobOutput.Octets text; is_good = found.is_good; octets = found.octets }) b
+      → IsPieceMade Job.Json work p (record { text = JobOutput.Octets text; is_good = found.is_good; octets = found.octets }) b
   makes_json found text is b h = record {
     apdu = h.apdu;
     spells = h.spells;

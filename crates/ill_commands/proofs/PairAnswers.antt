@@ -12,9 +12,9 @@ use Rattle.ill_normal.proofs.InputAnswers.{front}
 use Rattle.ill_normal.proofs.Canonical.{spells_once, refuses_whole, refuses_once}
 use Rattle.ill_normal.specs.declared.verdict.Verdict.{Verdict}
 use Rattle.ill_normal.specs.declared.run_fault.RunFault.{RunFault}
-use Rattle.ill_normal.specs.Inputs.{NoHex, IsFault}
+use Rattle.ill_normal.specs.Inputs.{NoHex, IsResourceFault}
 use Rattle.ill_normal.specs.Hexadecimal.{hex_octets}
-use Rattle.ill_commands.specs.Compared.{ReadsSide, SideFails, Compares, NotCompared, side_octets, SaysSame, ComparesBoth, RefusesOne, RefusesTexts, IsRefusedSide, AnswersSide}
+use Rattle.ill_commands.specs.Compared.{ReadsSide, SideFails, AreCompared, NotCompared, side_octets, SaysSame, ComparesBoth, RefusesOne, RefusesTexts, IsRefusedSide, AnswersSide}
 use Rattle.ill_normal.proofs.HexAnswers.{same_octets, same_ok, same_err, not_both, is_fault}
 
 -- what was read of a side is what is compared of it
@@ -36,12 +36,12 @@ pub no_text : (s : List ℕ) (left' : Option (List ℕ)) (e : RunFault) → NoHe
 no_text s left' e h = same_octets s left' h.text h.taken ∙ h.stands
 
 -- the result where a side was not read
-unread_fault : (hex x : Bool) (s : List ℕ) (left' : Option (List ℕ)) (e fault : RunFault) → SideFails hex (Some s) left' x e → side_octets hex s ≡ Err fault → (e ≡ fault) ⊎ IsFault e
+unread_fault : (hex x : Bool) (s : List ℕ) (left' : Option (List ℕ)) (e fault : RunFault) → SideFails hex (Some s) left' x e → side_octets hex s ≡ Err fault → (e ≡ fault) ⊎ IsResourceFault e
 unread_fault true x s left' e fault (inl h) k = inl (same_err (hex_octets s) e fault (no_text s left' e h) k)
 unread_fault true x s left' e fault (inr u) k = inr (is_fault 4_194_305 (Some s) left' x e u)
 unread_fault false x s left' e fault u k = inr (is_fault 1_048_577 (Some s) left' x e u)
 
-unread_octets : (hex x : Bool) (s : List ℕ) (left' : Option (List ℕ)) (e : RunFault) (o : List ℕ) → SideFails hex (Some s) left' x e → side_octets hex s ≡ Ok o → IsFault e
+unread_octets : (hex x : Bool) (s : List ℕ) (left' : Option (List ℕ)) (e : RunFault) (o : List ℕ) → SideFails hex (Some s) left' x e → side_octets hex s ≡ Ok o → IsResourceFault e
 unread_octets true x s left' e o (inl h) k = absurd (not_both (hex_octets s) o e k (no_text s left' e h))
 unread_octets true x s left' e o (inr u) k = is_fault 4_194_305 (Some s) left' x e u
 unread_octets false x s left' e o u k = is_fault 1_048_577 (Some s) left' x e u
@@ -70,13 +70,13 @@ module _ (p : Profile) (x y : List ℕ) where
   refused_once Side.Second Side.First f g r q = absurd (refuses_whole x g r.0.0 q r.0.1)
   refused_once Side.Second Side.Second f g r q = (refl, refuses_once y f g r.1 q.1)
 
-  says_same : (v : Verdict) → Compares p x y v → (a b : Apdu) → SpellsApdu p a x → SpellsApdu p b y → (v ≡ Verdict.Good) ↔ (a ≡ b)
+  says_same : (v : Verdict) → AreCompared p x y v → (a b : Apdu) → SpellsApdu p a x → SpellsApdu p b y → (v ≡ Verdict.Good) ↔ (a ≡ b)
   says_same v c a b h k =
       let e = spells_once a c.0 x h c.2 in
       let f = spells_once b c.1 y k c.3 in
       (λ g. e ∙ c.4.0 g ∙ sym f, λ same. c.4.1 (sym e ∙ same ∙ f))
 
-  not_compared : (e : RunFault) → NotCompared p x y e → (a b : Apdu) → SpellsApdu p a x → SpellsApdu p b y → IsFault e
+  not_compared : (e : RunFault) → NotCompared p x y e → (a b : Apdu) → SpellsApdu p a x → SpellsApdu p b y → IsResourceFault e
   not_compared (RunFault.RefusedSide side refusal) n a b h k = absurd (refused_apart side (fault_of refusal) a b h k n)
   not_compared RunFault.OutOfMemory n a b h k = tt
   not_compared RunFault.ReadFault n a b h k = tt
@@ -130,10 +130,10 @@ both_read hex (Some s) left' (Some t) other' x y rx ry answer = (
 )
 
 module _ (p : Profile) (hex : Bool) (left left' other other' : Option (List ℕ)) (x y : List ℕ) (rx : ReadsSide hex left left' x) (ry : ReadsSide hex other other' y) where
-  pub ok_compares : (v : Verdict) → Compares p x y v → IfSome left (λ s. IfSome other (λ t. ComparesBoth p hex s t (Ok v)))
+  pub ok_compares : (v : Verdict) → AreCompared p x y v → IfSome left (λ s. IfSome other (λ t. ComparesBoth p hex s t (Ok v)))
   ok_compares v c = both_same p hex left left' other other' x y rx ry (Ok v) (λ a b h k. says_same p x y v c a b h k)
 
-  pub ok_refuses : (v : Verdict) → Compares p x y v → IfSome left (λ s. IfSome other (λ t. RefusesOne p hex s t (Ok v)))
+  pub ok_refuses : (v : Verdict) → AreCompared p x y v → IfSome left (λ s. IfSome other (λ t. RefusesOne p hex s t (Ok v)))
   ok_refuses v c = one_refused p hex left left' other other' x y rx ry (Ok v) (λ side f r. refused_apart p x y side f c.0 c.1 c.2 c.3 r)
 
   pub err_compares : (e : RunFault) → NotCompared p x y e → IfSome left (λ s. IfSome other (λ t. ComparesBoth p hex s t (Err e)))

@@ -13,7 +13,7 @@ use Rattle.ill_normal.specs.declared.run_fault.RunFault.{RunFault}
 use Rattle.ill_normal.specs.Hexadecimal.{hex_octets}
 use Rattle.ill_normal.specs.Messages.{AreSpelledIn}
 use Rattle.ill_normal.specs.Inputs.{TextOf, NoHex, FailsText, IsUnread}
-use Rattle.ill_commands.specs.Runs.{Done, StopsAfter, IsRefused, DoesMessages, RefusesFirst, RefusesMore, RefusesText}
+use Rattle.ill_commands.specs.Runs.{Done, JobStopsAfter, IsRefusedMessage, DoesMessages, RefusesFirst, RefusesMore, RefusesText}
 use Rattle.ill_normal.proofs.HexAnswers.{is_fault, not_both, same_err, same_octets, same_ok}
 use Rattle.ill_commands.proofs.JobAnswers.{does, refuses, refuses_more}
 
@@ -22,19 +22,19 @@ module _ (work : JobOptions) (held held' : Option (List ℕ)) (x y : Bool) (answ
   q = profile_of work.profile
 
   -- octets as they are
-  pub plain_does : (left left' : Option (List ℕ)) → IfOk answer (Done work left left' held held' counts) → IfErr answer (StopsAfter work (taking left left' x) (putting held held' y) counts)
+  pub plain_does : (left left' : Option (List ℕ)) → IfOk answer (Done work left left' held held' counts) → IfErr answer (JobStopsAfter work (taking left left' x) (putting held held' y) counts)
       → IfSome left (λ s. DoesMessages q work.job false s answer)
   plain_does None left' d n = tt
   plain_does (Some s) left' d n = λ octets ms e h le.
       does work s left' held held' counts x y answer d n ms (subst (λ z. AreSpelledIn q z ms []) (sym (same_ok (Ok s) s octets refl e)) h) le
 
-  pub plain_refuses : (left left' : Option (List ℕ)) → IfOk answer (Done work left left' held held' counts) → IfErr answer (StopsAfter work (taking left left' x) (putting held held' y) counts)
+  pub plain_refuses : (left left' : Option (List ℕ)) → IfOk answer (Done work left left' held held' counts) → IfErr answer (JobStopsAfter work (taking left left' x) (putting held held' y) counts)
       → IfSome left (λ s. RefusesFirst q false s answer)
   plain_refuses None left' d n = tt
   plain_refuses (Some s) left' d n = λ octets rest ms f e h lt some only.
       refuses work s left' held held' counts x y answer d n rest ms f (subst (λ z. AreSpelledIn q z ms rest) (sym (same_ok (Ok s) s octets refl e)) h) lt some only
 
-  pub plain_more : (left left' : Option (List ℕ)) → IfOk answer (Done work left left' held held' counts) → IfErr answer (StopsAfter work (taking left left' x) (putting held held' y) counts)
+  pub plain_more : (left left' : Option (List ℕ)) → IfOk answer (Done work left left' held held' counts) → IfErr answer (JobStopsAfter work (taking left left' x) (putting held held' y) counts)
       → IfSome left (λ s. RefusesMore q false s answer)
   plain_more None left' d n = tt
   plain_more (Some s) left' d n = λ octets rest ms e h many some.
@@ -46,7 +46,7 @@ module _ (work : JobOptions) (held held' : Option (List ℕ)) (x y : Bool) (answ
 
   -- the octets of a text
   module _ (octets : List ℕ) (rest : Option (List ℕ)) (d : IfOk answer (Done work (Some octets) rest held held' counts))
-      (n : IfErr answer (StopsAfter work (taking (Some octets) rest x) (putting held held' y) counts)) where
+      (n : IfErr answer (JobStopsAfter work (taking (Some octets) rest x) (putting held held' y) counts)) where
     stands : (s : List ℕ) (left' : Option (List ℕ)) → TextOf (Some s) left' octets → hex_octets s ≡ Ok octets
     stands s left' t = same_octets s left' t.text t.taken ∙ t.stands
 
@@ -69,7 +69,7 @@ module _ (work : JobOptions) (held held' : Option (List ℕ)) (x y : Bool) (answ
     text_stands None left' t = tt
     text_stands (Some s) left' t = λ fault e. absurd (not_both (hex_octets s) octets fault (stands s left' t) e)
 
-refused_or : (n : ℕ) (left left' : Option (List ℕ)) (x : Bool) (e : RunFault) (i : ℕ) (f : Fault) → IsUnread n left left' x e → IsRefused e i f
+refused_or : (n : ℕ) (left left' : Option (List ℕ)) (x : Bool) (e : RunFault) (i : ℕ) (f : Fault) → IsUnread n left left' x e → IsRefusedMessage e i f
 refused_or n left left' x RunFault.OutOfMemory i f h = tt
 refused_or n left left' x RunFault.ReadFault i f h = tt
 refused_or n left left' x (RunFault.Refused message refusal) i f h = absurd h

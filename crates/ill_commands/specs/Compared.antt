@@ -10,7 +10,7 @@ use Rattle.ill_normal.specs.declared.compare.Side.{Side}
 use Rattle.ill_normal.specs.declared.verdict.Verdict.{Verdict}
 use Rattle.ill_normal.specs.declared.run_fault.RunFault.{RunFault}
 use Rattle.ill_normal.specs.Hexadecimal.{hex_octets}
-use Rattle.ill_normal.specs.Inputs.{TextOf, FailsText, IsUnread, IsFault}
+use Rattle.ill_normal.specs.Inputs.{TextOf, FailsText, IsUnread, IsResourceFault}
 use Rattle.ill_commands.specs.Runs.{AnswersFault}
 
 abbrev pub verdict_line : Verdict → List ℕ
@@ -28,8 +28,8 @@ SideFails true left left' source_broken fault = FailsText left left' source_brok
 SideFails false left left' source_broken fault = IsUnread 1_048_577 left left' source_broken fault
 
 -- each is one message, and they are good exactly if they are of one APDU
-abbrev pub Compares : Profile → List ℕ → List ℕ → Verdict → Type 0
-Compares q s t verdict = (a : Apdu) × (b : Apdu) × SpellsApdu q a s × SpellsApdu q b t × ((verdict ≡ Verdict.Good) ↔ (a ≡ b))
+abbrev pub AreCompared : Profile → List ℕ → List ℕ → Verdict → Type 0
+AreCompared q s t verdict = (a : Apdu) × (b : Apdu) × SpellsApdu q a s × SpellsApdu q b t × ((verdict ≡ Verdict.Good) ↔ (a ≡ b))
 
 -- the first side that isn't one message, or out of memory
 abbrev pub NotCompared : Profile → List ℕ → List ℕ → RunFault → Type 0
@@ -48,7 +48,7 @@ pub record SameDone (q : Profile) (hex : Bool) (left left' other other' held hel
   pub second : List ℕ
   pub reads_first : ReadsSide hex left left' first
   pub reads_second : ReadsSide hex other other' second
-  pub compares : Compares q first second verdict
+  pub compares : AreCompared q first second verdict
   pub written : Appends held held' (verdict_line verdict)
 
 -- both inputs were read, and they were not compared, or the line was not written
@@ -58,7 +58,7 @@ pub record SameStops (q : Profile) (hex : Bool) (one other : Taking) (sink : Put
   pub reads_first : ReadsSide hex one.left one.left' first
   pub reads_second : ReadsSide hex other.left other.left' second
   pub stops : (NotCompared q first second fault × Keeps sink.held sink.held')
-      ⊎ ((verdict : Verdict) × Compares q first second verdict × BreaksLine verdict sink.held sink.held' sink.broken fault)
+      ⊎ ((verdict : Verdict) × AreCompared q first second verdict × BreaksLine verdict sink.held sink.held' sink.broken fault)
 
 -- the first input was not read, and nothing was asked of the second; or the second was not read; or both were
 abbrev pub SameFails : Profile → Bool → Taking → Taking → Putting → RunFault → Type 0
@@ -74,7 +74,7 @@ side_octets false s = Ok (take 1_048_577 s)
 
 abbrev pub SaysSame : Result Verdict RunFault → Type 0 → Type 0
 SaysSame (Ok verdict) same = (verdict ≡ Verdict.Good) ↔ same
-SaysSame (Err fault) same = IsFault fault
+SaysSame (Err fault) same = IsResourceFault fault
 
 -- two spellings are compared
 abbrev pub ComparesBoth : Profile → Bool → List ℕ → List ℕ → Result Verdict RunFault → Type 0
@@ -83,7 +83,7 @@ ComparesBoth q hex s t result = (x y : List ℕ) (a b : Apdu) → side_octets he
 
 abbrev pub IsRefusedSide : RunFault → Side → Fault → Type 0
 IsRefusedSide (RunFault.RefusedSide which refusal) side f = (which ≡ side) × (fault_of refusal ≡ f)
-IsRefusedSide fault side f = IsFault fault
+IsRefusedSide fault side f = IsResourceFault fault
 
 abbrev pub AnswersSide : Result Verdict RunFault → Side → Fault → Type 0
 AnswersSide (Ok verdict) side f = ⊥

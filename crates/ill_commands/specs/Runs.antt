@@ -17,13 +17,13 @@ use Rattle.ill_commands.specs.declared.job.JobOptions.{JobOptions}
 use Rattle.ill_normal.specs.declared.run_fault.RunFault.{RunFault}
 use Rattle.ill_normal.specs.Messages.{Spelling, AreSpelledIn, TakesNoFurtherIn}
 use Rattle.ill_normal.specs.Messages as messages
-use Rattle.ill_normal.specs.Inputs.{FailsText, IsFault, TextOf}
+use Rattle.ill_normal.specs.Inputs.{FailsText, IsResourceFault, TextOf}
 use Rattle.ill_commands.specs.Output.{counts_of, message_output, output, verdict_of}
 use Rattle.ill_normal.specs.Hexadecimal.{hex_octets}
 
 -- the octets that were taken are these messages, and their output was written
-abbrev pub Writes : JobOptions → Option (List ℕ) → Option (List ℕ) → Option (List ℕ) → Option (List ℕ) → List Spelling → Type 0
-Writes work left left' held held' ms = messages.WritesIn (profile_of work.profile) (message_output work) left left' held held' ms
+abbrev pub WritesMessages : JobOptions → Option (List ℕ) → Option (List ℕ) → Option (List ℕ) → Option (List ℕ) → List Spelling → Type 0
+WritesMessages work left left' held held' ms = messages.WritesMessagesIn (profile_of work.profile) (message_output work) left left' held held' ms
 
 -- where a sink broke: of the output, with that of one message more, the first n octets were written
 pub record BrokeAt (work : JobOptions) (left left' held held' : Option (List ℕ)) (messages : List Spelling) (n : ℕ) : Type 0 where
@@ -49,17 +49,17 @@ Stops work source sink first ms (RunFault.WriteFault n) =
 Stops work source sink first ms _ = ⊥
 
 -- the failure to read message i
-abbrev pub fault_at : ℕ → ReadFailure → RunFault
-fault_at i (ReadFailure.Refused refusal) = RunFault.Refused i refusal
-fault_at i ReadFailure.OutOfMemory = RunFault.OutOfMemory
-fault_at i ReadFailure.ReadFault = RunFault.ReadFault
+abbrev pub run_fault_at : ℕ → ReadFailure → RunFault
+run_fault_at i (ReadFailure.Refused refusal) = RunFault.Refused i refusal
+run_fault_at i ReadFailure.OutOfMemory = RunFault.OutOfMemory
+run_fault_at i ReadFailure.ReadFault = RunFault.ReadFault
 
 -- the messages before the fault, and why the job went no further; of what follows them no more was taken than a message may have
-pub record StopsAfter (work : JobOptions) (source : Taking) (sink : Putting) (counts : Counts) (fault : RunFault) : Type 0 where
+pub record JobStopsAfter (work : JobOptions) (source : Taking) (sink : Putting) (counts : Counts) (fault : RunFault) : Type 0 where
   pub messages : List Spelling
   pub rest : Option (List ℕ)
   pub grown : Option (List ℕ)
-  pub writes : Writes work source.left rest sink.held grown messages
+  pub writes : WritesMessages work source.left rest sink.held grown messages
   pub counted : counts ≡ counts_of work writes.octets messages
   pub taken : TakesFront rest source.left'
   pub stops : Stops work (taking rest source.left' source.broken) (putting grown sink.held' sink.broken) sink.held messages fault
@@ -67,7 +67,7 @@ pub record StopsAfter (work : JobOptions) (source : Taking) (sink : Putting) (co
 -- the job was done: the octets are messages to their end, at most 1,000,000
 pub record Done (work : JobOptions) (left left' held held' : Option (List ℕ)) (counts : Counts) (verdict : Verdict) : Type 0 where
   pub messages : List Spelling
-  pub writes : Writes work left left' held held' messages
+  pub writes : WritesMessages work left left' held held' messages
   pub counted : counts ≡ counts_of work writes.octets messages
   pub end : IsAtEnd left'
   pub few : length messages ≤ 1_000_000
@@ -80,10 +80,10 @@ RunDone true work left left' held held' counts verdict =
     (octets : List ℕ) × TextOf left left' octets × ((rest : List ℕ) × Done work (Some octets) (Some rest) held held' counts verdict)
 
 abbrev pub RunFails : Bool → JobOptions → Taking → Putting → Counts → RunFault → Type 0
-RunFails false work source sink counts fault = StopsAfter work source sink counts fault
+RunFails false work source sink counts fault = JobStopsAfter work source sink counts fault
 RunFails true work source sink counts fault =
     (FailsText source.left source.left' source.broken fault × Keeps sink.held sink.held' × (counts ≡ counts_of work [] []))
-    ⊎ ((octets : List ℕ) × TextOf source.left source.left' octets × ((rest : List ℕ) × StopsAfter work (taking (Some octets) (Some rest) false) sink counts fault))
+    ⊎ ((octets : List ℕ) × TextOf source.left source.left' octets × ((rest : List ℕ) × JobStopsAfter work (taking (Some octets) (Some rest) false) sink counts fault))
 
 -- the work of a job on an input that no line names, of messages of the profile
 pub record IsUnnamed (q : Named) (job : Job) (hex : Bool) (work : JobOptions) : Type 0 where
@@ -112,19 +112,19 @@ pub record JobFails (q : Named) (job : Job) (hex : Bool) (source : Taking) (sink
 
 abbrev pub AnswersVerdict : Result Verdict RunFault → Verdict → Type 0
 AnswersVerdict (Ok v) w = v ≡ w
-AnswersVerdict (Err fault) w = IsFault fault
+AnswersVerdict (Err fault) w = IsResourceFault fault
 
-abbrev pub IsRefused : RunFault → ℕ → Fault → Type 0
-IsRefused (RunFault.Refused message refusal) i f = (message ≡ i) × (fault_of refusal ≡ f)
-IsRefused fault i f = IsFault fault
+abbrev pub IsRefusedMessage : RunFault → ℕ → Fault → Type 0
+IsRefusedMessage (RunFault.Refused message refusal) i f = (message ≡ i) × (fault_of refusal ≡ f)
+IsRefusedMessage fault i f = IsResourceFault fault
 
 abbrev pub AnswersRefused : Result Verdict RunFault → ℕ → Fault → Type 0
 AnswersRefused (Ok v) i f = ⊥
-AnswersRefused (Err fault) i f = IsRefused fault i f
+AnswersRefused (Err fault) i f = IsRefusedMessage fault i f
 
 abbrev pub AnswersFault : Result Verdict RunFault → RunFault → Type 0
 AnswersFault (Ok v) fault = ⊥
-AnswersFault (Err why) fault = (why ≡ fault) ⊎ IsFault why
+AnswersFault (Err why) fault = (why ≡ fault) ⊎ IsResourceFault why
 
 -- the octets of an input
 abbrev pub octets_of_input : Bool → List ℕ → Result (List ℕ) RunFault

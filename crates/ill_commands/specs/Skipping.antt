@@ -17,8 +17,8 @@ use Rattle.ill_commands.specs.Output.{message_output, is_counted_good}
 use Rattle.ill_normal.specs.Inputs.{TextOf, FailsText}
 
 -- where a job stopped, and why
-abbrev pub StopsFor : JobOptions → Taking → Putting → Reporting → JobError → Type 0
-StopsFor work source sink reports error =
+abbrev pub SkippingJobStops : JobOptions → Taking → Putting → Reporting → JobError → Type 0
+SkippingJobStops work source sink reports error =
     (stop : SkippingError) × SkipsAndStops (profile_of work.profile) (message_output work) (is_counted_good work) source sink reports stop
     × (error.fault ≡ fault_of_kind stop.written stop.why)
     × (error.before ≡ counts_before stop.messages stop.refused stop.good stop.octets)
@@ -32,10 +32,10 @@ RunsSkipping true work source sink reports counts =
 
 -- they were not
 abbrev pub RunsSkippingFails : Bool → JobOptions → Taking → Putting → Reporting → JobError → Type 0
-RunsSkippingFails false work source sink reports error = StopsFor work source sink reports error
+RunsSkippingFails false work source sink reports error = SkippingJobStops work source sink reports error
 RunsSkippingFails true work source sink reports error =
     (FailsText source.left source.left' source.broken error.fault × Keeps sink.held sink.held' × Adds reports.old reports.new [] × (error.before ≡ counts_before 0 0 0 0))
-    ⊎ ((octets : List ℕ) × TextOf source.left source.left' octets × ((rest : List ℕ) × StopsFor work (taking (Some octets) (Some rest) false) sink reports error))
+    ⊎ ((octets : List ℕ) × TextOf source.left source.left' octets × ((rest : List ℕ) × SkippingJobStops work (taking (Some octets) (Some rest) false) sink reports error))
 
 -- the verdict of a job that read its input to the end: no message is refused, and what the job asks for holds
 abbrev pub verdict_of_counts : Job → SkippingCounts → Verdict

@@ -6,7 +6,7 @@ ghost use Rattle.ill_schema.specs.declared.profile.Profile.{Profile as Named};
 ghost use Rattle.ill_normal.specs.Calls.{taking, putting};
 ghost use Rattle.ill_commands.specs.declared.job.Counts.{Counts};
 ghost use Rattle.ill_commands.specs.code.Endings.{counts_with, run_fault, verdict_by};
-ghost use Rattle.ill_commands.specs.Runs.{fault_at, Done, StopsAfter, RunDone, RunFails, JobDone, JobFails, DoesMessages, RefusesFirst, RefusesMore, RefusesText};
+ghost use Rattle.ill_commands.specs.Runs.{run_fault_at, Done, JobStopsAfter, RunDone, RunFails, JobDone, JobFails, DoesMessages, RefusesFirst, RefusesMore, RefusesText};
 
 use crate::job::{Counts, Job, JobOptions, JobOutcome};
 use ber_core::{Buffered, FromSlice, Lookahead, Sink, Source, Unbuffered};
@@ -190,7 +190,7 @@ fn run_messages<R: Source, L: Lookahead<R>, W: Sink>(
 ) -> JobOutcome
     ensures done { IfOk result.result (Done work.entry (R.left source.old) (R.left source.new)
         (W.contents sink.old) (W.contents sink.new) result.counts) }
-    ensures stops { IfErr result.result (StopsAfter work.entry
+    ensures stops { IfErr result.result (JobStopsAfter work.entry
         (taking (R.left source.old) (R.left source.new) (R.is_broken source.new))
         (putting (W.contents sink.old) (W.contents sink.new) (W.is_broken sink.new))
         result.counts) }
@@ -253,15 +253,15 @@ fn fault_of(stopped: StreamError) -> RunFault
     ensures { result ≡ run_fault stopped }
 {
     match stopped.why {
-        StreamErrorKind::Read(failure) => fault_at(stopped.whole + 1, failure),
+        StreamErrorKind::Read(failure) => run_fault_at(stopped.whole + 1, failure),
         StreamErrorKind::Write(_) => RunFault::WriteFault(stopped.written),
         StreamErrorKind::TooMany => RunFault::TooManyMessages,
     }
 }
 
 /// The failure to read the message of this number.
-fn fault_at(message: u32, failure: ReadFailure) -> RunFault
-    ensures { result ≡ fault_at message failure }
+fn run_fault_at(message: u32, failure: ReadFailure) -> RunFault
+    ensures { result ≡ run_fault_at message failure }
 {
     match failure {
         ReadFailure::Refused(refusal) => RunFault::Refused { message, refusal },

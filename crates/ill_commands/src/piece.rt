@@ -10,7 +10,7 @@ ghost use Rattle.ill_commands.specs.declared.job.Job.{Job};
 ghost use Rattle.ill_normal.specs.Inputs.{label_of};
 ghost use Rattle.ill_commands.specs.Output.{file_of, head_of, line_of_check, line_of_digest};
 ghost use Rattle.ill_commands.specs.code.Finding.{IsFound};
-ghost use Rattle.ill_commands.specs.code.Writing.{IsMade, IsMadeForm, IsWritten};
+ghost use Rattle.ill_commands.specs.code.Writing.{IsPieceMade, IsMadeForm, IsWritten};
 
 use crate::job::{Job, JobOptions};
 use crate::result::{check_json, digest_json};
@@ -80,7 +80,7 @@ fn next_piece<R: Source, L: Lookahead<R>>(
 ) -> Result<Option<RenderedMessage<JobOutput>>, ReadFailure>
     ensures { ReadsNextIn (profile_of work.entry.profile) (R.left source.old) (R.left source.new)
         (R.is_broken source.old) (R.is_broken source.new)
-        (IsMade work.entry.job work.entry position) result }
+        (IsPieceMade work.entry.job work.entry position) result }
 {
     match work.job {
         Job::Show => shown::<R, L>(alloc, readers, work, position, source, buffer),
@@ -118,7 +118,7 @@ fn shown<R: Source, L: Lookahead<R>>(
 ) -> Result<Option<RenderedMessage<JobOutput>>, ReadFailure>
     ensures { ReadsNextIn (profile_of work.entry.profile) (R.left source.old) (R.left source.new)
         (R.is_broken source.old) (R.is_broken source.new)
-        (IsMade Job.Show work.entry position) result }
+        (IsPieceMade Job.Show work.entry position) result }
 {
     let (octets, outline) = buffer.into_both(alloc);
     let Some(found) = outlined::<R, L>(
@@ -157,7 +157,7 @@ fn json<R: Source, L: Lookahead<R>>(
 ) -> Result<Option<RenderedMessage<JobOutput>>, ReadFailure>
     ensures { ReadsNextIn (profile_of work.entry.profile) (R.left source.old) (R.left source.new)
         (R.is_broken source.old) (R.is_broken source.new)
-        (IsMade Job.Json work.entry position) result }
+        (IsPieceMade Job.Json work.entry position) result }
 {
     let (octets, outline) = buffer.into_both(alloc);
     let Some(found) = outlined::<R, L>(alloc, readers, work.profile, true, source, outline)? else {
@@ -302,7 +302,7 @@ fn checked<R: Source, L: Lookahead<R>>(
 ) -> Result<Option<RenderedMessage<JobOutput>>, ReadFailure>
     ensures { ReadsNextIn (profile_of work.entry.profile) (R.left source.old) (R.left source.new)
         (R.is_broken source.old) (R.is_broken source.new)
-        (IsMade Job.Check work.entry position) result }
+        (IsPieceMade Job.Check work.entry position) result }
 {
     let Some((found, normal)) = check_one_in_as::<R, L>(
         alloc,
@@ -363,7 +363,7 @@ fn digested<R: Source, L: Lookahead<R>>(
 ) -> Result<Option<RenderedMessage<JobOutput>>, ReadFailure>
     ensures { ReadsNextIn (profile_of work.entry.profile) (R.left source.old) (R.left source.new)
         (R.is_broken source.old) (R.is_broken source.new)
-        (IsMade Job.Digest work.entry position) result }
+        (IsPieceMade Job.Digest work.entry position) result }
 {
     let Some(normal) = normal_form::<R, L>(
         alloc,
@@ -424,7 +424,7 @@ fn canonical<R: Source, L: Lookahead<R>>(
 ) -> Result<Option<RenderedMessage<JobOutput>>, ReadFailure>
     ensures { ReadsNextIn (profile_of work.entry.profile) (R.left source.old) (R.left source.new)
         (R.is_broken source.old) (R.is_broken source.new)
-        (IsMade Job.Canonicalise work.entry position) result }
+        (IsPieceMade Job.Canonicalise work.entry position) result }
 {
     let _ = position;
     let Some(normal) = normal_form::<R, L>(

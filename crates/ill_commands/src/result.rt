@@ -4,7 +4,7 @@ ghost use Rattle.ill_read.specs.Answers.{ReadsNextIn};
 ghost use Rattle.ill_schema.specs.Profiles.{profile_of};
 ghost use Rattle.ill_commands.specs.declared.job.Job.{Job};
 ghost use Rattle.ill_commands.specs.Output.{line_of_result};
-ghost use Rattle.ill_commands.specs.code.Writing.{IsMade};
+ghost use Rattle.ill_commands.specs.code.Writing.{IsPieceMade};
 
 use crate::job::JobOptions;
 use crate::piece::{file_of, head};
@@ -28,7 +28,7 @@ pub fn check_json<R: Source, L: Lookahead<R>>(
 ) -> Result<Option<RenderedMessage<JobOutput>>, ReadFailure>
     ensures { ReadsNextIn (profile_of work.entry.profile) (R.left source.old) (R.left source.new)
         (R.is_broken source.old) (R.is_broken source.new)
-        (IsMade Job.CheckJson work.entry position) result }
+        (IsPieceMade Job.CheckJson work.entry position) result }
 {
     let Some((found, normal)) = check_one_in_as::<R, L>(
         alloc,
@@ -61,7 +61,7 @@ pub fn digest_json<R: Source, L: Lookahead<R>>(
 ) -> Result<Option<RenderedMessage<JobOutput>>, ReadFailure>
     ensures { ReadsNextIn (profile_of work.entry.profile) (R.left source.old) (R.left source.new)
         (R.is_broken source.old) (R.is_broken source.new)
-        (IsMade Job.DigestJson work.entry position) result }
+        (IsPieceMade Job.DigestJson work.entry position) result }
 {
     let Some((found, normal)) = check_one_in_as::<R, L>(
         alloc,

@@ -3,7 +3,7 @@ ghost use Rattle.std.specs.Prelude.{◌≡◌, IfOk, IfErr, IfSome, IsTrue};
 ghost use Rattle.ber_leaf.specs.Profile.{profile_two};
 ghost use Rattle.ill_schema.specs.Profiles.{profile_of};
 ghost use Rattle.ill_normal.specs.Calls.{taking, putting};
-ghost use Rattle.ill_commands.specs.Compared.{verdict_line, ReadsSide, SideFails, Compares, NotCompared, SameDone, SameFails, ComparesBoth, RefusesOne, RefusesTexts};
+ghost use Rattle.ill_commands.specs.Compared.{verdict_line, ReadsSide, SideFails, AreCompared, NotCompared, SameDone, SameFails, ComparesBoth, RefusesOne, RefusesTexts};
 
 use ber_core::{Sink, Source, put_all};
 use ill_normal::{
@@ -100,7 +100,7 @@ fn line_of(verdict: Verdict) -> &'static [u8]
 }
 
 fn compare(alloc: Global, profile: Profile, one: &[u8], other: &[u8]) -> Result<Verdict, RunFault>
-    ensures compares { IfOk result (Compares (profile_of profile) one.now other.now) }
+    ensures compares { IfOk result (AreCompared (profile_of profile) one.now other.now) }
     ensures refuses { IfErr result (NotCompared (profile_of profile) one.now other.now) }
 {
     match same_message_as(alloc, profile, one, other) {

@@ -4,7 +4,7 @@ ghost use Rattle.ill_schema.specs.Profiles.{profile_of};
 ghost use Rattle.ill_normal.specs.Calls.{taking, putting};
 ghost use Rattle.ill_normal.specs.Skipping.{SkipsToEnd, reporting};
 ghost use Rattle.ill_commands.specs.Output.{message_output, is_counted_good};
-ghost use Rattle.ill_commands.specs.Skipping.{RunsSkipping, RunsSkippingFails, StopsFor, verdict_of_counts};
+ghost use Rattle.ill_commands.specs.Skipping.{RunsSkipping, RunsSkippingFails, SkippingJobStops, verdict_of_counts};
 
 use crate::job::{Job, JobOptions};
 use crate::messages::verdict;
@@ -101,7 +101,7 @@ fn skip_messages<R: Source, L: Lookahead<R>, W: Sink, T: ReportRefusals>(
         (taking (R.left source.old) (R.left source.new) (R.is_broken source.new))
         (putting (W.contents sink.old) (W.contents sink.new) (W.is_broken sink.new))
         (reporting (T.reported reports.old) (T.reported reports.new))) }
-    ensures halts { IfErr result (StopsFor work.entry
+    ensures stops { IfErr result (SkippingJobStops work.entry
         (taking (R.left source.old) (R.left source.new) (R.is_broken source.new))
         (putting (W.contents sink.old) (W.contents sink.new) (W.is_broken sink.new))
         (reporting (T.reported reports.old) (T.reported reports.new))) }

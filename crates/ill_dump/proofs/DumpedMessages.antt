@@ -12,13 +12,13 @@ use Rattle.ill_refusals.specs.Fault.{Fault, fault_of}
 use Rattle.ill_refusals.specs.Outcome.{OnlyRefuses}
 use Rattle.ill_read.specs.Answers.{IfReadRefused}
 use Rattle.ill_read.specs.declared.failure.ReadFailure.{ReadFailure}
-use Rattle.ill_normal.specs.Inputs.{IsFault}
+use Rattle.ill_normal.specs.Inputs.{IsResourceFault}
 use Rattle.ill_normal.specs.declared.run_fault.RunFault.{RunFault}
 use Rattle.ill_dump.specs.declared.markup.DumpFormat.{DumpFormat}
 use Rattle.ill_dump.specs.declared.run.DumpOptions.{DumpOptions}
 use Rattle.ill_dump.specs.Markup.{shown_in, tags_in}
 use Rattle.ill_normal.specs.Inputs.{label_of}
-use Rattle.ill_dump.specs.Dumped.{AreDumped, BreaksSink, BreaksSource, Dumps, DumpsUpTo, IsLast, StopsIn, dumped, dumped_from, head, is_chosen}
+use Rattle.ill_dump.specs.Dumped.{AreDumped, BreaksSink, BreaksSource, WritesDump, DumpsUpTo, IsLastDumped, DumpStopsIn, dumped, dumped_from, head, is_chosen}
 use Rattle.ill_normal.specs.InputEnds.{GoesOn}
 use Rattle.ill_normal.specs.declared.input_end.EndError.{EndError}
 use Rattle.ill_normal.specs.Calls.{taking, putting}
@@ -26,7 +26,7 @@ use Rattle.ill_normal.specs.Visiting.{no_counts, with_accepted}
 use Rattle.ill_normal.specs.declared.visit.MessageCounts.{MessageCounts}
 use Rattle.ill_dump.specs.code.Dumping.{HasDumped}
 use Rattle.ill_dump.specs.code.Failing.{FollowsFrom, fault_of_end}
-use Rattle.ill_dump.specs.code.Putting.{BeginsIf, BeginsWith, IfRefused, Puts, is_enough}
+use Rattle.ill_dump.specs.code.Putting.{BeginsIf, BeginsWith, IfRefusedMessage, Puts, is_enough}
 
 -- what waits for the sink
 
@@ -109,7 +109,7 @@ dumped_push dump i (part ∷ parts) more =
     ap (λ l. dumped dump i part ++ l) (dumped_push dump (suc i) parts more ∙ ap (λ (n : ℕ). dumped_from dump (suc i) parts ++ dumped dump n more) number)
     ∙ sym (append_assoc (dumped dump i part) (dumped_from dump (suc i) parts) (dumped dump (i + suc (length parts)) more))
 
-pub dumps_none : (dump : DumpOptions) (held : Option (List ℕ)) → Dumps dump 0 held held
+pub dumps_none : (dump : DumpOptions) (held : Option (List ℕ)) → WritesDump dump 0 held held
 dumps_none dump held = record { parts = []; count = refl; written = Appends-nil held }
 
 -- what was written of message i
@@ -118,7 +118,7 @@ dumps_one dump i true held held' e h = (h.0, subst (λ (b : Bool). Appends held 
 dumps_one dump i false held held' e h =
     ([], subst (λ (b : Bool). Appends held held' (if b then head dump i ++ [] else [])) (sym e) (subst (λ (z : Option (List ℕ)). Appends held z []) h (Appends-nil held)))
 
-pub dumps_more : (dump : DumpOptions) (n : ℕ) (held held' held'' : Option (List ℕ)) → Dumps dump n held held' → BeginsIf (is_chosen dump.only (n + 1)) held' held'' (head dump (n + 1)) → Dumps dump (n + 1) held held''
+pub dumps_more : (dump : DumpOptions) (n : ℕ) (held held' held'' : Option (List ℕ)) → WritesDump dump n held held' → BeginsIf (is_chosen dump.only (n + 1)) held' held'' (head dump (n + 1)) → WritesDump dump (n + 1) held held''
 dumps_more dump n held held' held'' d h =
     let one = dumps_one dump (n + 1) (is_chosen dump.only (n + 1)) held' held'' refl h in
     let number : n + 1 ≡ 1 + length d.parts = omega (arith, d.count) in
@@ -157,7 +157,7 @@ dumped_more dump left left' left'' held held' held'' x y x' y' counts a b octets
 
 -- the last one was reached
 pub dumped_all : (dump : DumpOptions) (left left' left'' held held' : Option (List ℕ)) (x y : Bool) (counts : MessageCounts) → HasDumped dump (taking left left' x) (putting held held' y) counts
-    → Consumes left' left'' [] → IsLast dump counts.messages left'' → counts.messages ≤ 1_000_000
+    → Consumes left' left'' [] → IsLastDumped dump counts.messages left'' → counts.messages ≤ 1_000_000
     → AreDumped dump left left'' held held' counts.messages
 dumped_all dump left left' left'' held held' x y counts h none last few = record {
   apdus = h.apdus;
@@ -171,7 +171,7 @@ dumped_all dump left left' left'' held held' x y counts h none last few = record
 }
 
 -- memory, the source or the sink failed
-pub stops_in : (q : Profile) (left : Option (List ℕ)) (fault : RunFault) → IsFault fault → IfSome left (λ s. StopsIn q s fault)
+pub stops_in : (q : Profile) (left : Option (List ℕ)) (fault : RunFault) → IsResourceFault fault → IfSome left (λ s. DumpStopsIn q s fault)
 stops_in q None fault h = tt
 stops_in q (Some s) (RunFault.Refused message refusal) h = absurd h
 stops_in q (Some s) (RunFault.RefusedSide side refusal) h = absurd h
@@ -187,7 +187,7 @@ module _ (dump : DumpOptions) (held held' : Option (List ℕ)) where
   abbrev q : Profile
   q = profile_of dump.profile
 
-  pub dumps_before : (fault : RunFault) → IsFault fault → DumpsUpTo dump fault held held'
+  pub dumps_before : (fault : RunFault) → IsResourceFault fault → DumpsUpTo dump fault held held'
   dumps_before (RunFault.Refused message refusal) h = absurd h
   dumps_before (RunFault.RefusedSide side refusal) h = tt
   dumps_before RunFault.OddHex h = tt
@@ -213,7 +213,7 @@ module _ (dump : DumpOptions) (held held' : Option (List ℕ)) where
 
   -- a message that is refused after these is the first one, or memory, the source or the sink failed
   pub stops_next : (left left' : Option (List ℕ)) (x y : Bool) (counts : MessageCounts) (i : ℕ) (failure : ReadFailure) (fault : RunFault) → HasDumped dump (taking left left' x) (putting held held' y) counts → i ≡ counts.messages + 1
-      → IfReadRefused failure (λ f. IfSome left' (λ s. (0 < length s) × OnlyRefuses q s f)) → FollowsFrom i failure fault → IfSome left (λ s. StopsIn q s fault)
+      → IfReadRefused failure (λ f. IfSome left' (λ s. (0 < length s) × OnlyRefuses q s f)) → FollowsFrom i failure fault → IfSome left (λ s. DumpStopsIn q s fault)
   stops_next left left' x y counts i failure (RunFault.Refused message refusal) h n only follows =
       refused_next left left' x y counts message (fault_of refusal) h (follows.0 ∙ n)
       (subst (λ z. IfReadRefused z (λ f. IfSome left' (λ s. (0 < length s) × OnlyRefuses q s f))) follows.1 only)
@@ -227,10 +227,10 @@ module _ (dump : DumpOptions) (held held' : Option (List ℕ)) where
   stops_next left left' x y counts i failure (RunFault.WriteFault at) h n only follows = stops_in q left (RunFault.WriteFault at) tt
 
   -- and it was written
-  pub dumps_next : (held'' : Option (List ℕ)) (count i : ℕ) (failure : ReadFailure) (fault : RunFault) → Dumps dump count held held' → i ≡ count + 1
-      → FollowsFrom i failure fault → IfRefused fault (BeginsIf (is_chosen dump.only i) held' held'' (head dump i)) → DumpsUpTo dump fault held held''
+  pub dumps_next : (held'' : Option (List ℕ)) (count i : ℕ) (failure : ReadFailure) (fault : RunFault) → WritesDump dump count held held' → i ≡ count + 1
+      → FollowsFrom i failure fault → IfRefusedMessage fault (BeginsIf (is_chosen dump.only i) held' held'' (head dump i)) → DumpsUpTo dump fault held held''
   dumps_next held'' count i failure (RunFault.Refused message refusal) d n follows begins =
-      subst (λ (k : ℕ). Dumps dump k held held'') (sym (follows.0 ∙ n)) (dumps_more dump count held held' held'' d (subst (λ (k : ℕ). BeginsIf (is_chosen dump.only k) held' held'' (head dump k)) n begins))
+      subst (λ (k : ℕ). WritesDump dump k held held'') (sym (follows.0 ∙ n)) (dumps_more dump count held held' held'' d (subst (λ (k : ℕ). BeginsIf (is_chosen dump.only k) held' held'' (head dump k)) n begins))
   dumps_next held'' count i failure (RunFault.RefusedSide side refusal) d n follows begins = tt
   dumps_next held'' count i failure RunFault.OddHex d n follows begins = tt
   dumps_next held'' count i failure (RunFault.BadHex at) d n follows begins = tt
@@ -242,7 +242,7 @@ module _ (dump : DumpOptions) (held held' : Option (List ℕ)) where
 
   -- after 1,000,000 messages an octet was taken, or the source broke
   pub stops_full : (left left' left'' : Option (List ℕ)) (x y broken : Bool) (counts : MessageCounts) (error : EndError) → HasDumped dump (taking left left' x) (putting held held' y) counts → counts.messages ≡ 1_000_000
-      → GoesOn left' left'' broken error → IfSome left (λ s. StopsIn q s (fault_of_end error))
+      → GoesOn left' left'' broken error → IfSome left (λ s. DumpStopsIn q s (fault_of_end error))
   stops_full None left' left'' x y broken counts error h full more = tt
   stops_full (Some s) left' left'' x y broken counts EndError.Broken h full more = tt
   stops_full (Some s) None left'' x y broken counts EndError.MoreOctets h full more = absurd h.taken
@@ -250,8 +250,8 @@ module _ (dump : DumpOptions) (held held' : Option (List ℕ)) where
   stops_full (Some s) (Some t) (Some u) x y broken counts EndError.MoreOctets h full more =
       (h.apdus, t, stream_of s t (Some t) x y counts h refl, h.counted ∙ full, omega (arith, ap length more.1))
 
-  pub dumps_full : (count : ℕ) (error : EndError) → Dumps dump count held held' → count ≡ 1_000_000 → DumpsUpTo dump (fault_of_end error) held held'
-  dumps_full count EndError.MoreOctets h full = subst (λ (k : ℕ). Dumps dump k held held') full h
+  pub dumps_full : (count : ℕ) (error : EndError) → WritesDump dump count held held' → count ≡ 1_000_000 → DumpsUpTo dump (fault_of_end error) held held'
+  dumps_full count EndError.MoreOctets h full = subst (λ (k : ℕ). WritesDump dump k held held') full h
   dumps_full count EndError.Broken h full = tt
 
 -- the source is broken after a read fault

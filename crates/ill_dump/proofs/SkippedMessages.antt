@@ -11,7 +11,7 @@ use Rattle.ill_normal.specs.Calls.{taking, putting}
 use Rattle.ill_normal.specs.Items.{Item, Adds, IsRefusedFor, report}
 use Rattle.ill_normal.specs.Messages.{MakesIn, Spelling, counted, position}
 use Rattle.ill_normal.specs.Next.{TakesPart}
-use Rattle.ill_normal.specs.Skipping.{Goes, HasNoEnd, IsDone, Reporting, reporting}
+use Rattle.ill_normal.specs.Skipping.{Skips, HasNoEnd, HasNothingLeft, Reporting, reporting}
 use Rattle.ill_normal.specs.declared.next_message.TakeError.{TakeError}
 use Rattle.ill_normal.specs.declared.messages.MessagePlace.{MessagePlace}
 use Rattle.ill_normal.specs.declared.messages.RenderedMessage.{RenderedMessage}
@@ -20,10 +20,10 @@ use Rattle.ill_normal.proofs.SkippedMessages.{skipped_bad, skipped_good, skipped
 use Rattle.ill_normal.specs.Visiting.{no_counts, with_accepted, with_last, with_refused}
 use Rattle.ill_normal.specs.code.SkippingEnds.{HasSkipped}
 use Rattle.ill_normal.specs.declared.visit.MessageCounts.{MessageCounts}
-use Rattle.ill_normal.specs.Inputs.{IsFault}
+use Rattle.ill_normal.specs.Inputs.{IsResourceFault}
 use Rattle.ill_normal.specs.declared.run_fault.RunFault.{RunFault}
-use Rattle.ill_dump.specs.Dumped.{BreaksSink, Dumps, head, is_chosen}
-use Rattle.ill_dump.specs.Skipping.{DumpHalts, DumpsOn, GoesOver, HaltsFor, IsEnough}
+use Rattle.ill_dump.specs.Dumped.{BreaksSink, WritesDump, head, is_chosen}
+use Rattle.ill_dump.specs.Skipping.{DumpSkipsAndStops, DumpsOn, DumpSkips, DumpStopsFor, IsEnough}
 use Rattle.ill_dump.specs.declared.run.DumpOptions.{DumpOptions}
 use Rattle.ill_normal.specs.InputEnds.{GoesOn}
 use Rattle.ill_normal.specs.declared.input_end.EndError.{EndError}
@@ -35,8 +35,8 @@ use Rattle.ill_dump.proofs.DumpedMessages.{dumps_more, dumps_none}
 pub over_none : (dump : DumpOptions) (left held : Option (List ℕ)) (x y : Bool) (r : Option (List RefusalReport)) → HasDumpedOn dump (taking left left x) (putting held held y) (reporting r r) no_counts
 over_none dump left held x y r = record { skipped = skipped_none dump.profile nothing every left None x false r; dumps = dumps_none dump held }
 
-goes_over : (dump : DumpOptions) (left left' : Option (List ℕ)) (reports : Reporting) (items : List Item) → Goes (profile_of dump.profile) nothing left left' None None reports items
-    → GoesOver (profile_of dump.profile) left left' reports items
+goes_over : (dump : DumpOptions) (left left' : Option (List ℕ)) (reports : Reporting) (items : List Item) → Skips (profile_of dump.profile) nothing left left' None None reports items
+    → DumpSkips (profile_of dump.profile) left left' reports items
 goes_over dump left left' reports items g = record { octets = g.octets; are = g.are; taken = g.taken; reported = g.reported }
 
 module _ (dump : DumpOptions) (left left' left'' held held' held'' : Option (List ℕ)) (old new next : Option (List RefusalReport)) (x₀ y₀ x y : Bool) (counts : MessageCounts)
@@ -65,13 +65,13 @@ module _ (dump : DumpOptions) (left left' left'' held held' held'' : Option (Lis
   }
 
   -- nothing was left, or no other message is chosen
-  pub over_end : (IsDone left' left'' (reporting new new) ⊎ IsEnough dump.only counts.messages left' left'' (reporting new new)) → DumpsOn dump left left'' held held' (reporting old new) (dump_counts counts)
+  pub over_end : (HasNothingLeft left' left'' (reporting new new) ⊎ IsEnough dump.only counts.messages left' left'' (reporting new new)) → DumpsOn dump left left'' held held' (reporting old new) (dump_counts counts)
   over_end end = record {
     items = r.skipped.items;
     rest = left';
     reported = new;
     goes = goes_over dump left left' (reporting old new) r.skipped.items r.skipped.goes;
-    ends = inl (subst (λ (k : ℕ). IsDone left' left'' (reporting new new) ⊎ IsEnough dump.only k left' left'' (reporting new new)) r.skipped.count end, (r.skipped.count, r.skipped.bad_ones));
+    ends = inl (subst (λ (k : ℕ). HasNothingLeft left' left'' (reporting new new) ⊎ IsEnough dump.only k left' left'' (reporting new new)) r.skipped.count end, (r.skipped.count, r.skipped.bad_ones));
     few = r.skipped.few;
     dumps = r.dumps;
   }
@@ -95,44 +95,44 @@ module _ (dump : DumpOptions) (left left' left'' held held' held'' : Option (Lis
         dumps = dumps_more dump counts.messages held held' held'' r.dumps begins;
       }
 
-  pub over_halts : (grown : Option (List ℕ)) (fault : RunFault) → HaltsFor (profile_of dump.profile) (taking left' left'' x) (putting held' grown y) counts.messages fault
-      → DumpHalts dump (taking left left'' x) (putting held grown y) (reporting old new) fault
-  over_halts grown fault h = record {
+  pub over_stops : (grown : Option (List ℕ)) (fault : RunFault) → DumpStopsFor (profile_of dump.profile) (taking left' left'' x) (putting held' grown y) counts.messages fault
+      → DumpSkipsAndStops dump (taking left left'' x) (putting held grown y) (reporting old new) fault
+  over_stops grown fault h = record {
     items = r.skipped.items;
     rest = left';
     grown = held';
     goes = goes_over dump left left' (reporting old new) r.skipped.items r.skipped.goes;
-    dumps = subst (λ (k : ℕ). Dumps dump k held held') r.skipped.count r.dumps;
-    halts = subst (λ (k : ℕ). HaltsFor (profile_of dump.profile) (taking left' left'' x) (putting held' grown y) k fault) r.skipped.count h;
+    dumps = subst (λ (k : ℕ). WritesDump dump k held held') r.skipped.count r.dumps;
+    stops = subst (λ (k : ℕ). DumpStopsFor (profile_of dump.profile) (taking left' left'' x) (putting held' grown y) k fault) r.skipped.count h;
   }
 
 module _ (dump : DumpOptions) (left' left'' held' held'' : Option (List ℕ)) (before : ℕ) where
   module _ (x y : Bool) where
     -- no message was taken
-    pub halts_unread : (u : TakeError) → before < 1_000_000 → (u ≡ TakeError.Broken → IsTrue x × TakesPart left' left'')
-        → HaltsFor (profile_of dump.profile) (taking left' left'' x) (putting held' held' y) before (fault_of_take u)
-    halts_unread TakeError.OutOfMemory lt broken = lt
-    halts_unread TakeError.Broken lt broken =
+    pub stops_unread : (u : TakeError) → before < 1_000_000 → (u ≡ TakeError.Broken → IsTrue x × TakesPart left' left'')
+        → DumpStopsFor (profile_of dump.profile) (taking left' left'' x) (putting held' held' y) before (fault_of_take u)
+    stops_unread TakeError.OutOfMemory lt broken = lt
+    stops_unread TakeError.Broken lt broken =
         let b = broken refl in
         (omega arith, b.0, ((b.1.octets, b.1.taken, b.1.unfinished dump.profile), λ full. absurd (omega (arith, lt, full))), Keeps-refl held')
 
     -- memory ran out, or the sink broke
-    pub halts_writing : (fault : RunFault) → IsFault fault → fault ≢ RunFault.ReadFault → BreaksSink fault y → before < 1_000_000
-        → HaltsFor (profile_of dump.profile) (taking left' left'' x) (putting held' held'' y) before fault
-    halts_writing (RunFault.Refused message refusal) h not broken lt = absurd h
-    halts_writing (RunFault.RefusedSide side refusal) h not broken lt = absurd h
-    halts_writing RunFault.OddHex h not broken lt = absurd h
-    halts_writing (RunFault.BadHex n) h not broken lt = absurd h
-    halts_writing RunFault.HexTooLong h not broken lt = absurd h
-    halts_writing RunFault.TooManyMessages h not broken lt = absurd h
-    halts_writing RunFault.OutOfMemory h not broken lt = lt
-    halts_writing RunFault.ReadFault h not broken lt = absurd (not refl)
-    halts_writing (RunFault.WriteFault n) h not broken lt = (lt, broken)
+    pub stops_writing : (fault : RunFault) → IsResourceFault fault → fault ≢ RunFault.ReadFault → BreaksSink fault y → before < 1_000_000
+        → DumpStopsFor (profile_of dump.profile) (taking left' left'' x) (putting held' held'' y) before fault
+    stops_writing (RunFault.Refused message refusal) h not broken lt = absurd h
+    stops_writing (RunFault.RefusedSide side refusal) h not broken lt = absurd h
+    stops_writing RunFault.OddHex h not broken lt = absurd h
+    stops_writing (RunFault.BadHex n) h not broken lt = absurd h
+    stops_writing RunFault.HexTooLong h not broken lt = absurd h
+    stops_writing RunFault.TooManyMessages h not broken lt = absurd h
+    stops_writing RunFault.OutOfMemory h not broken lt = lt
+    stops_writing RunFault.ReadFault h not broken lt = absurd (not refl)
+    stops_writing (RunFault.WriteFault n) h not broken lt = (lt, broken)
 
     -- after the last message that an input may have an octet was taken, or the source broke
-    pub halts_at_last : (error : EndError) → before ≡ 1_000_000 → GoesOn left' left'' x error
-        → HaltsFor (profile_of dump.profile) (taking left' left'' x) (putting held' held' y) before (fault_of_end error)
-    halts_at_last EndError.MoreOctets last e = (last, e, Keeps-refl held')
-    halts_at_last EndError.Broken last e =
+    pub stops_at_last : (error : EndError) → before ≡ 1_000_000 → GoesOn left' left'' x error
+        → DumpStopsFor (profile_of dump.profile) (taking left' left'' x) (putting held' held' y) before (fault_of_end error)
+    stops_at_last EndError.MoreOctets last e = (last, e, Keeps-refl held')
+    stops_at_last EndError.Broken last e =
         let none = Consumes-kept left' left' left'' [] (Consumes-nil left') e.1 in
         (omega (arith, last), e.0, (([], none, λ a i accepted. accepts_some (profile_of dump.profile) [] a i refl accepted), λ full. e.1), Keeps-refl held')

@@ -10,7 +10,7 @@ use Rattle.ill_refusals.specs.Outcome.{OnlyRefuses}
 use Rattle.ill_read.specs.Answers.{RefusesWholeIn}
 use Rattle.ill_normal.specs.declared.run_fault.RunFault.{RunFault}
 use Rattle.ill_normal.specs.Inputs.{label_of}
-use Rattle.ill_normal.specs.Inputs.{FailsText, IsFault, TextOf}
+use Rattle.ill_normal.specs.Inputs.{FailsText, IsResourceFault, TextOf}
 use Rattle.ill_dump.specs.Markup.{shown_in, tags_in}
 use Rattle.ill_dump.specs.declared.run.DumpOptions.{DumpOptions}
 
@@ -35,14 +35,14 @@ dumped_from dump i [] = []
 dumped_from dump i (more ∷ others) = dumped dump i more ++ dumped_from dump (suc i) others
 
 -- n messages were read, from the first one on, and those of them that are chosen were written
-pub record Dumps (dump : DumpOptions) (n : ℕ) (held held' : Option (List ℕ)) : Type 0 where
+pub record WritesDump (dump : DumpOptions) (n : ℕ) (held held' : Option (List ℕ)) : Type 0 where
   pub parts : List (List ℕ)
   pub count : length parts ≡ n
   pub written : Appends held held' (dumped_from dump 1 parts)
 
 -- after this many messages the input is at its end, or no other message is chosen
-abbrev pub IsLast : DumpOptions → ℕ → Option (List ℕ) → Type 0
-IsLast dump n left' = IsAtEnd left' ⊎ (dump.only ≡ Some n)
+abbrev pub IsLastDumped : DumpOptions → ℕ → Option (List ℕ) → Type 0
+IsLastDumped dump n left' = IsAtEnd left' ⊎ (dump.only ≡ Some n)
 
 -- the octets that were taken are this number of messages, at most 1,000,000, up to the last one; those that are chosen were written
 pub record AreDumped (dump : DumpOptions) (left left' held held' : Option (List ℕ)) (count : ℕ) : Type 0 where
@@ -51,9 +51,9 @@ pub record AreDumped (dump : DumpOptions) (left left' held held' : Option (List 
   pub stream : IsStream (profile_of dump.profile) octets apdus []
   pub taken : Consumes left left' octets
   pub counted : count ≡ length apdus
-  pub last : IsLast dump count left'
+  pub last : IsLastDumped dump count left'
   pub few : count ≤ 1_000_000
-  pub dumps : Dumps dump count held held'
+  pub dumps : WritesDump dump count held held'
 
 -- the same of an input that is read as octets, or as hexadecimal text
 abbrev pub DumpDone : Bool → DumpOptions → Option (List ℕ) → Option (List ℕ) → Option (List ℕ) → Option (List ℕ) → ℕ → Type 0
@@ -63,26 +63,26 @@ DumpDone true dump left left' held held' count =
 
 -- the first message that is refused has this number, and the refusal is the one fault of what is left there; or 1,000,000 messages come before
 -- the end; or memory, the source or the sink failed
-abbrev pub StopsIn : Profile → List ℕ → RunFault → Type 0
-StopsIn q s (RunFault.Refused message refusal) =
+abbrev pub DumpStopsIn : Profile → List ℕ → RunFault → Type 0
+DumpStopsIn q s (RunFault.Refused message refusal) =
     (apdus : List Apdu) × (rest : List ℕ) × IsStream q s apdus rest × (message ≡ length apdus + 1)
     × (0 < length rest) × OnlyRefuses q rest (fault_of refusal)
-StopsIn q s RunFault.TooManyMessages =
+DumpStopsIn q s RunFault.TooManyMessages =
     (apdus : List Apdu) × (rest : List ℕ) × IsStream q s apdus rest × (length apdus ≡ 1_000_000) × (0 < length rest)
-StopsIn q s fault = IsFault fault
+DumpStopsIn q s fault = IsResourceFault fault
 
 -- the messages up to the one that is refused were read, and it, too; or 1,000,000 of them
 abbrev pub DumpsUpTo : DumpOptions → RunFault → Option (List ℕ) → Option (List ℕ) → Type 0
-DumpsUpTo dump (RunFault.Refused message refusal) held held' = Dumps dump message held held'
-DumpsUpTo dump RunFault.TooManyMessages held held' = Dumps dump 1_000_000 held held'
+DumpsUpTo dump (RunFault.Refused message refusal) held held' = WritesDump dump message held held'
+DumpsUpTo dump RunFault.TooManyMessages held held' = WritesDump dump 1_000_000 held held'
 DumpsUpTo dump fault held held' = Unit {0}
 
 -- an input that is read as octets, or as hexadecimal text, ends in this fault; where a text isn't read nothing is written
 abbrev pub DumpFails : Bool → DumpOptions → Option (List ℕ) → Option (List ℕ) → Bool → Option (List ℕ) → Option (List ℕ) → RunFault → Type 0
-DumpFails false dump left left' broken held held' fault = IfSome left (λ s. StopsIn (profile_of dump.profile) s fault) × DumpsUpTo dump fault held held'
+DumpFails false dump left left' broken held held' fault = IfSome left (λ s. DumpStopsIn (profile_of dump.profile) s fault) × DumpsUpTo dump fault held held'
 DumpFails true dump left left' broken held held' fault =
     (FailsText left left' broken fault × Keeps held held')
-    ⊎ ((octets : List ℕ) × TextOf left left' octets × StopsIn (profile_of dump.profile) octets fault × DumpsUpTo dump fault held held')
+    ⊎ ((octets : List ℕ) × TextOf left left' octets × DumpStopsIn (profile_of dump.profile) octets fault × DumpsUpTo dump fault held held')
 
 -- after a read fault the source is broken
 abbrev pub BreaksSource : RunFault → Bool → Type 0

@@ -1,6 +1,6 @@
 //! The causes of refusals in words.
 use crate::lines::LineBuffer;
-use ill_schema::{Cause, PartId, Refusal, part_name};
+use ill_schema::Refusal;
 use std::alloc::AllocError;
 
 /// `refused at`, the offset, and the cause with the part that it is about.
@@ -10,20 +10,12 @@ pub fn put_refusal(lines: &mut LineBuffer, refusal: Refusal) -> Result<(), Alloc
     lines.number(i64::from(refusal.at))?;
     lines.text(": ")?;
     lines.text(refusal.cause.name())?;
-    match refusal.cause {
-        Cause::LeftOut(part) | Cause::Missing(part) => put_part(lines, part)?,
-        _ => {}
+    if let Some((node, row)) = refusal.cause.part_name() {
+        lines.text(" ")?;
+        lines.text(node)?;
+        lines.text(".")?;
+        lines.text(row)?;
     }
     lines.tags("</b>")?;
     lines.text("\n")
-}
-
-fn put_part(lines: &mut LineBuffer, part: PartId) -> Result<(), AllocError> {
-    let Some((node, row)) = part_name(part) else {
-        return Ok(());
-    };
-    lines.text(" ")?;
-    lines.text(node)?;
-    lines.text(".")?;
-    lines.text(row)
 }

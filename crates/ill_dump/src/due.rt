@@ -1,4 +1,4 @@
-//! What is due at a place.
+//! The elements that are due at a place.
 use crate::label::{Label, label_of, put_tag};
 use crate::lines::LineBuffer;
 use crate::walk::ElementWalk;

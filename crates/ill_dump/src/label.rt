@@ -8,15 +8,15 @@ use std::alloc::AllocError;
 /// The name of an element.
 #[derive(Clone, Copy)]
 pub enum Label {
-    /// That of its row, or of the alternative that it is.
+    /// The name of its row, or of the alternative that it is.
     Row(PartId),
-    /// Those of a row, and of the alternative of its choice.
+    /// The names of a row, and of the alternative of its choice.
     Alternative(PartId, PartId),
-    /// That of the row of a list, and how many items come before it.
+    /// The name of the row of a list, and the number of items before it.
     Item(PartId, usize),
-    /// That of its type: the row's name is that of the element round it.
+    /// The name of its type, where the element round it has the name of the row.
     Type(&'static str),
-    /// Its class and number: those of an element of a foreign tree.
+    /// The class and number of an element of a foreign tree.
     Tag(Class, u32),
 }
 

@@ -3,7 +3,7 @@ ghost use Rattle.std.specs.Prelude.{◌≡◌, ◌≢◌, ◌++◌, [], Ok, IfOk
 ghost use Rattle.std.specs.Io.KnownBytes.{Appends};
 ghost use Rattle.ill_normal.specs.declared.run_fault.RunFault.{RunFault};
 ghost use Rattle.ill_normal.specs.Inputs.{label_of};
-ghost use Rattle.ill_normal.specs.Inputs.{IsFault};
+ghost use Rattle.ill_normal.specs.Inputs.{IsResourceFault};
 ghost use Rattle.ill_dump.specs.Dumped.{BreaksSink, head, is_chosen};
 ghost use Rattle.ill_dump.specs.Markup.{shown_in};
 ghost use Rattle.ill_dump.specs.code.Putting.{BeginsIf, BeginsWith, Puts};
@@ -50,7 +50,7 @@ impl DumpSink {
             (self.old.head.octets.items ++ self.old.lines.octets.items)) }
         ensures none { OnOk result (self.new.head.octets.items ≡ []) }
         ensures breaks { IfErr result (λ fault. BreaksSink fault (W.is_broken sink.new)) }
-        ensures refuses { IfErr result IsFault }
+        ensures refuses { IfErr result IsResourceFault }
         ensures writes { IfErr result (λ fault. fault ≢ RunFault.ReadFault) }
         ensures stays { IsTrue (W.is_broken sink.old) → IsTrue (W.is_broken sink.new) }
     {
@@ -65,7 +65,7 @@ fn send<W: Sink>(lines: &mut LineBuffer, written: &mut u128, sink: &mut W) -> Re
         lines.old.octets.items) }
     ensures none { OnOk result (lines.new.octets.items ≡ []) }
     ensures breaks { IfErr result (λ fault. BreaksSink fault (W.is_broken sink.new)) }
-    ensures refuses { IfErr result IsFault }
+    ensures refuses { IfErr result IsResourceFault }
     ensures writes { IfErr result (λ fault. fault ≢ RunFault.ReadFault) }
     ensures stays { IsTrue (W.is_broken sink.old) → IsTrue (W.is_broken sink.new) }
 {
@@ -94,7 +94,7 @@ pub fn put_message<W: Sink>(
         (W.contents sink.old) (W.contents sink.new) (head dump.entry message)) }
     ensures none { OnOk result (out.new.head.octets.items ≡ []) }
     ensures breaks { IfErr result (λ fault. BreaksSink fault (W.is_broken sink.new)) }
-    ensures refuses { IfErr result IsFault }
+    ensures refuses { IfErr result IsResourceFault }
     ensures writes { IfErr result (λ fault. fault ≢ RunFault.ReadFault) }
     ensures stays { IsTrue (W.is_broken sink.old) → IsTrue (W.is_broken sink.new) }
 {
@@ -119,7 +119,7 @@ pub fn put_refused<W: Sink>(
         (W.contents sink.old) (W.contents sink.new) (head dump.entry message)) }
     ensures none { OnOk result (out.new.head.octets.items ≡ []) }
     ensures breaks { IfErr result (λ fault. BreaksSink fault (W.is_broken sink.new)) }
-    ensures refuses { IfErr result IsFault }
+    ensures refuses { IfErr result IsResourceFault }
     ensures writes { IfErr result (λ fault. fault ≢ RunFault.ReadFault) }
     ensures stays { IsTrue (W.is_broken sink.old) → IsTrue (W.is_broken sink.new) }
 {
@@ -143,7 +143,7 @@ fn put_accepted<W: Sink>(
         (out.old.head.octets.items ++ head dump.entry message)) }
     ensures none { OnOk result (out.new.head.octets.items ≡ []) }
     ensures breaks { IfErr result (λ fault. BreaksSink fault (W.is_broken sink.new)) }
-    ensures refuses { IfErr result IsFault }
+    ensures refuses { IfErr result IsResourceFault }
     ensures writes { IfErr result (λ fault. fault ≢ RunFault.ReadFault) }
     ensures stays { IsTrue (W.is_broken sink.old) → IsTrue (W.is_broken sink.new) }
 {
@@ -169,7 +169,7 @@ fn put_place<W: Sink>(
         (out.old.head.octets.items ++ head dump.entry message)) }
     ensures none { OnOk result (out.new.head.octets.items ≡ []) }
     ensures breaks { IfErr result (λ fault. BreaksSink fault (W.is_broken sink.new)) }
-    ensures refuses { IfErr result IsFault }
+    ensures refuses { IfErr result IsResourceFault }
     ensures writes { IfErr result (λ fault. fault ≢ RunFault.ReadFault) }
     ensures stays { IsTrue (W.is_broken sink.old) → IsTrue (W.is_broken sink.new) }
 {
@@ -194,7 +194,7 @@ fn put_rest<W: Sink>(
     ensures puts { OnOk result (Puts (W.contents sink.old) (W.contents sink.new)
         out.old.head.octets.items out.new.head.octets.items) }
     ensures breaks { IfErr result (λ fault. BreaksSink fault (W.is_broken sink.new)) }
-    ensures refuses { IfErr result IsFault }
+    ensures refuses { IfErr result IsResourceFault }
     ensures writes { IfErr result (λ fault. fault ≢ RunFault.ReadFault) }
     ensures stays { IsTrue (W.is_broken sink.old) → IsTrue (W.is_broken sink.new) }
 {
@@ -219,7 +219,7 @@ fn put_elements<S: Steps, W: Sink>(
     ensures puts { OnOk result (Puts (W.contents sink.old) (W.contents sink.new)
         out.old.head.octets.items out.new.head.octets.items) }
     ensures breaks { IfErr result (λ fault. BreaksSink fault (W.is_broken sink.new)) }
-    ensures refuses { IfErr result IsFault }
+    ensures refuses { IfErr result IsResourceFault }
     ensures writes { IfErr result (λ fault. fault ≢ RunFault.ReadFault) }
     ensures stays { IsTrue (W.is_broken sink.old) → IsTrue (W.is_broken sink.new) }
 {

@@ -94,8 +94,8 @@ fn text_of(walk: &ElementWalk, cause: Cause) -> &'static str {
     }
 }
 
-/// That what is refused is not wrong by ISO 10161-1, where this is so or may be so: the module profile reads what profile 2 leaves out or
-/// tags in another way, and other things neither reads.
+/// Puts a hint that the message is not wrong by ISO 10161-1, where this is or may be so. The module profile reads what profile 2 leaves
+/// out or tags in another way; there are things that neither reads.
 fn put_hint(
     lines: &mut LineBuffer,
     walk: &ElementWalk,

@@ -7,7 +7,7 @@ ghost use Rattle.ill_normal.specs.Calls.{putting, taking};
 ghost use Rattle.ill_dump.specs.Dumped.{AreDumped, BreaksSink, BreaksSource, DumpDone, DumpFails, head, is_chosen};
 ghost use Rattle.ill_dump.specs.code.Dumping.{HasDumped, StopsDump};
 ghost use Rattle.ill_dump.specs.code.Failing.{FollowsFrom};
-ghost use Rattle.ill_dump.specs.code.Putting.{BeginsIf, IfRefused, is_enough};
+ghost use Rattle.ill_dump.specs.code.Putting.{BeginsIf, IfRefusedMessage, is_enough};
 
 use crate::markup::DumpFormat;
 use crate::put::{DumpSink, put_message, put_refused};
@@ -218,7 +218,7 @@ fn put_failure<R: Source, W: Sink>(
     requires { out.old.head.octets.items ≡ [] }
     ensures follows { FollowsFrom message failure result }
     ensures reads { result ≡ RunFault.ReadFault → failure ≡ ReadFailure.ReadFault }
-    ensures begins { IfRefused result (BeginsIf (is_chosen dump.entry.only message)
+    ensures begins { IfRefusedMessage result (BeginsIf (is_chosen dump.entry.only message)
         (W.contents sink.old) (W.contents sink.new) (head dump.entry message)) }
     ensures breaks { BreaksSink result (W.is_broken sink.new) }
     ensures source_stays { IsTrue (R.is_broken source.old) → IsTrue (R.is_broken source.new) }

@@ -3,7 +3,7 @@ ghost use Rattle.std.specs.Prelude.{◌≡◌, [], IfOk, IfErr, IsTrue};
 ghost use Rattle.ill_normal.specs.Visiting.{putting_of, reporting_of, taking_of};
 ghost use Rattle.ill_normal.specs.Calls.{putting, taking};
 ghost use Rattle.ill_normal.specs.Skipping.{reporting};
-ghost use Rattle.ill_dump.specs.Skipping.{DumpHalts, DumpOnDone, DumpOnFails, DumpsOn};
+ghost use Rattle.ill_dump.specs.Skipping.{DumpSkipsAndStops, DumpOnDone, DumpOnFails, DumpsOn};
 ghost use Rattle.ill_dump.specs.code.Dumping.{HasDumpedOn, dump_counts};
 ghost use Rattle.ill_dump.specs.code.Failing.{fault_of_end, fault_of_take};
 
@@ -74,7 +74,7 @@ fn dump_messages_skipping<R: Source, L: Lookahead<R>, W: Sink, T: ReportRefusals
     ensures through { IfOk result (DumpsOn dump.entry
         (R.left source.old) (R.left source.new) (W.contents sink.old) (W.contents sink.new)
         (reporting (T.reported reports.old) (T.reported reports.new))) }
-    ensures halts { IfErr result (DumpHalts dump.entry
+    ensures stops { IfErr result (DumpSkipsAndStops dump.entry
         (taking (R.left source.old) (R.left source.new) (R.is_broken source.new))
         (putting (W.contents sink.old) (W.contents sink.new) (W.is_broken sink.new))
         (reporting (T.reported reports.old) (T.reported reports.new))) }
@@ -127,7 +127,7 @@ impl VisitMessages for SkippingDumper<'_> {
         (dump_counts counts) };
 
     ghost fails = { λ start from to fault.
-        DumpHalts start.dump (taking_of from to) (putting_of from to)
+        DumpSkipsAndStops start.dump (taking_of from to) (putting_of from to)
         (reporting_of from to) fault };
 
     fn empty_buffer(alloc: Global) -> Vec<u8> {

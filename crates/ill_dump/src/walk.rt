@@ -274,8 +274,8 @@ impl ElementWalk {
         Ok(())
     }
 
-    /// Goes on after a primitive element, or into one that is constructed. Returns whether the octets reach that far.
-    fn pass(&mut self, element: WalkedElement, rest: &[u8]) -> Result<bool, AllocError> {
+    /// Moves past a primitive element, or into a constructed one. Returns whether the octets reach that far.
+    fn move_past(&mut self, element: WalkedElement, rest: &[u8]) -> Result<bool, AllocError> {
         let last = self.open.len().saturating_sub(1);
         if let Some(open) = self.open.get_mut(last) {
             open.items = open.items.saturating_add(1);
@@ -311,7 +311,7 @@ impl Steps for ElementWalk {
             return Ok(false);
         };
         self.put_element(element, octets, rest, lines)?;
-        self.pass(element, rest)
+        self.move_past(element, rest)
     }
 }
 

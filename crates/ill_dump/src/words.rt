@@ -38,7 +38,7 @@ pub fn place_of_refusal(
     }
     let mut lines = LineBuffer::new(alloc, DumpFormat::Text);
     let mut walk = ElementWalk::new(alloc, profile, refusal.at as usize);
-    go_through(&mut walk, octets, &mut lines)?;
+    walk_all(&mut walk, octets, &mut lines)?;
     let place = RefusedPlace::new(&walk, octets, refusal);
     let _ = place.put_path(&mut lines)?;
     words.path = take_text(alloc, &mut lines)?;
@@ -52,8 +52,8 @@ pub fn place_of_refusal(
     Ok(words)
 }
 
-/// Goes through the elements on a way, and forgets their lines.
-fn go_through(
+/// Walks through the elements, and forgets their lines.
+fn walk_all(
     walk: &mut ElementWalk,
     octets: &[u8],
     lines: &mut LineBuffer,

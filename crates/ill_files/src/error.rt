@@ -8,7 +8,7 @@ use crate::open_obstacle::OpenObstacle;
 use clap::Error as LineError;
 use clap::error::ErrorKind;
 use ill_args::LineFault;
-use ill_normal::{Cause, PartId, Refusal, RunFault, Side, Verdict, part_name};
+use ill_normal::{Cause, Refusal, RunFault, Side, Verdict};
 use std::alloc::Global;
 use std::rt::Files;
 use std::{fmt, fs, io, str};
@@ -174,17 +174,11 @@ pub struct CauseName(pub Cause);
 impl fmt::Display for CauseName {
     fn fmt<W: fmt::Write>(&self, f: &mut fmt::Formatter<W>) -> fmt::Result {
         let CauseName(cause) = *self;
-        match cause {
-            Cause::LeftOut(part) | Cause::Missing(part) => write_part(f, cause.name(), part),
-            _ => f.write_str(cause.name()),
+        let name = cause.name();
+        match cause.part_name() {
+            Some((node, row)) => write!(f, "{name} {node}.{row}"),
+            None => f.write_str(name),
         }
-    }
-}
-
-fn write_part<W: fmt::Write>(f: &mut fmt::Formatter<W>, cause: &str, part: PartId) -> fmt::Result {
-    match part_name(part) {
-        Some((node, row)) => write!(f, "{cause} {node}.{row}"),
-        None => f.write_str(cause),
     }
 }
 
@@ -225,7 +219,7 @@ fn run_status(fault: &RunFault) -> u8
     }
 }
 
-/// That memory runs out is no mistake of who wrote the command line.
+/// The exit status of clap's error. Out of memory is 3, since the command line is not at fault.
 fn line_status(error: &LineError) -> u8
     ensures { result ≡ line_status_is error.now }
 {

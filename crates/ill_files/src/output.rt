@@ -148,7 +148,7 @@ impl<S: Write + Drop, F: Write + Drop> Output<S, F> {
         false
     }
 
-    /// Writes what is still in the buffer, so that the output of the messages before a error isn't lost. A write error counts the octets that
+    /// Writes what is still in the buffer, so that the output of the messages before an error isn't lost. A write error counts the octets that
     /// left the buffer, and is [`ProgramError::Closed`] where nobody reads the output any more.
     pub fn finish(&self, done: Result<Verdict, ProgramError>) -> Result<Verdict, ProgramError> {
         let flushed = self.flush();

@@ -8,11 +8,11 @@ use Rattle.ill_refusals.specs.Element.{Component, components, Element}
 use Rattle.ill_refusals.specs.Next.{rows, part}
 use Rattle.ill_grammar.specs.Cells.{due_at, due_row, is_placed, row_before, wrapped}
 use Rattle.ill_grammar.specs.Places.{IsAtRow}
-use Rattle.ill_grammar.specs.code.Meant.{is_there, row_there}
+use Rattle.ill_grammar.specs.code.Meant.{has_components, row_there}
 use Rattle.ill_grammar.specs.declared.cell.EntryRole.{EntryRole}
 use Rattle.ill_grammar.specs.declared.cell.EntryRole.TheVariants as slot
 
-at-row : (p : PartId) (node : NodeId) (row : ℕ) (e : Element) (cs : List Component) → drop row (components profile_two node) ≡ cs → is_there cs ≡ true
+at-row : (p : PartId) (node : NodeId) (row : ℕ) (e : Element) (cs : List Component) → drop row (components profile_two node) ≡ cs → has_components cs ≡ true
     → IsAtRow node row (due_at p node (suc row) slot.Row e)
 at-row p node row e [] f h = absurd cc
 at-row p node row e (c ∷ cs) f h =

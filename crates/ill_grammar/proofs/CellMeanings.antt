@@ -14,7 +14,7 @@ use Rattle.ill_refusals.specs.Element.{Component, component_starts, components, 
 use Rattle.ill_refusals.specs.Next.{first_mandatory, octets, part, segments}
 use Rattle.ill_grammar.specs.Elements.{element_with}
 use Rattle.ill_grammar.specs.Cells.{Begins, BeginsDue, due_at, due_item, due_row, due_segment, is_placed, is_strict, node_choice, presence_default, segments_in, wrapped}
-use Rattle.ill_grammar.specs.code.Meant.{Meant, cell_meant, cells_meant, component_choice, default_at, default_first, is_must, is_there, item_meant, kind_meant, meant, node_meant, node_starts, row_there, rows_meant, segment_meant}
+use Rattle.ill_grammar.specs.code.Meant.{Meant, cell_meant, cells_meant, component_choice, default_at, default_first, is_must, has_components, item_meant, kind_meant, meant, node_meant, node_starts, row_there, rows_meant, segment_meant}
 use Rattle.ill_grammar.specs.code.Starts.{BeginsIn, IsBegun}
 use Rattle.ill_grammar.specs.declared.cell.Cell.{Cell}
 use Rattle.ill_grammar.specs.declared.cell.EntryRole.TheVariants as slot
@@ -97,7 +97,7 @@ said-row node row (c ∷ cs) m ms e f =
     subst (IsSaid Kind.Seq node (suc row)) g (record {
       opens = refl;
       placed = refl;
-      there = ap is_there e;
+      there = ap has_components e;
       default = ap default_first (sym e);
       begins = λ t p a x b. subst (λ xs. BeginsDue t (due_row (wrapped p node) x xs) a) (sym e) (begins-component t c a x (record { is = b.is; by = b.by }));
     })
@@ -110,7 +110,7 @@ said-item node (c ∷ cs) m ms e f =
     subst (IsSaid Kind.SeqOf node 1) g (record {
       opens = refl;
       placed = refl;
-      there = ap is_there e;
+      there = ap has_components e;
       default = ap default_first (sym e);
       begins = λ t p a x b. subst (λ xs. BeginsDue t (due_item (wrapped p node) x xs) a) (sym e) (begins-component t c a x (record { is = b.is; by = b.by }));
     })

@@ -14,7 +14,7 @@ use Rattle.ill_schema.specs.declared.part.Presence.{Presence}
 use Rattle.ill_schema.specs.declared.part.Row.{Row}
 use Rattle.ill_refusals.specs.Element.{leaf, components, component_starts}
 use Rattle.ill_grammar.specs.Cells.{default_due, presence_default}
-use Rattle.ill_grammar.specs.Places.{alternative_of, due_of, element_found, node_in, parent_node, part_in, place_after, row_of, slot_of}
+use Rattle.ill_grammar.specs.Places.{alternative_of, due_of, element_found, node_at, parent_node, part_in, place_after, row_of, slot_of}
 use Rattle.ill_grammar.specs.declared.place.Found.{Found as CellFound}
 use Rattle.ill_grammar.specs.declared.cell.EntryRole.{EntryRole}
 use Rattle.ill_grammar.specs.declared.cell.EntryRole.TheVariants as cell
@@ -70,7 +70,7 @@ round_of k p round node position r h = go k position (let z : position + 1 ≡ s
 found_default : (f : CellFound) (node : NodeId) (row : Row) → slot_of f ≡ cell.Row → parent_node f ≡ node → slice_get (rows_of node) (row_of f) ≡ Some row
     → default_due (due_of f) ≡ presence_default row.presence
 found_default f node row s round is =
-    let a = row-of (part_in f.at) (node_in f.at) f.at.position (slot_of f) (element_found f) f.placed f.there s in
+    let a = row-of (part_in f.at) (node_at f.at) f.at.position (slot_of f) (element_found f) f.placed f.there s in
     let there : drop (row_of f) (components profile_two node) ≡ a.component ∷ a.behind = subst (λ n. drop (row_of f) (components profile_two n) ≡ a.component ∷ a.behind) round a.is_row in
     let same : a.component ∷ a.behind ≡ component_at (record { node = node; row = row_of f }) row ∷ drop (row_of f + 1) (components profile_two node) = sym there ∙ components-at node (row_of f) row is in
     let component : a.component ≡ component_at (record { node = node; row = row_of f }) row = cc in
@@ -92,8 +92,8 @@ default_left f t n l o due after = go (slot_of f) refl n due after
   where
     go : (s : EntryRole) → slot_of f ≡ s → (n : Next) → IsDueIn t n (due_with (slot_as (row_of f) s) None (LeafElement l)) → shape_at (place_after f s) ≡ behind n (slot_as (row_of f) s)
         → left_away n (slot_as (row_of f) s) (simple (value (leaf_is l) o)) ≡ elim s as (λ _. Bool) [ cell.Row ↦ has_default (default_due (due_of f)) (leaf_is l) o | _ ↦ false ]
-    go cell.Row e (Rows node k) due after = row_left f t node k l o e (round_of (kind_of (node_in f.at)) (part_in f.at) (node_in f.at) node f.at.position (row_of f) after) due
-    go cell.Row e (Either w) (inr due) after = row_left f t w.node 0 l o e (round_of (kind_of (node_in f.at)) (part_in f.at) (node_in f.at) w.node f.at.position (row_of f) after) due.1
+    go cell.Row e (Rows node k) due after = row_left f t node k l o e (round_of (kind_of (node_at f.at)) (part_in f.at) (node_at f.at) node f.at.position (row_of f) after) due
+    go cell.Row e (Either w) (inr due) after = row_left f t w.node 0 l o e (round_of (kind_of (node_at f.at)) (part_in f.at) (node_at f.at) w.node f.at.position (row_of f) after) due.1
     go cell.Row e (Either w) (inl due) after = absurd (let q : AtRow (row_of f) ≡ Inside = due.1.slot in cc)
     go cell.Row e (Inner w) due after = absurd (let q : AtRow (row_of f) ≡ Inside = due.slot in cc)
     go cell.Row e (Items node) due after = absurd (let q : AtRow (row_of f) ≡ Item = due.slot in cc)

@@ -21,19 +21,19 @@ use Rattle.ill_refusals.specs.Next.{part, octets, any, rows, items, due, due_in,
 use Rattle.ber_core.proofs.Lists.{two_cases}
 use Rattle.ill_grammar.specs.Cells as cells
 use Rattle.ill_grammar.specs.Cells.{BeginsDue, is_strict, levels_in, wrapped}
-use Rattle.ill_grammar.specs.Places.{IsAtRow, IsDue, PlaceView, due_of, element_found, next_at, node_in, node_of, part_in, part_of, place_after, row_of, slot_of, type_of}
+use Rattle.ill_grammar.specs.Places.{IsAtRow, IsDueWithTag, PlaceView, due_of, element_found, next_at, node_at, node_of, part_in, part_of, place_after, row_of, slot_of, type_of}
 use Rattle.ill_grammar.specs.code.Meant.{is_wrapped, opens_in}
 use Rattle.ill_grammar.specs.declared.place.Place.{Place}
 use Rattle.ill_grammar.specs.declared.place.Found.{Found as CellFound}
 use Rattle.ill_grammar.specs.declared.cell.ElementType.{ElementType}
 use Rattle.ill_grammar.specs.declared.cell.ElementType.TheVariants as element_type
-use Rattle.ill_grammar.proofs.Going.{element-due}
+use Rattle.ill_grammar.proofs.FirstAndAfter.{element-due}
 use Rattle.ill_grammar.proofs.Scanning.{same_tag-swap, sequence_starts}
 use Rattle.ill_grammar.specs.declared.cell.EntryRole.{EntryRole}
 use Rattle.ill_grammar.specs.declared.cell.EntryRole.TheVariants as cell
 use Rattle.ill_grammar.specs.Elements.{component_of, component_at, element_is, element_with, found_is}
 use Rattle.ill_grammar.specs.Cells.{Begins}
-use Rattle.ill_grammar.specs.Due.{BeginsAt, Due, IsComing, IsDueIn, IsDueInRows, IsForeignDue, IsItemDue, IsInnerDue, IsRowDue, IsSegmentDue, MayAllLack, behind, due_as, element_as, first_of, found_as, next_is, shape, shape_around, shape_at, shape_in, shape_of, slot_as}
+use Rattle.ill_grammar.specs.Due.{BeginsAt, DueEntry, IsComing, IsDueIn, IsDueInRows, IsForeignDue, IsItemDue, IsInnerDue, IsRowDue, IsSegmentDue, MayAllLack, behind, due_as, element_as, first_of, found_as, next_is, shape, shape_around, shape_at, shape_in, shape_of, slot_as}
 use Rattle.ill_grammar.specs.declared.due.Next.{Next}
 use Rattle.ill_grammar.specs.declared.due.Next.TheVariants.{Rows, Inner, Items, Either, Segments, BitSegments, Root, Foreigns, Nothing}
 use Rattle.ill_grammar.proofs.DueElements.{first_due}
@@ -139,7 +139,7 @@ one-due t c D must h = at (start_of profile_two t c) refl h
 none-due : (t : Tag) (c : Component) (D : next.Due) → c.presence ≡ Presence.Must → element_with t (starts profile_two c) ≡ None → due_in profile_two t (c ∷ []) ≡ Some D → ⊥
 none-due t c D must f h = let o = one-due t c D must h in (let q : None ≡ Some o.0 = sym f ∙ o.2 in cc)
 
-pub inner-due : (t : Tag) (w : Wrapped) (D : next.Due) (d : Due) → due_in profile_two t (component_of w ∷ []) ≡ Some D → BeginsDue t D d.alternative
+pub inner-due : (t : Tag) (w : Wrapped) (D : next.Due) (d : DueEntry) → due_in profile_two t (component_of w ∷ []) ≡ Some D → BeginsDue t D d.alternative
     → d.slot ≡ Inside → found_is d.found ≡ element_of D → IsInnerDue t w d
 inner-due t w D d h b slot is =
     let o = one-due t (component_of w) D refl h in
@@ -153,7 +153,7 @@ inner-due t w D d h b slot is =
     }
 
 -- an item of a list that is due
-item-start : (t : Tag) (node : NodeId) (c : Component) (cs : List Component) (D : next.Due) (d : Due) (o : Option Start) → components profile_two node ≡ c ∷ cs → start_of profile_two t c ≡ o
+item-start : (t : Tag) (node : NodeId) (c : Component) (cs : List Component) (D : next.Due) (d : DueEntry) (o : Option Start) → components profile_two node ≡ c ∷ cs → start_of profile_two t c ≡ o
     → (elim o as (λ _. Option next.Due) [ Some s ↦ Some (part c s.element (items c)) | None ↦ None ]) ≡ Some D → BeginsDue t D d.alternative → d.slot ≡ Item → found_is d.found ≡ element_of D → IsItemDue t node d
 item-start t node c cs D d None f g m b slot is = absurd (let q : None ≡ Some D = m in cc)
 item-start t node c cs D d (Some s) f g m b slot is =
@@ -171,7 +171,7 @@ item-start t node c cs D d (Some s) f g m b slot is =
       };
     }
 
-pub item-due : (t : Tag) (node : NodeId) (D : next.Due) (d : Due) → due profile_two t (next.opening profile_two (list node)) ≡ Some D → BeginsDue t D d.alternative
+pub item-due : (t : Tag) (node : NodeId) (D : next.Due) (d : DueEntry) → due profile_two t (next.opening profile_two (list node)) ≡ Some D → BeginsDue t D d.alternative
     → d.slot ≡ Item → found_is d.found ≡ element_of D → IsItemDue t node d
 item-due t node D d h b slot is = go (components profile_two node) refl h
   where
@@ -180,7 +180,7 @@ item-due t node D d h b slot is = go (components profile_two node) refl h
     go (c ∷ cs) f k = item-start t node c cs D d (start_of profile_two t c) f refl k b slot is
 
 -- a segment that is due
-pub segment-due : (u t : Tag) (D : next.Due) (d : Due) → due profile_two t (next.segments u) ≡ Some D → d.slot ≡ InString → found_is d.found ≡ element_of D → IsSegmentDue u t d
+pub segment-due : (u t : Tag) (D : next.Due) (d : DueEntry) → due profile_two t (next.segments u) ≡ Some D → d.slot ≡ InString → found_is d.found ≡ element_of D → IsSegmentDue u t d
 segment-due u t D d h slot is = at (same_tag t u) refl h
   where
     at : (b : Bool) → same_tag t u ≡ b → (if b then Some (octets u) else None) ≡ Some D → IsSegmentDue u t d
@@ -188,7 +188,7 @@ segment-due u t D d h slot is = at (same_tag t u) refl h
     at false f k = absurd cc
 
 -- an element of a foreign tree that is due
-foreign-due : (t : Tag) (n : ℕ) (after : next.Next) (slot : Slot) (D : next.Due) (d : Due) → any n after ≡ D → BeginsDue t D d.alternative → d.slot ≡ slot → found_is d.found ≡ element_of D → IsForeignDue n slot d
+foreign-due : (t : Tag) (n : ℕ) (after : next.Next) (slot : Slot) (D : next.Due) (d : DueEntry) → any n after ≡ D → BeginsDue t D d.alternative → d.slot ≡ slot → found_is d.found ≡ element_of D → IsForeignDue n slot d
 foreign-due t n after slot D d e b at is = record {
   slot = at;
   alternative = subst (λ x. BeginsDue t x d.alternative) (sym e) b;
@@ -206,7 +206,7 @@ pub record IsPlaced (t : Tag) (k : Kind) (p : PartId) (node : NodeId) (position 
   pub inner : s ≡ cell.Inner → (q : PartId) × (e : Element) × (D ≡ part (wrapped q node) e (rows []))
   pub stays : k ≡ Kind.Any → at ≡ position
 
-around : (t : Tag) (p : PartId) (node : NodeId) (at row : ℕ) (k : Kind) (s : EntryRole) (D : next.Due) (d : Due) → cells.is_any k ≡ false → due_in profile_two t (wrapped p node ∷ []) ≡ Some D
+around : (t : Tag) (p : PartId) (node : NodeId) (at row : ℕ) (k : Kind) (s : EntryRole) (D : next.Due) (d : DueEntry) → cells.is_any k ≡ false → due_in profile_two t (wrapped p node ∷ []) ≡ Some D
     → ((at ≡ 0 → ⊥) → element_with t (starts profile_two (wrapped p node)) ≡ None) → cells.is_placed k at s ≡ true → d.slot ≡ slot_as row s → BeginsDue t D d.alternative → found_is d.found ≡ element_of D
     → IsInnerDue t (record { part = p; node = node }) d
 around t p node zero row k cell.Inner D d closed h passed placed slot b is = inner-due t (record { part = p; node = node }) D d h b slot is
@@ -249,7 +249,7 @@ sequence-due : (t : Tag) (q : PartId) (node : NodeId) (alt : Option ℕ) (e : El
 sequence-due t q node None e k b = sequence-with t node (Some e) (ap (λ x. element_with t (own_starts x node)) (sym k) ∙ b)
 sequence-due t q node (Some n) e k b = absurd (let z : Kind.Seq ≡ Kind.Choice = sym k ∙ b.1 in cc)
 
-in-row : (t : Tag) (node : NodeId) (n row : ℕ) (D : next.Due) (d : Due) → d.slot ≡ AtRow row → due_in profile_two t (drop n (components profile_two node)) ≡ Some D → IsAtRow node row D → n ≤ row
+in-row : (t : Tag) (node : NodeId) (n row : ℕ) (D : next.Due) (d : DueEntry) → d.slot ≡ AtRow row → due_in profile_two t (drop n (components profile_two node)) ≡ Some D → IsAtRow node row D → n ≤ row
     → BeginsDue t D d.alternative → found_is d.found ≡ element_of D → IsDueInRows t node n d
 in-row t node n row D d slot h a from b is =
     subst (λ x. elim x as (λ _. Type 0) [ AtRow r ↦ IsRowDue t node n r d.alternative d.found | _ ↦ ⊥ ]) (sym slot) (row-due t node n row D d.alternative d.found h a from b is)
@@ -260,7 +260,7 @@ either-due t p node b D e h =
     ap (λ x. elim x as (λ _. Option next.Due) [ true ↦ due_in profile_two t (wrapped p node ∷ []) | false ↦ due_in profile_two t (components profile_two node) ]) (sym e) ∙ h
 
 -- in an explicit tag round a sequence
-round-sequence : (t : Tag) (p : PartId) (node : NodeId) (strict : Bool) (at row : ℕ) (s : EntryRole) (D : next.Due) (d : Due) → kind_of node ≡ Kind.Seq → is_strict node ≡ strict
+round-sequence : (t : Tag) (p : PartId) (node : NodeId) (strict : Bool) (at row : ℕ) (s : EntryRole) (D : next.Due) (d : DueEntry) → kind_of node ≡ Kind.Seq → is_strict node ≡ strict
     → IsPlaced t Kind.Seq p node 0 at row s D → BeginsDue t D d.alternative → d.slot ≡ slot_as row s → found_is d.found ≡ element_of D → IsDueIn t (shape_around strict (record { part = p; node = node })) d
 round-sequence t p node true at row s D d e strict h b slot is =
     around t p node at row Kind.Seq s D d refl (subst (λ x. due profile_two t (cells.around x (wrapped p node)) ≡ Some D) strict h.is) (h.passed refl) h.placed slot b is
@@ -279,14 +279,14 @@ round-sequence t p node false (suc zero) row _ D d e strict h b slot is = absurd
 round-sequence t p node false (suc (suc r)) row _ D d e strict h b slot is = absurd (let z : false ≡ true = h.placed in cc)
 
 -- round the root of a foreign tree, and in an element of one
-round-root : (t : Tag) (p : PartId) (node : NodeId) (at row : ℕ) (s : EntryRole) (D : next.Due) (d : Due) → kind_of node ≡ Kind.Any
+round-root : (t : Tag) (p : PartId) (node : NodeId) (at row : ℕ) (s : EntryRole) (D : next.Due) (d : DueEntry) → kind_of node ≡ Kind.Any
     → IsPlaced t Kind.Any p node 0 at row s D → BeginsDue t D d.alternative → d.slot ≡ slot_as row s → found_is d.found ≡ element_of D → IsDueIn t (Root (record { part = p; node = node })) d
 round-root t p node zero row cell.Root D d e h b slot is = (e, foreign-due t (foreign_levels - 1) (rows []) Inside D d (let q = h.is in cc) b slot is)
 round-root t p node zero row cell.Inner D d e h b slot is = (e, foreign-due t (foreign_levels - 1) (rows []) Inside D d (let q = h.is in cc) b slot is)
 round-root t p node zero row _ D d e h b slot is = absurd (let z : false ≡ true = h.placed in cc)
 round-root t p node (suc n) row s D d e h b slot is = absurd (let z : suc n ≡ 0 = h.stays refl in cc)
 
-in-foreign : (t : Tag) (p : PartId) (node : NodeId) (at row : ℕ) (s : EntryRole) (D : next.Due) (d : Due)
+in-foreign : (t : Tag) (p : PartId) (node : NodeId) (at row : ℕ) (s : EntryRole) (D : next.Due) (d : DueEntry)
     → IsPlaced t Kind.Any p node 1 at row s D → BeginsDue t D d.alternative → d.slot ≡ slot_as row s → found_is d.found ≡ element_of D → IsDueIn t (Foreigns (levels_in p)) d
 in-foreign t p node (suc zero) row cell.Foreign D d h b slot is = go (levels_in p) h.is
   where
@@ -297,13 +297,13 @@ in-foreign t p node (suc zero) row _ D d h b slot is = absurd (let z : false ≡
 in-foreign t p node zero row s D d h b slot is = absurd (let z : 0 ≡ 1 = h.stays refl in cc)
 in-foreign t p node (suc (suc n)) row s D d h b slot is = absurd (let z : suc (suc n) ≡ 1 = h.stays refl in cc)
 
-in-leaf : (t : Tag) (l : LeafKind) (D : next.Due) (d : Due) → due profile_two t (next.segments (cells.segments_in (Kind.Leaf l))) ≡ Some D → d.slot ≡ InString → found_is d.found ≡ element_of D
+in-leaf : (t : Tag) (l : LeafKind) (D : next.Due) (d : DueEntry) → due profile_two t (next.segments (cells.segments_in (Kind.Leaf l))) ≡ Some D → d.slot ≡ InString → found_is d.found ≡ element_of D
     → IsDueIn t (shape_in l) d
 in-leaf t LeafKind.BitString D d h slot is = segment-due (segment_tag bit_string) t D d h slot is
 in-leaf t _ D d h slot is = segment-due octet_string t D d h slot is
 
 -- what the cells find is due by the decoder's words
-pub placed-due : (t : Tag) (k : Kind) (p : PartId) (node : NodeId) (position at row : ℕ) (s : EntryRole) (D : next.Due) (d : Due) → kind_of node ≡ k → IsPlaced t k p node position at row s D
+pub placed-due : (t : Tag) (k : Kind) (p : PartId) (node : NodeId) (position at row : ℕ) (s : EntryRole) (D : next.Due) (d : DueEntry) → kind_of node ≡ k → IsPlaced t k p node position at row s D
     → BeginsDue t D d.alternative → d.slot ≡ slot_as row s → found_is d.found ≡ element_of D → IsDueIn t (shape_of k p node position) d
 placed-due t Kind.Seq p node zero at row s D d e h b slot is = round-sequence t p node (is_strict node) at row s D d e refl h b slot is
 placed-due t Kind.Seq p node (suc n) zero row s D d e h b slot is = absurd (omega (arith, h.later))
@@ -326,7 +326,7 @@ placed-due t _ p node (suc (suc n)) at row s D d e h b slot is = absurd (let z :
 abbrev after-shape : Kind → PartId → NodeId → ℕ → EntryRole → Next
 after-shape k q node at s = elim s as (λ _. Next) [ cell.Row ↦ shape_of k q node (at + 1) | cell.Inner ↦ Nothing | cell.Root ↦ Nothing | _ ↦ shape_of k q node at ]
 
-pub after-found : (f : CellFound) (s : EntryRole) (node : NodeId) → node_in f.at ≡ node → shape_at (place_after f s) ≡ after-shape (kind_of node) (part_in f.at) node f.at.position s
+pub after-found : (f : CellFound) (s : EntryRole) (node : NodeId) → node_at f.at ≡ node → shape_at (place_after f s) ≡ after-shape (kind_of node) (part_in f.at) node f.at.position s
 after-found f cell.Row node e = ap (λ n. shape_of (kind_of n) (part_in f.at) n (f.at.position + 1)) e
 after-found f cell.Inner node e = refl
 after-found f cell.Root node e = refl
@@ -392,13 +392,13 @@ after-is t _ p q node position (suc zero) row cell.Segment D same h = absurd (le
 after-is t _ p q node position zero row cell.Root D same h = absurd (let z : false ≡ true = h.placed in cc)
 after-is t _ p q node position (suc zero) row cell.Foreign D same h = absurd (let z : false ≡ true = h.placed in cc)
 
-leaf-shape : (p : PartId) (node : NodeId) (k : Kind) → (cells.is_leaf k && not (cells.is_bits k)) ≡ true → shape_of k p node 1 ≡ Segments
+leaf-shape : (p : PartId) (node : NodeId) (k : Kind) → (cells.is_leaf k && not (cells.has_bit_segments k)) ≡ true → shape_of k p node 1 ≡ Segments
 leaf-shape p node (Kind.Leaf LeafKind.BitString) h = absurd cc
 leaf-shape p node (Kind.Leaf _) h = refl
 leaf-shape p node Kind.IllString h = refl
 leaf-shape p node _ h = absurd cc
 
-bits-shape : (p : PartId) (node : NodeId) (k : Kind) → cells.is_bits k ≡ true → shape_of k p node 1 ≡ BitSegments
+bits-shape : (p : PartId) (node : NodeId) (k : Kind) → cells.has_bit_segments k ≡ true → shape_of k p node 1 ≡ BitSegments
 bits-shape p node (Kind.Leaf LeafKind.BitString) h = refl
 bits-shape p node (Kind.Leaf _) h = absurd cc
 bits-shape p node _ h = absurd cc
@@ -457,7 +457,7 @@ found-means element_type.Boolean p node = refl
 found-means _ p node = refl
 
 -- what is found at a place is placed there
-pub found-placed : (t : Tag) (a : Place) (f : CellFound) → IsDue t a f → IsPlaced t (kind_of (node_in a)) (part_in a) (node_in a) a.position f.at.position (row_of f) (slot_of f) (due_of f)
+pub found-placed : (t : Tag) (a : Place) (f : CellFound) → IsDueWithTag t a f → IsPlaced t (kind_of (node_at a)) (part_in a) (node_at a) a.position f.at.position (row_of f) (slot_of f) (due_of f)
 found-placed t a f h = record {
   is = h.is;
   later = h.later;
@@ -468,21 +468,21 @@ found-placed t a f h = record {
   inner = λ s. (
     (part_in f.at),
     element_found f,
-    ap (λ x. cells.due_at (part_in f.at) (node_in f.at) f.at.position x (element_found f)) s ∙ ap (λ n. part (wrapped (part_in f.at) n) (element_found f) (rows [])) h.parent,
+    ap (λ x. cells.due_at (part_in f.at) (node_at f.at) f.at.position x (element_found f)) s ∙ ap (λ n. part (wrapped (part_in f.at) n) (element_found f) (rows [])) h.parent,
   );
   stays = λ any. ap (λ (w : PlaceView). w.position) (h.stays any);
 }
 
 -- what may come next by the cells may by the decoder's words
 pub shape-next : (a : Place) → next_at a ≡ next_is (shape a)
-shape-next a = go (kind_of (node_in a)) a.position
+shape-next a = go (kind_of (node_at a)) a.position
   where
-    either : (b : Bool) → cells.around b (wrapped (part_in a) (node_in a)) ≡ next_is (shape_around b (record { part = part_in a; node = node_in a }))
+    either : (b : Bool) → cells.around b (wrapped (part_in a) (node_at a)) ≡ next_is (shape_around b (record { part = part_in a; node = node_at a }))
     either true = refl
     either false = refl
 
-    go : (k : Kind) (n : ℕ) → cells.next_of_kind k (part_in a) (node_in a) n ≡ next_is (shape_of k (part_in a) (node_in a) n)
-    go Kind.Seq zero = either (is_strict (node_in a))
+    go : (k : Kind) (n : ℕ) → cells.next_of_kind k (part_in a) (node_at a) n ≡ next_is (shape_of k (part_in a) (node_at a) n)
+    go Kind.Seq zero = either (is_strict (node_at a))
     go Kind.Seq (suc row) = refl
     go (Kind.Leaf LeafKind.BitString) (suc zero) = refl
     go (Kind.Leaf _) (suc zero) = refl
@@ -491,12 +491,12 @@ shape-next a = go (kind_of (node_in a)) a.position
     go _ (suc (suc n)) = refl
 
 -- what the cells find is due by the decoder's words
-pub is-coming : (t : Tag) (a : Place) (f : CellFound) → IsDue t a f → IsComing t a f
+pub is-coming : (t : Tag) (a : Place) (f : CellFound) → IsDueWithTag t a f → IsComing t a f
 is-coming t a f h =
-    let k = kind_of (node_in a) in
+    let k = kind_of (node_at a) in
     let placed = found-placed t a f h in
-    let element = element-due (part_in f.at) (node_in f.at) f.at.position (slot_of f) (element_found f) in
+    let element = element-due (part_in f.at) (node_at f.at) f.at.position (slot_of f) (element_found f) in
     record {
-      is_due = placed-due t k (part_in a) (node_in a) a.position f.at.position (row_of f) (slot_of f) (due_of f) (due_as f) refl placed h.begins refl (found-means (type_of f) (part_of f) (node_of f) ∙ sym element);
-      after = after-found f (slot_of f) (node_in a) h.parent ∙ after-is t k (part_in a) (part_in f.at) (node_in a) a.position f.at.position (row_of f) (slot_of f) (due_of f) (λ any. ap (λ (w : PlaceView). w.part) (h.stays any)) placed;
+      is_due = placed-due t k (part_in a) (node_at a) a.position f.at.position (row_of f) (slot_of f) (due_of f) (due_as f) refl placed h.begins refl (found-means (type_of f) (part_of f) (node_of f) ∙ sym element);
+      after = after-found f (slot_of f) (node_at a) h.parent ∙ after-is t k (part_in a) (part_in f.at) (node_at a) a.position f.at.position (row_of f) (slot_of f) (due_of f) (λ any. ap (λ (w : PlaceView). w.part) (h.stays any)) placed;
     }

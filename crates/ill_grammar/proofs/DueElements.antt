@@ -15,7 +15,7 @@ use Rattle.ill_refusals.specs.Next as next
 use Rattle.ill_refusals.specs.Next.{part, octets, any, rows, items, foreigns, element_of, next_of, due, due_in, is_last, opening, start_of}
 use Rattle.ill_grammar.specs.Elements.{component_of, component_at, element_with, found_is}
 use Rattle.ill_grammar.specs.Due.{IsDueIn, IsDueInRows, IsRowDue, IsInnerDue, next_is, behind}
-use Rattle.ill_grammar.specs.Due.{Due}
+use Rattle.ill_grammar.specs.Due.{DueEntry}
 use Rattle.ill_grammar.specs.declared.due.Slot.{Slot}
 use Rattle.ill_grammar.specs.declared.due.Slot.TheVariants.{Row as AtRow}
 use Rattle.ill_grammar.specs.declared.due.Next.{Next}
@@ -63,7 +63,7 @@ pub items-at : (node : NodeId) (row : Row) → slice_get (rows_of node) 0 ≡ So
 items-at node row h = ap (λ cs. elim cs as (λ _. next.Next) [ [] ↦ rows [] | c ∷ _ ↦ items c ]) (components-at node 0 row h)
 
 -- where something is due, more levels may follow in a foreign tree
-pub due_more : (t : Tag) (n : Next) (d : Due) → IsDueIn t n d → is_last (next_is n) ≡ false
+pub due_more : (t : Tag) (n : Next) (d : DueEntry) → IsDueIn t n d → is_last (next_is n) ≡ false
 due_more t (Items node) d h = at (components profile_two node)
   where
     at : (cs : List Component) → is_last (elim cs as (λ _. next.Next) [ [] ↦ rows [] | c ∷ _ ↦ items c ]) ≡ false
@@ -84,7 +84,7 @@ item-found t c e h = at (start_of profile_two t c) h
     at None k = absurd cc
     at (Some s) k = let q : s.element ≡ e = cc in ap (λ x. Some (part c x (items c))) q
 
-in_rows : (t : Tag) (node : NodeId) (n : ℕ) (d : Due) → IsDueInRows t node n d
+in_rows : (t : Tag) (node : NodeId) (n : ℕ) (d : DueEntry) → IsDueInRows t node n d
     → (r : ℕ) × (d.slot ≡ AtRow r) × Answer (due_in profile_two t (drop n (components profile_two node))) (found_is d.found) (next_is (Rows node (r + 1)))
 in_rows t node n d h = go d.slot h
   where
@@ -93,11 +93,11 @@ in_rows t node n d h = go d.slot h
     go (AtRow r) k = (r, refl, (part (component_at (record { node = node; row = r }) k.row) (found_is d.found) (rows (drop (r + 1) (components profile_two node))), k.is, refl, refl))
     go _ k = absurd k
 
-inside : (t : Tag) (w : Wrapped) (d : Due) → IsInnerDue t w d → Answer (due_in profile_two t (component_of w ∷ [])) (found_is d.found) (next_is Nothing)
+inside : (t : Tag) (w : Wrapped) (d : DueEntry) → IsInnerDue t w d → Answer (due_in profile_two t (component_of w ∷ [])) (found_is d.found) (next_is Nothing)
 inside t w d h = (part (component_of w) (found_is d.found) (rows []), due_in-found t (component_of w) [] (found_is d.found) h.begun.is, refl, refl)
 
 -- the element that is due, and what may come after it
-pub due_element_is : (t : Tag) (n : Next) (d : Due) → IsDueIn t n d
+pub due_element_is : (t : Tag) (n : Next) (d : DueEntry) → IsDueIn t n d
     → (D : next.Due) × (due profile_two t (next_is n) ≡ Some D) × (element_of D ≡ found_is d.found) × (next_of D ≡ next_is (behind n d.slot))
 due_element_is t (Rows node n) d h =
     let a = in_rows t node n d h in

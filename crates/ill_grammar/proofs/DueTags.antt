@@ -27,7 +27,7 @@ use Rattle.ill_refusals.proofs.Rows.{same_tag-is}
 use Rattle.ber_core.proofs.Lists.{two_cases}
 use Rattle.ill_grammar.specs.Elements.{component_of, component_at, element_is, element_with, found_is}
 use Rattle.ill_grammar.specs.Cells.{Begins}
-use Rattle.ill_grammar.specs.Due.{Due, IsDueIn, IsDueInRows, IsRowDue}
+use Rattle.ill_grammar.specs.Due.{DueEntry, IsDueIn, IsDueInRows, IsRowDue}
 use Rattle.ill_grammar.specs.Contents.{with_alternative}
 use Rattle.ill_grammar.specs.Due.{due_with}
 use Rattle.ill_grammar.specs.Written.{left_away}
@@ -150,7 +150,7 @@ begins_apart t c (Some n) e h b =
     let s = row-start t c.node n e b.2 in
     found_start IsStart t _ e (component_apart (component_at (record { node = c.node; row = n }) s.0) (at_apart c.node n s.0 s.1)) s.2
 
-rows_start : (t : Tag) (node : NodeId) (n : ℕ) (d : Due) → IsDueInRows t node n d → IsStart t (found_is d.found)
+rows_start : (t : Tag) (node : NodeId) (n : ℕ) (d : DueEntry) → IsDueInRows t node n d → IsStart t (found_is d.found)
 rows_start t node n d h = go d.slot h
   where
     go : (x : Slot) → (elim x as (λ _. Type 0) [ AtRow r ↦ IsRowDue t node n r d.alternative d.found | _ ↦ ⊥ ]) → IsStart t (found_is d.found)
@@ -170,7 +170,7 @@ data Place (t : Tag) (n : Next) (e : Element) : Type 0 where
   in_open : (k : ℕ) → e ≡ foreign k → AwaitsForeign n → Place t n e
   elsewhere : IsStart t e → Place t n e
 
-due_start : (t : Tag) (n : Next) (d : Due) → IsDueIn t n d → Place t n (found_is d.found)
+due_start : (t : Tag) (n : Next) (d : DueEntry) → IsDueIn t n d → Place t n (found_is d.found)
 due_start t (Rows node n) d h = elsewhere (rows_start t node n d h)
 due_start t (Inner w) d h = elsewhere (begins_apart t (component_of w) d.alternative (found_is d.found) tt h.begun.begins)
 due_start t (Items node) d h = elsewhere (begins_apart t _ d.alternative (found_is d.found) (at_apart node 0 h.row h.is_row) h.begun.begins)
@@ -184,10 +184,10 @@ due_start t (Foreigns (suc n)) d h = in_open n h.found tt
 due_start t Nothing d h = absurd h
 
 -- and what is due in a string is a segment
-pub due_segment : (t : Tag) (n : Next) (d : Due) → IsDueIn t n d → n ≡ Segments → found_is d.found ≡ segment octet_string
+pub due_segment : (t : Tag) (n : Next) (d : DueEntry) → IsDueIn t n d → n ≡ Segments → found_is d.found ≡ segment octet_string
 due_segment t n d h e = (let k : IsDueIn t Segments d = subst (λ x. IsDueIn t x d) e h in k.found)
 
-pub due_bit_segment : (t : Tag) (n : Next) (d : Due) → IsDueIn t n d → n ≡ BitSegments → found_is d.found ≡ segment (segment_tag bit_string)
+pub due_bit_segment : (t : Tag) (n : Next) (d : DueEntry) → IsDueIn t n d → n ≡ BitSegments → found_is d.found ≡ segment (segment_tag bit_string)
 due_bit_segment t n d h e = (let k : IsDueIn t BitSegments d = subst (λ x. IsDueIn t x d) e h in k.found)
 
 -- the segments of bits are no OCTET STRINGs
@@ -195,7 +195,7 @@ pub bits_apart : segment octet_string ≡ segment (segment_tag bit_string) → �
 bits_apart e = let q : octet_string ≡ segment_tag bit_string = cc in true≢false (ap (λ (t : Tag). nat_eq t.number 4) q)
 
 -- a segment is due in strings alone
-pub segment_due : (t : Tag) (n : Next) (d : Due) → IsDueIn t n d → found_is d.found ≡ segment octet_string → n ≡ Segments
+pub segment_due : (t : Tag) (n : Next) (d : DueEntry) → IsDueIn t n d → found_is d.found ≡ segment octet_string → n ≡ Segments
 segment_due t n d h s = elim (due_start t n d h) [
   | in_string e ↦ e
   | in_bits e ↦ absurd (bits_apart (sym s ∙ due_bit_segment t n d h e))
@@ -203,7 +203,7 @@ segment_due t n d h s = elim (due_start t n d h) [
   | elsewhere k ↦ absurd (k.no_segment (octet_string, s))
 ]
 
-pub bit_segment_due : (t : Tag) (n : Next) (d : Due) → IsDueIn t n d → found_is d.found ≡ segment (segment_tag bit_string) → n ≡ BitSegments
+pub bit_segment_due : (t : Tag) (n : Next) (d : DueEntry) → IsDueIn t n d → found_is d.found ≡ segment (segment_tag bit_string) → n ≡ BitSegments
 bit_segment_due t n d h s = elim (due_start t n d h) [
   | in_string e ↦ absurd (bits_apart (sym (due_segment t n d h e) ∙ s))
   | in_bits e ↦ e
@@ -212,7 +212,7 @@ bit_segment_due t n d h s = elim (due_start t n d h) [
 ]
 
 -- a foreign element is due where one is awaited, and nothing else is due there
-pub foreign_due : (t : Tag) (n : Next) (d : Due) (m : ℕ) → IsDueIn t n d → found_is d.found ≡ foreign m → AwaitsForeign n
+pub foreign_due : (t : Tag) (n : Next) (d : DueEntry) (m : ℕ) → IsDueIn t n d → found_is d.found ≡ foreign m → AwaitsForeign n
 foreign_due t n d m h f = elim (due_start t n d h) [
   | in_string e ↦ absurd (let q : segment octet_string ≡ foreign m = sym (due_segment t n d h e) ∙ f in cc)
   | in_bits e ↦ absurd (let q : segment (segment_tag bit_string) ≡ foreign m = sym (due_bit_segment t n d h e) ∙ f in cc)
@@ -220,14 +220,14 @@ foreign_due t n d m h f = elim (due_start t n d h) [
   | elsewhere k ↦ absurd (k.not_foreign (m, f))
 ]
 
-pub awaited : (t : Tag) (n : Next) (d : Due) → IsDueIn t n d → AwaitsForeign n → IsForeign (found_is d.found) × (d.alternative ≡ None)
+pub awaited : (t : Tag) (n : Next) (d : DueEntry) → IsDueIn t n d → AwaitsForeign n → IsForeign (found_is d.found) × (d.alternative ≡ None)
 awaited t (Root w) d h o = ((foreign_levels - 1, h.1.found), h.1.alternative)
 awaited t (Foreigns zero) d h o = absurd h
 awaited t (Foreigns (suc n)) d h o = ((n, h.found), h.alternative)
 awaited t _ d h o = absurd o
 
 -- of what is due, but of a segment, only an element of a foreign tree may have the tag of an end mark
-pub due_apart : (t : Tag) (n : Next) (d : Due) → IsDueIn t n d → ((u : Tag) → found_is d.found ≡ segment u → ⊥) → t.class ≡ Universal → t.number ≡ 0 → (k : ℕ) × (found_is d.found ≡ foreign k)
+pub due_apart : (t : Tag) (n : Next) (d : DueEntry) → IsDueIn t n d → ((u : Tag) → found_is d.found ≡ segment u → ⊥) → t.class ≡ Universal → t.number ≡ 0 → (k : ℕ) × (found_is d.found ≡ foreign k)
 due_apart t n d h s c z = elim (due_start t n d h) [
   | in_string e ↦ absurd (s octet_string (due_segment t n d h e))
   | in_bits e ↦ absurd (s (segment_tag bit_string) (due_bit_segment t n d h e))

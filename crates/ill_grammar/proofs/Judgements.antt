@@ -27,7 +27,7 @@ use Rattle.ill_refusals.specs.Next.{Due, due, element_of, is_last, missing}
 use Rattle.ill_refusals.specs.Place.{Open, next_in, bound, innermost_end}
 use Rattle.ber_core.specs.Reading.{IdentifierRead, identified, part_identifier, no_identifier, read_identifier, read_number, tagged, definite, read_length}
 use Rattle.ill_grammar.specs.Standing.{StandsAt, next_at}
-use Rattle.ill_grammar.specs.Due.{Due as CodeDue}
+use Rattle.ill_grammar.specs.Due.{DueEntry as CodeDue}
 use Rattle.ill_grammar.specs.Begun.{Begun}
 use Rattle.ber_core.specs.HeaderRead.{IsLengthRead, IsWholeLength}
 use Rattle.ill_grammar.specs.declared.due.Next.{Next}

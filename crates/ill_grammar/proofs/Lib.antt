@@ -1,7 +1,7 @@
 pub mod Scanning
 pub mod CellMeanings
 pub mod Alternatives
-pub mod Going
+pub mod FirstAndAfter
 pub mod Steps
 pub mod Missing
 pub mod AtRow

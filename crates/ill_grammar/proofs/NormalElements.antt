@@ -23,7 +23,7 @@ use Rattle.ill_grammar.specs.Cells.{Begins}
 use Rattle.ill_grammar.specs.Due.{IsRowDue, IsItemDue, IsInnerDue}
 use Rattle.ill_grammar.specs.Contents.{IsValueOf, with_alternative}
 use Rattle.ill_grammar.specs.Written.{normal_element}
-use Rattle.ill_grammar.specs.Due.{Due}
+use Rattle.ill_grammar.specs.Due.{DueEntry}
 use Rattle.ill_grammar.specs.Begun.{Begun}
 use Rattle.ill_grammar.proofs.Meanings.{begun_proper}
 use Rattle.ill_grammar.specs.declared.element.Wrapped.{Wrapped}
@@ -116,12 +116,12 @@ row_normal p t node position r alt f c T h m =
     begins_normal p t (component_at (record { node = node; row = r }) h.row) alt (found_is f) c T (row_proper node r h.row h.is_row) h.begins m
 
 -- of an item of a list
-pub item_normal : (p : Named) (t : Tag) (node : NodeId) (d : Due) (c : Content) (T : Tree) → (h : IsItemDue t node d) → IsValueOf p (found_is d.found) c T
+pub item_normal : (p : Named) (t : Tag) (node : NodeId) (d : DueEntry) (c : Content) (T : Tree) → (h : IsItemDue t node d) → IsValueOf p (found_is d.found) c T
     → normal_tree (with_alternative d.alternative c) h.row.node (tagging profile_two h.row) ≡ normal_element (found_is d.found) t c
 item_normal p t node d c T h m =
     begins_normal p t (component_at (record { node = node; row = 0 }) h.row) d.alternative (found_is d.found) c T (row_proper node 0 h.row h.is_row) h.begun.begins m
 
 -- of the part of a wrapper
-pub inner_normal : (p : Named) (t : Tag) (w : Wrapped) (d : Due) (c : Content) (T : Tree) → IsInnerDue t w d → IsValueOf p (found_is d.found) c T
+pub inner_normal : (p : Named) (t : Tag) (w : Wrapped) (d : DueEntry) (c : Content) (T : Tree) → IsInnerDue t w d → IsValueOf p (found_is d.found) c T
     → normal_tree (with_alternative d.alternative c) w.node untagged ≡ normal_element (found_is d.found) t c
 inner_normal p t w d c T h m = begins_normal p t (component_of w) d.alternative (found_is d.found) c T (begun_proper t w d.alternative d.found h.begun) h.begun.begins m

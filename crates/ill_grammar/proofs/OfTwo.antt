@@ -7,7 +7,7 @@ use Rattle.ill_schema.specs.declared.part.PartId.{PartId}
 use Rattle.ill_schema.specs.declared.profile.Profile.{Profile as Named}
 use Rattle.ill_schema.specs.declared.profile.Profile.TheVariants.{Two, Module}
 use Rattle.ill_grammar.specs.Cells.{is_two_type}
-use Rattle.ill_grammar.specs.Places.{PlaceView, first_place, is_two, node_in, node_of, part_of, place_after, slot_of, type_of, place_view}
+use Rattle.ill_grammar.specs.Places.{PlaceView, first_place, is_two, node_at, node_of, part_of, place_after, slot_of, type_of, place_view}
 use Rattle.ill_grammar.specs.declared.place.Found.{Found as CellFound}
 use Rattle.ill_grammar.specs.declared.place.Place.{Place}
 use Rattle.ill_grammar.specs.declared.cell.EntryRole.{EntryRole}
@@ -33,25 +33,25 @@ element_two _ p node h = refl
 -- what is found in profile 2 is read as an element of profile 2
 pub read_two : (f : CellFound) → IsTrue (is_two f) → IsTrue (is_two_element (read_as f))
 read_two f h =
-    let cell = (and_parts (is_of_two (node_in f.at)) _ h).1 in
+    let cell = (and_parts (is_of_two (node_at f.at)) _ h).1 in
     element_two (type_of f) (part_of f) (node_of f) (and_parts (is_of_two (node_of f)) _ cell).1
 
 -- the place in what is found, and the place after it, are of profile 2
-first_two : (f : CellFound) (at : Place) → IsTrue (is_two f) → place_view at ≡ first_place f → IsTrue (is_of_two (node_in at))
+first_two : (f : CellFound) (at : Place) → IsTrue (is_two f) → place_view at ≡ first_place f → IsTrue (is_of_two (node_at at))
 first_two f at h e =
-    let node : node_in at ≡ node_of f = ap (λ (w : PlaceView). w.node) e in
-    subst (λ n. IsTrue (is_of_two n)) (sym node) (and_parts (is_of_two (node_of f)) _ (and_parts (is_of_two (node_in f.at)) _ h).1).0
+    let node : node_at at ≡ node_of f = ap (λ (w : PlaceView). w.node) e in
+    subst (λ n. IsTrue (is_of_two n)) (sym node) (and_parts (is_of_two (node_of f)) _ (and_parts (is_of_two (node_at f.at)) _ h).1).0
 
-after_two : (f : CellFound) (at : Place) → IsTrue (is_two f) → place_view at ≡ place_after f (slot_of f) → IsTrue (is_of_two (node_in at))
+after_two : (f : CellFound) (at : Place) → IsTrue (is_two f) → place_view at ≡ place_after f (slot_of f) → IsTrue (is_of_two (node_at at))
 after_two f at h e = go (slot_of f) (ap (λ (w : PlaceView). w.node) e)
   where
-    round : IsTrue (is_of_two (node_in f.at))
-    round = (and_parts (is_of_two (node_in f.at)) _ h).0
+    round : IsTrue (is_of_two (node_at f.at))
+    round = (and_parts (is_of_two (node_at f.at)) _ h).0
 
-    there : node_in at ≡ node_in f.at → IsTrue (is_of_two (node_in at))
+    there : node_at at ≡ node_at f.at → IsTrue (is_of_two (node_at at))
     there s = subst (λ n. IsTrue (is_of_two n)) (sym s) round
 
-    go : (s : EntryRole) → node_in at ≡ (place_after f s).node → IsTrue (is_of_two (node_in at))
+    go : (s : EntryRole) → node_at at ≡ (place_after f s).node → IsTrue (is_of_two (node_at at))
     go cell.Inner s = subst (λ n. IsTrue (is_of_two n)) (sym s) refl
     go cell.Root s = subst (λ n. IsTrue (is_of_two n)) (sym s) refl
     go cell.Row s = there s
@@ -77,7 +77,7 @@ opened_of Module f found place = refl
 pub closed_of : (p : Named) (f : Frame) → IsTrue (are_of p (f ∷ [])) → IsTrue (is_found_of p f.found)
 closed_of Two f h =
     let frame = (and_parts (is_two_frame f) true h).0 in
-    (and_parts (is_of_two (node_in f.place)) _ frame).1
+    (and_parts (is_of_two (node_at f.place)) _ frame).1
 closed_of Module f h = refl
 
 -- nor is what is found in profile 2 a segment of a BIT STRING

@@ -6,7 +6,7 @@ use Rattle.ber_leaf.specs.Profile.{profile_two}
 use Rattle.ill_grammar.specs.Due.{next_is, shape}
 use Rattle.ill_schema.specs.TableFacts.{is_of_two}
 use Rattle.ill_schema.proofs.Tags.{at_row}
-use Rattle.ill_grammar.specs.Places.{is_two, node_in}
+use Rattle.ill_grammar.specs.Places.{is_two, node_at}
 use Rattle.ill_schema.specs.declared.profile.Profile.TheVariants.{Two, Module}
 use Rattle.ill_grammar.specs.Two.{are_of, is_found_of, is_place_of, is_two_frame}
 use Rattle.ill_grammar.specs.code.Judging.{outermost_end}
@@ -128,12 +128,12 @@ all_taken test zero xs h = refl
 all_taken test (suc n) [] h = refl
 all_taken test (suc n) (y ∷ xs) h = let q = and_parts (test y) (list_all test xs) h in rw q.0 (all_taken test n xs q.1)
 
-all_moved : (xs : List Frame) (n : ℕ) (x : Frame) (place : Place) (within : x.bound ≤ 1048576) → IsTrue (list_all is_two_frame xs) → x ≡ get_or xs n x → IsTrue (is_of_two (node_in place))
+all_moved : (xs : List Frame) (n : ℕ) (x : Frame) (place : Place) (within : x.bound ≤ 1048576) → IsTrue (list_all is_two_frame xs) → x ≡ get_or xs n x → IsTrue (is_of_two (node_at place))
     → IsTrue (list_all is_two_frame (set xs n (record x { place = place; within = within })))
 all_moved [] n x place within h e two = refl
 all_moved (y ∷ xs) zero x place within h e two =
     let q = and_parts (is_two_frame y) (list_all is_two_frame xs) h in
-    let found : IsTrue (is_two y.found) = (and_parts (is_of_two (node_in y.place)) _ q.0).1 in
+    let found : IsTrue (is_two y.found) = (and_parts (is_of_two (node_at y.place)) _ q.0).1 in
     rw (two, subst (λ (z : Frame). IsTrue (is_two z.found)) (sym e) found) q.1
 all_moved (y ∷ xs) (suc n) x place within h e two =
     let q = and_parts (is_two_frame y) (list_all is_two_frame xs) h in
@@ -159,10 +159,10 @@ last_of Two xs (Some f) h e = rw (at_row is_two_frame xs (length xs - 1) f h (sy
 last_of Module xs (Some f) h e = refl
 
 pub place_of : (p : Named) (f : Frame) → IsTrue (are_of p (f ∷ [])) → IsTrue (is_place_of p f.place)
-place_of Two f h = (and_parts (is_of_two (node_in f.place)) _ (and_parts (is_two_frame f) true h).0).0
+place_of Two f h = (and_parts (is_of_two (node_at f.place)) _ (and_parts (is_two_frame f) true h).0).0
 place_of Module f h = refl
 
 -- what is found at a place of the profile
-pub found_of : (p : Named) (at : Place) (f : Found) → IsTrue (is_place_of p at) → (IsTrue (is_of_two (node_in at)) → IsTrue (is_two f)) → IsTrue (is_found_of p f)
+pub found_of : (p : Named) (at : Place) (f : Found) → IsTrue (is_place_of p at) → (IsTrue (is_of_two (node_at at)) → IsTrue (is_two f)) → IsTrue (is_found_of p f)
 found_of Two at f h k = k h
 found_of Module at f h k = refl

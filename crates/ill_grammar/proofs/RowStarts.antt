@@ -6,7 +6,7 @@ use Rattle.ill_schema.specs.declared.node.NodeId.{NodeId}
 use Rattle.ill_schema.specs.declared.part.Row.{Row}
 use Rattle.ill_schema.specs.Table.{rows_of}
 use Rattle.ill_refusals.specs.Element.{Component, Element, component_starts, components, components_from}
-use Rattle.ill_grammar.specs.Cells.{IsAlternative}
+use Rattle.ill_grammar.specs.Cells.{BeginsAlternative}
 use Rattle.ill_grammar.specs.Elements.{component_at, element_with}
 
 there : (node : NodeId) (k i : ℕ) (rs : List Row) (c : Component) (cs : List Component) → drop i (components_from profile_two node k rs) ≡ c ∷ cs
@@ -39,7 +39,7 @@ got (y ∷ ys) (suc i) x e = got ys i x e
 abbrev pub IsRowStart : Tag → NodeId → ℕ → Element → Type 0
 IsRowStart t node n e = (row : Row) × (slice_get (rows_of node) n ≡ Some row) × (element_with t (component_starts (component_at (record { node = node; row = n }) row)) ≡ Some e)
 
-pub row-start : (t : Tag) (node : NodeId) (n : ℕ) (e : Element) → IsAlternative t node n e → IsRowStart t node n e
+pub row-start : (t : Tag) (node : NodeId) (n : ℕ) (e : Element) → BeginsAlternative t node n e → IsRowStart t node n e
 row-start t node n e b =
     let g = got (components profile_two node) n b.0 b.1 in
     let w = component-row node n b.0 g.0 g.1 in

@@ -98,8 +98,8 @@ abbrev pub node_choice : NodeId → Option NodeId
 node_choice node = elim (kind_of node) as (λ _. Option NodeId) [ Kind.Choice ↦ Some node | _ ↦ None ]
 
 -- the alternative that the second cell is, where the first is a choice without a tag
-abbrev pub alternative_in : Cell → Cell → Option ℕ
-alternative_in cell tagged = if cell.nested then option_map (λ _. tagged.part.row) (node_choice cell.node) else None
+abbrev pub cell_alternative : Cell → Cell → Option ℕ
+cell_alternative cell tagged = if cell.nested then option_map (λ _. tagged.part.row) (node_choice cell.node) else None
 
 -- where the element begins inside: a tag round a node at 0
 abbrev pub first_position : ElementType → ℕ
@@ -118,9 +118,9 @@ is_leaf Kind.IllString = true
 is_leaf _ = false
 
 -- its segments are BIT STRINGs
-abbrev pub is_bits : Kind → Bool
-is_bits (Kind.Leaf LeafKind.BitString) = true
-is_bits _ = false
+abbrev pub has_bit_segments : Kind → Bool
+has_bit_segments (Kind.Leaf LeafKind.BitString) = true
+has_bit_segments _ = false
 
 abbrev pub is_any : Kind → Bool
 is_any Kind.Any = true
@@ -172,13 +172,13 @@ due_at p node position slot.Root e = due_foreign (rows []) (wrapped p node) e
 due_at p node position slot.Foreign e = due_foreign (foreigns (levels_in p)) (wrapped p node) e
 
 -- the tag begins the alternative of this number of a choice (8.13)
-abbrev pub IsAlternative : Tag → NodeId → ℕ → Element → Type 0
-IsAlternative t node n e = (c : Component) × (slice_get (components profile_two node) n ≡ Some c) × (element_with t (component_starts c) ≡ Some e)
+abbrev pub BeginsAlternative : Tag → NodeId → ℕ → Element → Type 0
+BeginsAlternative t node n e = (c : Component) × (slice_get (components profile_two node) n ≡ Some c) × (element_with t (component_starts c) ≡ Some e)
 
 -- the tag begins the component itself, or an alternative of it where it is a choice without a tag
 abbrev pub Begins : Tag → Component → Option ℕ → Element → Type 0
 Begins t c None e = element_with t (component_starts c) ≡ Some e
-Begins t c (Some n) e = (c.tagging ≡ untagged) × (kind_of c.node ≡ Kind.Choice) × IsAlternative t c.node n e
+Begins t c (Some n) e = (c.tagging ≡ untagged) × (kind_of c.node ≡ Kind.Choice) × BeginsAlternative t c.node n e
 
 -- the same of what is due
 abbrev pub BeginsDue : Tag → Due → Option ℕ → Type 0

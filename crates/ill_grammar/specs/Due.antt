@@ -136,16 +136,16 @@ abbrev pub next_place : CellFound → PlaceView
 next_place f = place_after f (slot_of f)
 
 -- what a tag begins, where that is, and the alternative of a choice without a tag that it is
-pub record Due : Type 0 where
+pub record DueEntry : Type 0 where
   pub slot : Slot
   pub alternative : Option ℕ
   pub found : Begun
 
-abbrev pub due_as : CellFound → Due
+abbrev pub due_as : CellFound → DueEntry
 due_as f = record { slot = slot_in f; alternative = alternative_of f; found = found_in f }
 
 -- the same where it isn't left out
-abbrev pub read_due : CellFound → Due
+abbrev pub read_due : CellFound → DueEntry
 read_due f = record { slot = slot_in f; alternative = alternative_of f; found = begun.Element (read_as f) }
 
 abbrev pub next_is : Next → next.Next
@@ -178,7 +178,7 @@ pub record IsRowDue (t : Tag) (node : NodeId) (position r : ℕ) (alternative : 
   pub begins : Begins t (component_at (record { node = node; row = r }) row) alternative (found_is found)
 
 -- what is due in rows
-abbrev pub IsDueInRows : Tag → NodeId → ℕ → Due → Type 0
+abbrev pub IsDueInRows : Tag → NodeId → ℕ → DueEntry → Type 0
 IsDueInRows t node position d = elim d.slot as (λ _. Type 0) [ AtRow r ↦ IsRowDue t node position r d.alternative d.found | _ ↦ ⊥ ]
 
 -- what comes after an element at a slot
@@ -192,31 +192,31 @@ behind (Foreigns n) _ = Foreigns n
 behind _ _ = Nothing
 
 -- the first item of a list
-pub record IsItemDue (t : Tag) (node : NodeId) (d : Due) : Type 0 where
+pub record IsItemDue (t : Tag) (node : NodeId) (d : DueEntry) : Type 0 where
   pub slot : d.slot ≡ Item
   pub row : Row
   pub is_row : slice_get (rows_of node) 0 ≡ Some row
   pub begun : IsBegun t (component_at (record { node = node; row = 0 }) row) d.alternative d.found
 
 -- the part of a wrapper
-pub record IsInnerDue (t : Tag) (w : Wrapped) (d : Due) : Type 0 where
+pub record IsInnerDue (t : Tag) (w : Wrapped) (d : DueEntry) : Type 0 where
   pub slot : d.slot ≡ Inside
   pub begun : IsBegun t (component_of w) d.alternative d.found
 
 -- a segment of a string whose segments have this tag
-pub record IsSegmentDue (u t : Tag) (d : Due) : Type 0 where
+pub record IsSegmentDue (u t : Tag) (d : DueEntry) : Type 0 where
   pub slot : d.slot ≡ Segment
   pub tag : same_tag t u ≡ true
   pub found : found_is d.found ≡ segment u
 
 -- an element of a foreign tree, in which so many levels may stand
-pub record IsForeignDue (n : ℕ) (there : Slot) (d : Due) : Type 0 where
+pub record IsForeignDue (n : ℕ) (there : Slot) (d : DueEntry) : Type 0 where
   pub slot : d.slot ≡ there
   pub alternative : d.alternative ≡ None
   pub found : found_is d.found ≡ foreign n
 
 -- what is due there with the tag
-abbrev pub IsDueIn : Tag → Next → Due → Type 0
+abbrev pub IsDueIn : Tag → Next → DueEntry → Type 0
 IsDueIn t (Rows node n) d = IsDueInRows t node n d
 IsDueIn t (Inner w) d = IsInnerDue t w d
 IsDueIn t (Items node) d = IsItemDue t node d
@@ -234,5 +234,5 @@ pub record IsComing (t : Tag) (at : Place) (f : CellFound) : Type 0 where
   pub after : shape_at (next_place f) ≡ behind (shape at) (slot_in f)
 
 -- what is due, where it is an element
-abbrev pub due_with : Slot → Option ℕ → CodeElement → Due
+abbrev pub due_with : Slot → Option ℕ → CodeElement → DueEntry
 due_with slot alternative element = record { slot = slot; alternative = alternative; found = begun.Element element }

@@ -12,7 +12,7 @@ use Rattle.ill_schema.specs.TableFacts.{is_of_two}
 use Rattle.ill_refusals.specs.Element.{Component, components, Element, starts}
 use Rattle.ill_refusals.specs.Next.{Next, rows, Due, part, due, element_of}
 use Rattle.ill_grammar.specs.Elements.{element_with}
-use Rattle.ill_grammar.specs.Cells.{alternative_in, is_two_cell, next_from, element_in, due_at, first_position, is_placed, row_before, wrapped, BeginsDue}
+use Rattle.ill_grammar.specs.Cells.{cell_alternative, is_two_cell, next_from, element_in, due_at, first_position, is_placed, row_before, wrapped, BeginsDue}
 use Rattle.ill_grammar.specs.declared.cell.EntryRole.{EntryRole}
 use Rattle.ill_grammar.specs.declared.cell.ElementType.{ElementType}
 use Rattle.ill_grammar.specs.declared.cell.EntryRole.TheVariants as slot
@@ -28,18 +28,18 @@ pub record PlaceView : Type 0 where
 abbrev pub part_in : Place → PartId
 part_in at = at.parent.now.part
 
-abbrev pub node_in : Place → NodeId
-node_in at = at.parent.now.node
+abbrev pub node_at : Place → NodeId
+node_at at = at.parent.now.node
 
 abbrev pub position_in : Place → ℕ
 position_in at = at.position
 
 abbrev pub place_view : Place → PlaceView
-place_view at = record { part = part_in at; node = node_in at; position = at.position }
+place_view at = record { part = part_in at; node = node_at at; position = at.position }
 
 -- what may come next there
 abbrev pub next_at : Place → Next
-next_at at = next_from (part_in at) (node_in at) at.position
+next_at at = next_from (part_in at) (node_at at) at.position
 
 -- the part, the node and the alternative of an element that is found, and where it is
 abbrev pub part_of : Found → PartId
@@ -52,20 +52,20 @@ abbrev pub type_of : Found → ElementType
 type_of f = f.tagged.now.element_type
 
 abbrev pub alternative_of : Found → Option ℕ
-alternative_of f = alternative_in f.cell.now f.tagged.now
+alternative_of f = cell_alternative f.cell.now f.tagged.now
 
 abbrev pub slot_of : Found → EntryRole
 slot_of f = f.cell.now.slot
 
 -- the node round it
 abbrev pub parent_node : Found → NodeId
-parent_node f = node_in f.at
+parent_node f = node_at f.at
 
 abbrev pub element_found : Found → Element
 element_found f = element_in (part_of f) (node_of f) (type_of f)
 
 abbrev pub due_of : Found → Due
-due_of f = due_at (part_in f.at) (node_in f.at) f.at.position (slot_of f) (element_found f)
+due_of f = due_at (part_in f.at) (node_at f.at) f.at.position (slot_of f) (element_found f)
 
 -- the first place where the element that is found may begin inside
 abbrev pub first_place : Found → PlaceView
@@ -85,7 +85,7 @@ nowhere = record { part = record { node = Boolean; row = 0 }; node = Boolean; po
 
 -- the place after the element
 abbrev pub place_after : Found → EntryRole → PlaceView
-place_after f slot.Row = record { part = part_in f.at; node = node_in f.at; position = f.at.position + 1 }
+place_after f slot.Row = record { part = part_in f.at; node = node_at f.at; position = f.at.position + 1 }
 place_after f slot.Inner = nowhere
 place_after f slot.Item = place_view f.at
 place_after f slot.Segment = place_view f.at
@@ -105,18 +105,18 @@ pub record IsAtRow (node : NodeId) (row : ℕ) (d : Due) : Type 0 where
 
 -- what is found is of profile 2, and so is the node round it
 abbrev pub is_two : Found → Bool
-is_two f = is_of_two (node_in f.at) && is_two_cell f.tagged.now
+is_two f = is_of_two (node_at f.at) && is_two_cell f.tagged.now
 
 -- what is due there with the tag
-pub record IsDue (t : Tag) (at : Place) (f : Found) : Type 0 where
+pub record IsDueWithTag (t : Tag) (at : Place) (f : Found) : Type 0 where
   pub is : due profile_two t (next_at at) ≡ Some (due_of f)
   pub begins : BeginsDue t (due_of f) (alternative_of f)
-  pub parent : parent_node f ≡ node_in at
+  pub parent : parent_node f ≡ node_at at
   -- at this position or a later one
   pub later : at.position ≤ f.at.position
   -- in a wrapper, the part itself comes first
-  pub passed : at.position ≡ 0 → (f.at.position ≡ 0 → ⊥) → element_with t (starts profile_two (wrapped (part_in at) (node_in at))) ≡ None
+  pub passed : at.position ≡ 0 → (f.at.position ≡ 0 → ⊥) → element_with t (starts profile_two (wrapped (part_in at) (node_at at))) ≡ None
   pub placed : IsTrue (is_placed (kind_of (parent_node f)) f.at.position (slot_of f))
   pub row : slot_of f ≡ slot.Row → IsAtRow (parent_node f) (row_of f) (due_of f)
   -- in an open type no position is passed
-  pub stays : kind_of (node_in at) ≡ Kind.Any → place_view f.at ≡ place_view at
+  pub stays : kind_of (node_at at) ≡ Kind.Any → place_view f.at ≡ place_view at

@@ -35,12 +35,12 @@ use Rattle.ill_schema.specs.declared.refusal.Cause.{Cause}
 abbrev pub top_part : Named → Wrapped
 top_part p = record { part = record { node = root (profile_of p); row = 0 }; node = root (profile_of p) }
 
-abbrev pub top : Named → Next
-top p = Inner (top_part p)
+abbrev pub next_at_top : Named → Next
+next_at_top p = Inner (top_part p)
 
 -- what may come next in the last frame
 abbrev pub next_at : Named → List Frame → Next
-next_at p [] = top p
+next_at p [] = next_at_top p
 next_at p (f ∷ fs) = elim fs as (λ _. Next) [ [] ↦ shape f.place | _ ↦ next_at p fs ]
 
 -- what an open element has in it, in a draft of the message: its tag, what may come next, where its contents begin in the draft, and the entries
@@ -81,7 +81,7 @@ IsHeld p _ _ _ _ = ⊥
 
 -- a message is in no element
 abbrev pub top_level : Named → Level
-top_level p = record { element = Wrapper (top_part p); tag = sequence_tag; next = top p; contents_start = 0; entries = [] }
+top_level p = record { element = Wrapper (top_part p); tag = sequence_tag; next = next_at_top p; contents_start = 0; entries = [] }
 
 abbrev pub whole_level : Named → Content → Level
 whole_level p c = record (top_level p) { next = Nothing; entries = Some c ∷ [] }
@@ -99,7 +99,7 @@ AreDue n none = Unit {0}
 AreDue n (more T ts) = (d : following.Due) × (due profile_two (tag_of T) n ≡ Some d) × AreDue (next_of d) ts
 
 -- a frame is an open element in a path, where the frames of the path are these and it has these entries
-pub record IsFrame (p : Named) (f : Frame) (o : Open) (path : List Open) (outer : List Frame) (entries : List (Option Content)) : Type 0 where
+pub record IsFrameOf (p : Named) (f : Frame) (o : Open) (path : List Open) (outer : List Frame) (entries : List (Option Content)) : Type 0 where
   pub element : element_is (read_as f.found) ≡ o.element
   pub start : f.start ≡ o.start
   pub identified : IsTrue (is_identified o.tag true)
@@ -115,7 +115,7 @@ pub record IsFrame (p : Named) (f : Frame) (o : Open) (path : List Open) (outer 
 abbrev pub AreFrames : Named → List Open → List Frame → List Level → Type 0
 AreFrames p [] frames levels = (frames ≡ []) × (levels ≡ top_level p ∷ [])
 AreFrames p (o ∷ path) frames levels = (outer : List Frame) × (f : Frame) × (below : List Level) × (entries : List (Option Content))
-    × (frames ≡ outer ++ f ∷ []) × (levels ≡ pushed (level_of f o.tag entries) below) × IsFrame p f o path outer entries × AreFrames p path outer below
+    × (frames ≡ outer ++ f ∷ []) × (levels ≡ pushed (level_of f o.tag entries) below) × IsFrameOf p f o path outer entries × AreFrames p path outer below
 
 -- the frames are at a place where these elements are open
 abbrev pub StandsAt : Frames → List Open → Type 0

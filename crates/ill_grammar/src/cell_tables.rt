@@ -27,7 +27,7 @@ macro_rules! own_number {
 }
 
 /// The element type of a node.
-macro_rules! own_what {
+macro_rules! own_element_type {
     (Boolean) => { ElementType::Boolean };
     (Integer) => { ElementType::Integer };
     (Enumerated) => { ElementType::Enumerated };
@@ -58,7 +58,7 @@ macro_rules! element_type {
     (LeftOut, $mode:ident, $node:ident) => { ElementType::LeftOut };
     ($presence:ident, Explicit, $node:ident) => { ElementType::Wrapper };
     ($presence:ident, ExplicitOrBare, $node:ident) => { ElementType::LooseWrapper };
-    ($presence:ident, Implicit, $node:ident) => { own_what!($node) };
+    ($presence:ident, Implicit, $node:ident) => { own_element_type!($node) };
 }
 
 /// True for a node that is a choice in a sequence or list without a tag.
@@ -110,7 +110,7 @@ macro_rules! cell {
         Cell {
             number: own_number!($node),
             class: Class::Universal,
-            element_type: own_what!($node),
+            element_type: own_element_type!($node),
             part: PartId { node: NodeId::$parent, row: $row },
             node: NodeId::$node,
             slot: EntryRole::$slot,

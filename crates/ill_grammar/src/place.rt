@@ -7,7 +7,7 @@ ghost use Rattle.ill_schema.specs.Table.{kind_of};
 ghost use Rattle.ill_schema.specs.TableFacts.{is_of_two};
 ghost use Rattle.ill_schema.specs.Tagging.{same_tag};
 ghost use Rattle.ill_grammar.specs.Elements.{element_with};
-ghost use Rattle.ill_grammar.specs.Cells.{alternative_in, first_position, is_placed, is_two_cell, node_choice, part_at};
+ghost use Rattle.ill_grammar.specs.Cells.{cell_alternative, first_position, is_placed, is_two_cell, node_choice, part_at};
 ghost use Rattle.ill_grammar.specs.code.Meant.{cell_choice, cell_opens, cell_starts, default_at, is_nested, node_starts, opens_in, row_there};
 ghost use Rattle.ill_refusals.specs.Element.{components};
 ghost use Rattle.ill_grammar.specs.code.Starts.{IsBegunBy};
@@ -126,7 +126,7 @@ fn start(cell: &'static Cell, id: Id) -> Option<&'static Cell>
     requires { cell_opens cell.now ≡ true }
     ensures begins { MatchOption result (element_with (tag_of_id id) (cell_starts cell.now) ≡ None)
         (λ tagged. IsBegunBy (tag_of_id id) (cell_starts cell.now) (cell_choice cell.now)
-        (alternative_in cell.now tagged.now) tagged.now) }
+        (cell_alternative cell.now tagged.now) tagged.now) }
     ensures two { IsTrue (is_two_cell cell.now)
         → IfSome result (λ tagged. IsTrue (is_two_cell tagged.now)) }
 {
@@ -145,7 +145,7 @@ impl Place {
     ghost use Rattle.ber_core.specs.Identifier.{Tag};
     ghost use Rattle.ill_schema.specs.declared.node.Kind.{Kind};
     ghost use Rattle.ill_schema.specs.Profiles.{profile_of};
-    ghost use Rattle.ill_grammar.specs.Places.{IsDue, is_two, next_at, node_in, nowhere, part_in, position_in, top, top_in, type_of, place_view};
+    ghost use Rattle.ill_grammar.specs.Places.{IsDueWithTag, is_two, next_at, node_at, nowhere, part_in, position_in, top, top_in, type_of, place_view};
     ghost use Rattle.ill_grammar.specs.declared.cell.ElementType.{ElementType};
     ghost use Rattle.ill_grammar.specs.code.ByTag.{due_by_tag};
 
@@ -183,7 +183,7 @@ impl Place {
 
     /// The node that is open, or that is in the wrapper.
     pub fn node(self) -> NodeId
-        ensures { result ≡ node_in self }
+        ensures { result ≡ node_at self }
     {
         self.parent.node
     }
@@ -209,8 +209,8 @@ impl Place {
     #[inline(always)]
     pub fn find(self, id: Id) -> Option<Found>
         ensures due { MatchOption result (due profile_two (tag_of_id id) (next_at self) ≡ None)
-            (λ found. IsDue (tag_of_id id) self found) }
-        ensures two { IsTrue (is_of_two (node_in self))
+            (λ found. IsDueWithTag (tag_of_id id) self found) }
+        ensures two { IsTrue (is_of_two (node_at self))
             → IfSome result (λ found. IsTrue (is_two found)) }
     {
         match self.find_tag(id) {
@@ -224,8 +224,8 @@ impl Place {
     pub fn find_any(self) -> Option<Found>
         ensures due { (t : Tag) → due_by_tag t (next_at self) ≡ None
             → MatchOption result (due profile_two t (next_at self) ≡ None)
-            (λ found. IsDue t self found) }
-        ensures open { IfSome result (λ _. kind_of (node_in self) ≡ Kind.Any) }
+            (λ found. IsDueWithTag t self found) }
+        ensures open { IfSome result (λ _. kind_of (node_at self) ≡ Kind.Any) }
         ensures foreign { IfSome result (λ found. type_of found ≡ ElementType.Foreign) }
     {
         let depth = match (kind(self.parent.node), self.position) {
@@ -245,8 +245,8 @@ impl Place {
     #[inline(always)]
     pub fn find_tag(self, id: Id) -> Option<Found>
         ensures due { MatchOption result (due_by_tag (tag_of_id id) (next_at self) ≡ None)
-            (λ found. IsDue (tag_of_id id) self found) }
-        ensures two { IsTrue (is_of_two (node_in self))
+            (λ found. IsDueWithTag (tag_of_id id) self found) }
+        ensures two { IsTrue (is_of_two (node_at self))
             → IfSome result (λ found. IsTrue (is_two found)) }
     {
         let cells = cells_of(self.parent.node);

@@ -1,10 +1,8 @@
 -- The lines of JSON of results: of a message without its value, and of one that is refused.
-use Rattle.std.specs.Prelude.{ℕ, List, [], ◌∷◌, ◌++◌, map, codes, decimal, string_bytes, Option, Some, None, option_map}
+use Rattle.std.specs.Prelude.{ℕ, List, [], ◌∷◌, map, codes, decimal, string_bytes, Option, Some, None, option_map}
 use Rattle.json.specs.Json.{Json, number, string, array, object, Items, no_items, item, Members, no_members, member}
 use Rattle.ill_schema.specs.Causes.{cause_name}
-use Rattle.ill_schema.specs.Names.{part_name_of}
-use Rattle.ill_schema.specs.declared.part.PartId.{PartId}
-use Rattle.ill_schema.specs.declared.refusal.Cause.{Cause}
+use Rattle.ill_schema.specs.Names.{cause_part_name_of, dotted_name}
 use Rattle.ill_schema.specs.declared.refusal.Refusal.{Refusal}
 use Rattle.ill_schema.specs.Texts.{hexadecimal}
 use Rattle.ill_json.specs.Json.{head_members, line_of, with_file}
@@ -42,20 +40,6 @@ abbrev pub result_json : Option (List ℕ) → LineHead → List ℕ → Option 
 result_json file head apdu digest =
     object (with_file file (head_members head apdu (with_text (codes "digest") (option_map hexadecimal digest) no_members)))
 
--- the name of a node, and that of its row
-abbrev pub dotted : List ℕ × List ℕ → List ℕ
-dotted names = names.0 ++ codes "." ++ names.1
-
--- the part that a cause is about, and its name
-abbrev pub part_of_cause : Cause → Option PartId
-part_of_cause (Cause.LeftOut part) = Some part
-part_of_cause (Cause.Missing part) = Some part
-part_of_cause _ = None
-
-abbrev pub part_text : Option PartId → Option (List ℕ)
-part_text None = None
-part_text (Some part) = option_map dotted (part_name_of part)
-
 abbrev pub kind_name : RefusalKind → List ℕ
 kind_name RefusalKind.NotRead = codes "not read"
 kind_name RefusalKind.Invalid = codes "invalid"
@@ -73,7 +57,7 @@ why_json refusal kind place = object
     (member (codes "cause") (string (cause_name refusal.cause))
     (member (codes "offset") (number (decimal refusal.at))
     (member (codes "kind") (string (kind_name kind))
-    (with_text (codes "part") (part_text (part_of_cause refusal.cause)) (place_members place)))))
+    (with_text (codes "part") (option_map dotted_name (cause_part_name_of refusal.cause)) (place_members place)))))
 
 -- a message that is refused, with the name of its APDU, where that is known
 abbrev pub refused_json : Option (List ℕ) → RefusedHead → Option (List ℕ) → RefusalPlace → Json

@@ -2,8 +2,8 @@
 ghost use Rattle.std.specs.Prelude.{◌≡◌, ◌<◌, ◌++◌, [], ℕ, length, min, decimal, string_bytes, IfSome, IsTrue, MatchOption, OnOk};
 ghost use Rattle.std.specs.List.{list_all};
 ghost use Rattle.ill_read.specs.Marks.{octets_in};
-ghost use Rattle.ill_schema.specs.Texts.{components, numbers_after, oid_text, with_dots};
-ghost use Rattle.ill_json.specs.code.Identifiers.{IsNext, dotted, ends_number, is_short, number_with};
+ghost use Rattle.ill_schema.specs.Texts.{after_dot, numbers_after, oid_components, oid_text, with_dots};
+ghost use Rattle.ill_json.specs.code.Identifiers.{IsFirstNumber, ends_number, is_short, number_with};
 
 use crate::hexadecimal::add_hexadecimal;
 use ill_read::Mark;
@@ -53,7 +53,7 @@ pub fn are_short(octets: &[Mark]) -> bool
 fn add_components(text: &mut String, octets: &[Mark]) -> Result<(), AllocError>
     requires { IsTrue (list_all is_short (numbers_after 0 (octets_in octets.now))) }
     ensures { OnOk result (string_bytes text.new ≡ string_bytes text.old
-        ++ with_dots (components (numbers_after 0 (octets_in octets.now)))) }
+        ++ with_dots (oid_components (numbers_after 0 (octets_in octets.now)))) }
 {
     let Some((first, rest)) = next_number(octets) else {
         return Ok(());
@@ -71,7 +71,7 @@ fn add_components(text: &mut String, octets: &[Mark]) -> Result<(), AllocError>
 
 /// Adds a dot and a number.
 fn add_dotted(text: &mut String, number: u64) -> Result<(), AllocError>
-    ensures { OnOk result (string_bytes text.new ≡ string_bytes text.old ++ dotted number) }
+    ensures { OnOk result (string_bytes text.new ≡ string_bytes text.old ++ after_dot number) }
 {
     text.push('.')?;
     add_number(text, number)
@@ -88,7 +88,7 @@ fn add_number(text: &mut String, number: u64) -> Result<(), AllocError>
 /// subidentifier ends.
 fn next_number(octets: &[Mark]) -> Option<(u64, &[Mark])>
     ensures number { MatchOption result (numbers_after 0 (octets_in octets.now) ≡ [])
-        (λ next. IsNext (octets_in octets.now) next.0 (octets_in next.1.now)) }
+        (λ next. IsFirstNumber (octets_in octets.now) next.0 (octets_in next.1.now)) }
     ensures shorter { IfSome result (λ next. length next.1.now < length octets.now) }
 {
     let mut number = 0;

@@ -1,14 +1,14 @@
 //! Lines of results: of a message without its value, and of one that is refused.
 ghost use Rattle.std.specs.Prelude.{◌≡◌, ◌++◌, codes, IfOk, option_map};
 ghost use Rattle.json.specs.Tree.{json_tokens};
-ghost use Rattle.ill_schema.specs.Names.{part_name_of};
-ghost use Rattle.ill_json.specs.Results.{dotted, kind_name, part_of_cause, part_text, refused_json, refused_line_of, result_json, result_line_of, why_json};
+ghost use Rattle.ill_schema.specs.Names.{cause_part_name_of, dotted_name};
+ghost use Rattle.ill_json.specs.Results.{kind_name, refused_json, refused_line_of, result_json, result_line_of, why_json};
 ghost use Rattle.ill_json.specs.code.Adding.{Adds, count_tokens, digest_tokens, text_tokens};
 
 use crate::line::{LineHead, put_file, put_head};
 use crate::place::{RefusalPlace, put_place};
 use crate::writing::LineWriter;
-use ill_schema::{Cause, PartId, Refusal, part_name};
+use ill_schema::{Cause, Refusal};
 use json::Token;
 use std::alloc::{AllocError, Global};
 
@@ -208,37 +208,17 @@ fn put_why(refusal: Refusal, kind: RefusalKind, place: &RefusalPlace, out: &mut 
     out.count(refusal.at as u64);
     out.put(Token::Key("kind"));
     out.put(Token::String(kind.name()));
-    put_part(part_of_cause(refusal.cause), out);
+    put_part_name(refusal.cause, out);
     put_place(place, out);
     out.put(Token::EndObject);
 }
 
-/// The part that a cause is about.
-fn part_of_cause(cause: Cause) -> Option<PartId>
-    ensures { result ≡ part_of_cause cause }
+/// Puts the member of the part that a cause is about, if there is one.
+fn put_part_name(cause: Cause, out: &mut LineWriter)
+    ensures { Adds (text_tokens (codes "part")
+        (option_map dotted_name (cause_part_name_of cause))) out.old out.new }
 {
-    match cause {
-        Cause::LeftOut(part) | Cause::Missing(part) => Some(part),
-        _ => None,
-    }
-}
-
-/// Puts the member of a part, if there is one.
-fn put_part(part: Option<PartId>, out: &mut LineWriter)
-    ensures { Adds (text_tokens (codes "part") (part_text part)) out.old out.new }
-{
-    match part {
-        Some(part) => put_part_name(part, out),
-        None => {}
-    }
-}
-
-/// Puts the member of a part, if it has a name.
-fn put_part_name(part: PartId, out: &mut LineWriter)
-    ensures { Adds (text_tokens (codes "part") (option_map dotted (part_name_of part))) out.old
-        out.new }
-{
-    match part_name(part) {
+    match cause.part_name() {
         Some((node, row)) => {
             out.put(Token::Key("part"));
             out.dotted(node, row);

@@ -8,7 +8,7 @@ use Rattle.std.proofs.lemmas.Bool.{cases_lt}
 use Rattle.ill_normal.specs.Hexadecimal.{hex_octets}
 use Rattle.ill_normal.proofs.HexAnswers.{same_octets}
 use Rattle.ill_lines.proofs.PartEnds.{no_end_join, no_end_more, part_ended}
-use Rattle.ill_lines.specs.Lines.{Answer, AreAnswers, IsResult, all_good, has_line_end, lines, output}
+use Rattle.ill_lines.specs.Lines.{Answer, AreAnswers, IsResult, all_results_good, has_line_end, lines, result_lines}
 use Rattle.ill_lines.specs.code.After.{Answers, IsSame, StandsAfter}
 use Rattle.ill_lines.specs.declared.job.LineOptions.{LineOptions}
 use Rattle.ill_lines.specs.declared.lines.LineReader.{LineReader}
@@ -25,17 +25,17 @@ pub push_are : (work : LineOptions) (answers : List Answer) (a : Answer) → Are
 push_are work [] a h k = (k, tt)
 push_are work (b ∷ answers) a h k = (h.0, push_are work answers a h.1 k)
 
-pub push_output : (answers : List Answer) (a : Answer) → output (answers ++ a ∷ []) ≡ output answers ++ (a.result ++ codes "\n")
+pub push_output : (answers : List Answer) (a : Answer) → result_lines (answers ++ a ∷ []) ≡ result_lines answers ++ (a.result ++ codes "\n")
 push_output [] a = append-nil (a.result ++ codes "\n")
-push_output (b ∷ answers) a = ap (λ l. b.result ++ codes "\n" ++ l) (push_output answers a) ∙ sym (append_assoc (b.result ++ codes "\n") (output answers) (a.result ++ codes "\n"))
+push_output (b ∷ answers) a = ap (λ l. b.result ++ codes "\n" ++ l) (push_output answers a) ∙ sym (append_assoc (b.result ++ codes "\n") (result_lines answers) (a.result ++ codes "\n"))
 
-pub push_good : (answers : List Answer) (a : Answer) → all_good (answers ++ a ∷ []) ≡ (all_good answers && a.is_good)
+pub push_good : (answers : List Answer) (a : Answer) → all_results_good (answers ++ a ∷ []) ≡ (all_results_good answers && a.is_good)
 push_good [] a = and_true a.is_good
   where
     and_true : (b : Bool) → (b && true) ≡ b
     and_true true = refl
     and_true false = refl
-push_good (b ∷ answers) a = ap (λ (x : Bool). b.is_good && x) (push_good answers a) ∙ regroup b.is_good (all_good answers) a.is_good
+push_good (b ∷ answers) a = ap (λ (x : Bool). b.is_good && x) (push_good answers a) ∙ regroup b.is_good (all_results_good answers) a.is_good
   where
     regroup : (x y z : Bool) → (x && (y && z)) ≡ ((x && y) && z)
     regroup true y z = refl
@@ -132,12 +132,12 @@ module _ (work : LineOptions) (s put : List ℕ) (old new : LineReader) (h : Sta
   pub result_of_line : (k : Answers work old.part.items old new) → IsResult work (hex_octets h.rest) k.result k.is_good
   result_of_line k = subst (λ o. IsResult work o k.result k.is_good) (ap hex_octets h.is_kept ∙ kept_stands h.rest) k.is_result
 
-  pub more_made : (k : Answers work old.part.items old new) → put ++ new.ready.items ≡ output (h.answers ++ answer h.rest k.result k.is_good ∷ [])
+  pub more_made : (k : Answers work old.part.items old new) → put ++ new.ready.items ≡ result_lines (h.answers ++ answer h.rest k.result k.is_good ∷ [])
   more_made k =
       ap (λ l. put ++ l) (k.ready ∙ append_assoc old.ready.items k.result (codes "\n")) ∙ sym (append_assoc put old.ready.items (k.result ++ codes "\n"))
       ∙ ap (λ l. l ++ (k.result ++ codes "\n")) h.is_made ∙ sym (push_output h.answers (answer h.rest k.result k.is_good))
 
-  pub more_good : (k : Answers work old.part.items old new) → new.is_good ≡ all_good (h.answers ++ answer h.rest k.result k.is_good ∷ [])
+  pub more_good : (k : Answers work old.part.items old new) → new.is_good ≡ all_results_good (h.answers ++ answer h.rest k.result k.is_good ∷ [])
   more_good k = k.good ∙ ap (λ (b : Bool). b && k.is_good) h.is_good ∙ sym (push_good h.answers (answer h.rest k.result k.is_good))
 
   pub step_end : Answers work old.part.items old new → StandsAfter work (s ++ 0x0A ∷ []) put new

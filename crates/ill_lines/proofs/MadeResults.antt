@@ -5,7 +5,7 @@ use Rattle.std.proofs.KnownBytes.{Appends-nil, Appends-trans}
 use Rattle.std.proofs.lemmas.List.{map-append, take-append-drop}
 use Rattle.std.proofs.Math.Seq.{take-append-add}
 use Rattle.ill_normal.specs.Calls.{putting}
-use Rattle.ill_lines.specs.Lines.{Answer, AreAnswers, EndsWithin, LinesDone, all_good, has_line_end, lines, output}
+use Rattle.ill_lines.specs.Lines.{Answer, AreAnswers, EndsWithin, LinesDone, all_results_good, has_line_end, lines, result_lines}
 use Rattle.ill_lines.specs.code.After.{Answers, HasWritten, IsAfter, StandsAfter}
 use Rattle.ill_lines.specs.declared.job.LineOptions.{LineOptions}
 use Rattle.ill_lines.specs.declared.job.LinesFault.{LinesFault}
@@ -18,8 +18,8 @@ pub record Made (work : LineOptions) (s rest made : List ℕ) (good : Bool) : Ty
   pub answers : List Answer
   pub of : lines s ≡ texts answers ++ lines rest
   pub are : AreAnswers work answers
-  pub is_made : made ≡ output answers
-  pub is_good : good ≡ all_good answers
+  pub is_made : made ≡ result_lines answers
+  pub is_good : good ≡ all_results_good answers
 
 module _ (work : LineOptions) (s kept made : List ℕ) (good : Bool) (h : IsAfter work s kept made good) where
   made_before : (more : List ℕ) → Made work (s ++ more) (h.rest ++ more) made good
@@ -85,9 +85,9 @@ module _ (work : LineOptions) (s rest : List ℕ) (good x y : Bool) (first held 
   pub ends_write : (put ready : List ℕ) (held' : Option (List ℕ)) (n : ℕ) → Made work s rest (put ++ ready) good → Appends first held put → n < length ready → Appends held held' (take n ready) → IsTrue y
       → EndsWithin work s x (putting first held' y) LinesFault.WriteFault
   ends_write put ready held' n m a lt b broke =
-      let all : output m.answers ≡ put ++ ready = sym m.is_made in
-      let less : length put + n < length (output m.answers) = omega (arith, lt, ap length all, length-append put ready) in
-      let front : put ++ take n ready ≡ take (length put + n) (output m.answers) = sym (ap (take (length put + n)) all ∙ take-append-add put ready n) in
+      let all : result_lines m.answers ≡ put ++ ready = sym m.is_made in
+      let less : length put + n < length (result_lines m.answers) = omega (arith, lt, ap length all, length-append put ready) in
+      let front : put ++ take n ready ≡ take (length put + n) (result_lines m.answers) = sym (ap (take (length put + n)) all ∙ take-append-add put ready n) in
       record {
         answers = m.answers;
         rest = rest;
@@ -135,7 +135,7 @@ lines_done work s put good left left' first held m taken end a = record {
 }
 
 -- before the first octet
-pub at_start : (work : LineOptions) (first : Option (List ℕ)) (now : LineReader) → now.part.items ≡ [] → now.ready.items ≡ [] → now.is_good ≡ all_good [] → HasWritten work [] first first now
+pub at_start : (work : LineOptions) (first : Option (List ℕ)) (now : LineReader) → now.part.items ≡ [] → now.ready.items ≡ [] → now.is_good ≡ all_results_good [] → HasWritten work [] first first now
 at_start work first now part ready good = (
   [],
   Appends-nil first,

@@ -72,12 +72,12 @@ AreAnswers work [] = Unit {0}
 AreAnswers work (a ∷ answers) = IsResult work (hex_octets a.text) a.result a.is_good × AreAnswers work answers
 
 -- a line for each
-abbrev pub output : List Answer → List ℕ
-output [] = []
-output (a ∷ answers) = a.result ++ codes "\n" ++ output answers
+abbrev pub result_lines : List Answer → List ℕ
+result_lines [] = []
+result_lines (a ∷ answers) = a.result ++ codes "\n" ++ result_lines answers
 
-abbrev pub all_good : List Answer → Bool
-all_good answers = list_all (λ a. a.is_good) answers
+abbrev pub all_results_good : List Answer → Bool
+all_results_good answers = list_all (λ a. a.is_good) answers
 
 -- the input was taken to its end, and the results of its lines were written
 pub record LinesDone (work : LineOptions) (left left' held held' : Option (List ℕ)) (good : Bool) : Type 0 where
@@ -87,16 +87,16 @@ pub record LinesDone (work : LineOptions) (left left' held held' : Option (List 
   pub end : IsAtEnd left'
   pub of : lines octets ≡ map (λ a. a.text) answers
   pub are : AreAnswers work answers
-  pub written : Appends held held' (output answers)
-  pub is_verdict : good ≡ all_good answers
+  pub written : Appends held held' (result_lines answers)
+  pub is_verdict : good ≡ all_results_good answers
 
 -- what was written of the results of the first lines, where the call ended early; `rest` is what was taken after them
 abbrev pub Ends : Bool → Putting → List Answer → List ℕ → LinesFault → Type 0
-Ends source_broken sink answers rest LinesFault.OutOfMemory = Appends sink.held sink.held' (output answers)
+Ends source_broken sink answers rest LinesFault.OutOfMemory = Appends sink.held sink.held' (result_lines answers)
 Ends source_broken sink answers rest LinesFault.ReadFault =
-    IsTrue source_broken × (has_line_end rest ≡ false) × Appends sink.held sink.held' (output answers)
+    IsTrue source_broken × (has_line_end rest ≡ false) × Appends sink.held sink.held' (result_lines answers)
 Ends source_broken sink answers rest LinesFault.WriteFault =
-    IsTrue sink.broken × ((n : ℕ) × (n < length (output answers)) × Appends sink.held sink.held' (take n (output answers)))
+    IsTrue sink.broken × ((n : ℕ) × (n < length (result_lines answers)) × Appends sink.held sink.held' (take n (result_lines answers)))
 
 -- these octets were taken, and the call ended early
 pub record EndsWithin (work : LineOptions) (octets : List ℕ) (source_broken : Bool) (sink : Putting) (fault : LinesFault) : Type 0 where

@@ -1,24 +1,19 @@
 -- The words of a line that is not a message.
 use Rattle.std.specs.Prelude.{ℕ, List, [], ◌++◌, codes, decimal, Option, Some, None}
-use Rattle.ill_schema.specs.Names.{part_name_of}
+use Rattle.ill_schema.specs.Names.{cause_part_name_of, dotted_name}
 use Rattle.ill_schema.specs.Causes.{cause_name}
 use Rattle.ill_schema.specs.declared.refusal.Cause.{Cause}
 use Rattle.ill_refusals.specs.Fault.{Fault}
 use Rattle.ill_normal.specs.declared.run_fault.RunFault.{RunFault}
 
--- the name of a node, and that of its row
+-- the names of a part
 abbrev pub part_words : Option (List ℕ × List ℕ) → List ℕ
 part_words None = []
-part_words (Some names) = codes " " ++ names.0 ++ codes "." ++ names.1
+part_words (Some names) = codes " " ++ dotted_name names
 
--- the part that a cause is about
-abbrev pub part_of_cause : Cause → List ℕ
-part_of_cause (Cause.LeftOut part) = part_words (part_name_of part)
-part_of_cause (Cause.Missing part) = part_words (part_name_of part)
-part_of_cause _ = []
-
+-- a cause, and the part that it is about
 abbrev pub cause_words : Cause → List ℕ
-cause_words cause = cause_name cause ++ part_of_cause cause
+cause_words cause = cause_name cause ++ part_words (cause_part_name_of cause)
 
 -- why octets are not one message
 abbrev pub refusal_words : Fault → List ℕ

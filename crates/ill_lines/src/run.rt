@@ -98,14 +98,14 @@ fn run_with<R: Source, W: Sink>(
             Ok(count) => count,
             Err(Broken) => return Err(LinesFault::ReadFault),
         };
-        pass(alloc, work, &buffer[..count], &mut lines, sink)?;
+        feed_and_put(alloc, work, &buffer[..count], &mut lines, sink)?;
     }
     // After 2^64 calls no more is asked for.
     Err(LinesFault::OutOfMemory)
 }
 
 /// Reads octets, and writes the results of the lines that end in them.
-fn pass<W: Sink>(
+fn feed_and_put<W: Sink>(
     alloc: Global,
     work: LineOptions,
     octets: &[u8],

@@ -1,10 +1,9 @@
 //! The words of a line that is not a message.
 ghost use Rattle.std.specs.Prelude.{◌≡◌, IfOk, OnOk, ◌++◌};
-ghost use Rattle.ill_schema.specs.Names.{part_name_of};
 ghost use Rattle.ill_refusals.specs.Fault.{fault_of};
-ghost use Rattle.ill_lines.specs.Words.{cause_words, hex_words, part_words, refusal_words};
+ghost use Rattle.ill_lines.specs.Words.{cause_words, hex_words, refusal_words};
 
-use ill_normal::{Cause, PartId, Refusal, RunFault, part_name};
+use ill_normal::{Cause, Refusal, RunFault};
 use itoa::Buffer;
 use std::alloc::{AllocError, Global};
 
@@ -24,16 +23,7 @@ fn push_cause(words: &mut Vec<u8>, cause: Cause) -> Result<(), AllocError>
     ensures { OnOk result (words.new.items ≡ words.old.items ++ cause_words cause) }
 {
     words.extend_from_slice(cause.name().as_bytes())?;
-    match cause {
-        Cause::LeftOut(part) | Cause::Missing(part) => push_part(words, part),
-        _ => Ok(()),
-    }
-}
-
-fn push_part(words: &mut Vec<u8>, part: PartId) -> Result<(), AllocError>
-    ensures { OnOk result (words.new.items ≡ words.old.items ++ part_words (part_name_of part)) }
-{
-    let Some((node, row)) = part_name(part) else {
+    let Some((node, row)) = cause.part_name() else {
         return Ok(());
     };
     words.extend_from_slice(b" ")?;

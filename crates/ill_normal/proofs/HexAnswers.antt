@@ -7,7 +7,7 @@ use Rattle.hex.specs.Hex.{decode_of}
 use Rattle.ill_normal.proofs.InputAnswers.{front}
 use Rattle.ill_normal.specs.declared.run_fault.RunFault.{RunFault}
 use Rattle.ill_normal.specs.Hexadecimal.{hex_octets, with_fault, without_blanks, TakesText}
-use Rattle.ill_normal.specs.Inputs.{IsFault, IsUnread}
+use Rattle.ill_normal.specs.Inputs.{IsResourceFault, IsUnread}
 
 too_long : (text : List ℕ) → 4_194_304 < length text → hex_octets text ≡ Err RunFault.HexTooLong
 too_long text h = ap (λ (b : Bool). if b then Err RunFault.HexTooLong else with_fault (decode_of (without_blanks text))) (lt-ltb 4_194_304 (length text) h)
@@ -34,7 +34,7 @@ same_err r e f h k = cc
 pub not_both : (r : Result (List ℕ) RunFault) (a : List ℕ) (e : RunFault) → r ≡ Ok a → r ≡ Err e → ⊥
 not_both r a e h k = cc
 
-pub is_fault : (n : ℕ) (left left' : Option (List ℕ)) (x : Bool) (e : RunFault) → IsUnread n left left' x e → IsFault e
+pub is_fault : (n : ℕ) (left left' : Option (List ℕ)) (x : Bool) (e : RunFault) → IsUnread n left left' x e → IsResourceFault e
 is_fault n left left' x RunFault.OutOfMemory h = tt
 is_fault n left left' x RunFault.ReadFault h = tt
 is_fault n left left' x (RunFault.Refused message refusal) h = absurd h

@@ -8,7 +8,7 @@ use Rattle.ill_schema.specs.declared.profile.Profile.{Profile as Named}
 use Rattle.ill_schema.specs.Apdu.{Apdu, IsStream, normal_form_in}
 use Rattle.ill_read.specs.declared.failure.ReadFailure.{ReadFailure}
 use Rattle.ill_normal.specs.Calls.{Taking, Putting}
-use Rattle.ill_normal.specs.Messages.{Spelling, AreSpelledIn, after, first, position_after, output_from, WritesIn, PassesAllIn, EndsIn, EndsAfterIn, part_of}
+use Rattle.ill_normal.specs.Messages.{Spelling, AreSpelledIn, after, first, position_after, output_from, WritesMessagesIn, PassesAllIn, EndsIn, EndsAfterIn, part_written}
 use Rattle.ill_normal.specs.Streamed.{PassesIn, StopsIn, StopsAfterIn}
 use Rattle.ill_normal.specs.code.Ending.{stream_cause}
 use Rattle.ill_normal.specs.declared.messages.StreamCounts.{StreamCounts}
@@ -38,7 +38,7 @@ module _ (q : Named) where
   forms p [] = refl
   forms p (m ∷ ms) = ap (λ l. normal_form_in (profile_of q) m.apdu ++ l) (forms (after p (length m.octets)) ms)
 
-  passes_of : (left left' held held' : Option (List ℕ)) (ms : List Spelling) (whole before : ℕ) → (w : WritesIn (profile_of q) normal_text left left' held held' ms)
+  passes_of : (left left' held held' : Option (List ℕ)) (ms : List Spelling) (whole before : ℕ) → (w : WritesMessagesIn (profile_of q) normal_text left left' held held' ms)
       → whole ≡ length ms → before ≡ length w.octets → PassesIn (profile_of q) left left' held held' whole before
   passes_of left left' held held' ms whole before w count size = record {
     apdus = apdus_of ms;
@@ -74,10 +74,10 @@ module _ (q : Named) where
   }
 
   -- of a normal form no more is written than a message may have
-  part : (source : Taking) (sink : Putting) (whole : ℕ) (next : MessagePlace) (why : StreamErrorKind) → EndsIn (profile_of q) normal_text source sink whole next why → part_of why ≤ 1_048_576
+  part : (source : Taking) (sink : Putting) (whole : ℕ) (next : MessagePlace) (why : StreamErrorKind) → EndsIn (profile_of q) normal_text source sink whole next why → part_written why ≤ 1_048_576
   part source sink whole next (StreamErrorKind.Read failure) h = omega arith
   part source sink whole next (StreamErrorKind.Write n) h = let b = h.1 in let short : length (normal_form_in (profile_of q) b.message.apdu) ≤ 1_048_576 = b.spells.normal_short in omega (arith, short, b.fewer)
   part source sink whole next StreamErrorKind.TooMany h = omega arith
 
-  pub part_bound : (is_good : Spelling → Bool) (source : Taking) (sink : Putting) (e : StreamError) → EndsAfterIn (profile_of q) normal_text is_good source sink e → part_of e.why ≤ 1_048_576
+  pub part_bound : (is_good : Spelling → Bool) (source : Taking) (sink : Putting) (e : StreamError) → EndsAfterIn (profile_of q) normal_text is_good source sink e → part_written e.why ≤ 1_048_576
   part_bound is_good source sink e h = part _ _ e.whole (position_after first h.messages) e.why h.ends

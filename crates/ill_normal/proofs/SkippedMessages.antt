@@ -19,7 +19,7 @@ use Rattle.ill_normal.specs.declared.report.RefusalReport.{RefusalReport}
 use Rattle.ill_normal.specs.declared.skipping.SkippingError.{SkippingError}
 use Rattle.ill_normal.specs.declared.skipping.SkippingErrorKind.{SkippingErrorKind}
 use Rattle.ill_normal.specs.Items.{Item, good, bad, IsRefusedFor, AreItems, item_octets, position_past, written_of, written_from, report, reports_from, good_in, all_good, Adds}
-use Rattle.ill_normal.specs.Skipping.{Reporting, reporting, Goes, HasNoEnd, SkipsToEnd, part_of, StopsFor, SkipsAndStops}
+use Rattle.ill_normal.specs.Skipping.{Reporting, reporting, Skips, HasNoEnd, SkipsToEnd, part_written, StopsFor, SkipsAndStops}
 use Rattle.ill_normal.specs.Next.{TakesPart}
 use Rattle.ill_normal.specs.InputEnds.{GoesOn}
 use Rattle.ill_normal.specs.declared.input_end.EndError.{EndError}
@@ -155,7 +155,7 @@ module _ (q : Named) where
     reported x = reports_push first r.items x ∙ ap (λ (p : MessagePlace). reports_from first r.items ++ reports_from p (x ∷ [])) r.next
 
     goes_to : (grown : Option (List ℕ)) (x : Item) (b : List ℕ) → Is x b → Consumes left' left'' b → Appends held' grown (written_of (text (position (counts.messages + 1) counts.octets)) x) → Adds new next (reports_from (position (counts.messages + 1) counts.octets) (x ∷ []))
-        → Goes (profile_of q) text left left'' held grown (reporting old next) (r.items ++ x ∷ [])
+        → Skips (profile_of q) text left left'' held grown (reporting old next) (r.items ++ x ∷ [])
     unfolding here
     goes_to grown x b is c w a = record {
       octets = r.goes.octets ++ b;
@@ -244,10 +244,10 @@ module _ (q : Named) where
           all = lost_all counts.refused counts.good counts.messages ∙ ap₂ (λ (a b : ℕ). nat_eq a b) (ap₂ (λ (a b : ℕ). a + b) r.bad_ones r.good_are) r.count ∙ counted_all is_good first r.items;
         }
 
-    halts : (grown : Option (List ℕ)) (written' : ℕ) (why : SkippingErrorKind) → written' ≡ length (written_from text first r.items) + part_of why
+    stops : (grown : Option (List ℕ)) (written' : ℕ) (why : SkippingErrorKind) → written' ≡ length (written_from text first r.items) + part_written why
         → StopsFor (profile_of q) text (taking left' left'' u) (putting held' grown v) counts.messages (position_past first r.items) why
         → SkipsAndStops (profile_of q) text is_good (taking left left'' u) (putting held grown v) (reporting old new) (error_at counts written' why)
-    halts grown written' why size h = record {
+    stops grown written' why size h = record {
       items = r.items;
       rest = left';
       grown = held';
@@ -257,34 +257,34 @@ module _ (q : Named) where
       good = r.good_are;
       octets = r.input;
       written = size;
-      halts = h;
+      stops = h;
     }
 
-    pub halts_unread : (e : TakeError) → counts.messages < 1_000_000 → (e ≡ TakeError.Broken → IsTrue u × TakesPart left' left'')
+    pub stops_unread : (e : TakeError) → counts.messages < 1_000_000 → (e ≡ TakeError.Broken → IsTrue u × TakesPart left' left'')
         → SkipsAndStops (profile_of q) text is_good (taking left left'' u) (putting held held' v) (reporting old new) (error_at counts (written + 0) (why_of e))
-    halts_unread TakeError.OutOfMemory lt broken = halts held' (written + 0) SkippingErrorKind.OutOfMemory (omega (arith, r.size)) (lt, Keeps-refl held')
-    halts_unread TakeError.Broken lt broken =
+    stops_unread TakeError.OutOfMemory lt broken = stops held' (written + 0) SkippingErrorKind.OutOfMemory (omega (arith, r.size)) (lt, Keeps-refl held')
+    stops_unread TakeError.Broken lt broken =
         let b = broken refl in
-        halts held' (written + 0) SkippingErrorKind.ReadFault (omega (arith, r.size))
+        stops held' (written + 0) SkippingErrorKind.ReadFault (omega (arith, r.size))
         (omega (arith, lt), b.0, ((b.1.octets, b.1.taken, b.1.unfinished q), λ full. absurd (omega (arith, lt, full))), Keeps-refl held')
 
-    pub halts_writing : {T : Type 0} (is : T → List ℕ → Type 0) (piece : RenderedMessage T) (n : ℕ) → counts.messages < 1_000_000 → (p : Made is text is_good (position (counts.messages + 1) counts.octets) left' left'' piece)
+    pub stops_writing : {T : Type 0} (is : T → List ℕ → Type 0) (piece : RenderedMessage T) (n : ℕ) → counts.messages < 1_000_000 → (p : Made is text is_good (position (counts.messages + 1) counts.octets) left' left'' piece)
         → Appends held' held'' (take n (text (position (counts.messages + 1) counts.octets) (spelling p.2.apdu p.0))) → n < length (text (position (counts.messages + 1) counts.octets) (spelling p.2.apdu p.0)) → IsTrue v
         → SkipsAndStops (profile_of q) text is_good (taking left left'' u) (putting held held'' v) (reporting old new) (error_at counts (written + n) (SkippingErrorKind.WriteFault n))
-    halts_writing is piece n lt p w fewer broken =
-        halts held'' (written + n) (SkippingErrorKind.WriteFault n) (omega (arith, r.size)) (
+    stops_writing is piece n lt p w fewer broken =
+        stops held'' (written + n) (SkippingErrorKind.WriteFault n) (omega (arith, r.size)) (
           lt,
           subst (λ (i : MessagePlace). BreaksWithinIn (profile_of q) (text i) (taking left' left'' u) (putting held' held'' v) n) (sym r.next)
               (record { message = spelling p.2.apdu p.0; spells = p.2.spells; taken = p.1; written = w; fewer = fewer; broken = broken }),
         )
 
     -- after the last message that an input may have an octet was taken, or the source broke
-    pub halts_at_last : (error : EndError) → counts.messages ≡ 1_000_000 → GoesOn left' left'' u error
+    pub stops_at_last : (error : EndError) → counts.messages ≡ 1_000_000 → GoesOn left' left'' u error
         → SkipsAndStops (profile_of q) text is_good (taking left left'' u) (putting held held' v) (reporting old new) (error_at counts (written + 0) (why_of_end error))
-    halts_at_last EndError.MoreOctets last e = halts held' (written + 0) SkippingErrorKind.TooMany (omega (arith, r.size)) (last, e, Keeps-refl held')
-    halts_at_last EndError.Broken last e =
+    stops_at_last EndError.MoreOctets last e = stops held' (written + 0) SkippingErrorKind.TooMany (omega (arith, r.size)) (last, e, Keeps-refl held')
+    stops_at_last EndError.Broken last e =
         let none = Consumes-kept left' left' left'' [] (Consumes-nil left') e.1 in
-        halts held' (written + 0) SkippingErrorKind.ReadFault (omega (arith, r.size))
+        stops held' (written + 0) SkippingErrorKind.ReadFault (omega (arith, r.size))
         (omega (arith, last), e.0, (([], none, λ a i accepted. accepts_some (profile_of q) [] a i refl accepted), λ full. e.1), Keeps-refl held')
 
   -- no more are refused or good than there are

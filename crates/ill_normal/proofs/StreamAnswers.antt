@@ -10,7 +10,7 @@ use Rattle.ill_normal.specs.declared.failure.NormalFailure.{NormalFailure}
 use Rattle.ill_normal.specs.declared.failure.StreamCause.{StreamCause}
 use Rattle.ill_normal.specs.declared.failure.StreamFailure.{StreamFailure}
 use Rattle.ill_normal.specs.Calls.{taking, putting}
-use Rattle.ill_normal.specs.Normalised.{IsFault}
+use Rattle.ill_normal.specs.Normalised.{IsResourceFailure}
 use Rattle.ill_normal.specs.Streamed.{PassesIn, StopsIn, StopsAfterIn, IsRefusedAfter, AnswersCount, AnswersRefusedAfter, AnswersTooMany}
 use Rattle.ill_normal.proofs.LongestStreams.{nothing_over, no_longer, one_rest}
 use Rattle.ill_normal.proofs.PassedStreams.{passes_stream}
@@ -85,7 +85,7 @@ module _ (q : Named) where
         not_none t.0 t.2 (one_rest (profile_of q) s t.0 [] p.apdus xs t.1 k (omega (arith, b, p.count)))
 
     stop_accepts : (why : StreamCause) → StopsIn (profile_of q) (taking rest left' x) (putting grown held' y) whole why → (xs : List Apdu) → IsStream (profile_of q) s xs [] → length xs ≤ 1_000_000
-        → elim why as (λ _. Type 0) [ StreamCause.Normal failure ↦ IsFault failure | StreamCause.TooManyMessages ↦ ⊥ ]
+        → elim why as (λ _. Type 0) [ StreamCause.Normal failure ↦ IsResourceFailure failure | StreamCause.TooManyMessages ↦ ⊥ ]
     stop_accepts (StreamCause.Normal (NormalFailure.Refused refusal)) h xs k le = refused_whole (fault_of refusal) xs h.1.0 k
     stop_accepts (StreamCause.Normal NormalFailure.OutOfMemory) h xs k le = tt
     stop_accepts (StreamCause.Normal NormalFailure.ReadFault) h xs k le = tt
@@ -112,7 +112,7 @@ module _ (q : Named) where
 
     stop_too_many : (why : StreamCause) → StopsIn (profile_of q) (taking rest left' x) (putting grown held' y) whole why → (xs : List Apdu) (r : List ℕ)
         → IsStream (profile_of q) s xs r → length xs ≡ 1_000_000 → 0 < length r
-        → elim why as (λ _. Type 0) [ StreamCause.Normal failure ↦ IsFault failure | StreamCause.TooManyMessages ↦ Unit {0} ]
+        → elim why as (λ _. Type 0) [ StreamCause.Normal failure ↦ IsResourceFailure failure | StreamCause.TooManyMessages ↦ Unit {0} ]
     stop_too_many (StreamCause.Normal (NormalFailure.Refused refusal)) h xs r k many some =
         let t = rest_left s rest held grown whole before _ p h.1.0 in
         let a = no_longer (profile_of q) s t.0 r p.apdus xs t.1 t.2.1.2 k in

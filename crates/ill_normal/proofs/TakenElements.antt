@@ -13,8 +13,8 @@ use Rattle.ill_schema.specs.declared.profile.Profile.{Profile as Named}
 use Rattle.ber_framing.specs.declared.framer.Framing.{Framing}
 use Rattle.ber_framing.specs.declared.framer.Framing.TheVariants as framed
 use Rattle.ber_framing.specs.declared.framer.Framer.{Framer}
-use Rattle.ber_framing.specs.Framed.{IsFrame, IsPart, IsUnframed, definite, low}
-use Rattle.ber_framing.specs.Framer.{IsFed, Judged}
+use Rattle.ber_framing.specs.Framed.{IsFrame, IsPartOfFrame, IsUnframed, definite, low}
+use Rattle.ber_framing.specs.Framer.{IsFed, HasFraming}
 use Rattle.ber_framing.proofs.FrameSteps.{front_of}
 use Rattle.ber_framing.proofs.Frames.{part_and_whole, tree_framed}
 use Rattle.ill_schema.specs.declared.refusal.Refusal.{Refusal}
@@ -32,8 +32,8 @@ use Rattle.ill_normal.specs.Next.{IsNext, TakesPart}
 use Rattle.ill_normal.specs.code.Taking.{IsFraming, Takes, TakesElement, TakesRest, TakesUnframed, Took, end_of}
 
 -- all octets of a slice of which no fewer leave more to be needed
-pub feeds_all : (f : Framer) (b xs : List ℕ) (m need : ℕ) → m ≤ length xs → length xs ≤ need → ((w : List ℕ) → length w < need → IsPart (b ++ w))
-    → IsFed f (b ++ take m xs) → ((c : List ℕ) → IsFed f c → IsPart c → m ≡ length xs) → m ≡ length xs
+pub feeds_all : (f : Framer) (b xs : List ℕ) (m need : ℕ) → m ≤ length xs → length xs ≤ need → ((w : List ℕ) → length w < need → IsPartOfFrame (b ++ w))
+    → IsFed f (b ++ take m xs) → ((c : List ℕ) → IsFed f c → IsPartOfFrame c → m ≡ length xs) → m ≡ length xs
 feeds_all f b xs m need le within any fed all = elim (cases_lt m (length xs)) [
   | inl lt ↦ all (b ++ take m xs) fed (any (take m xs) (omega (arith, length-take-le m xs le, lt, within)))
   | inr ge ↦ omega arith
@@ -41,7 +41,7 @@ feeds_all f b xs m need le within any fed all = elim (cases_lt m (length xs)) [
 
 module _ (left left' : Option (List ℕ)) (f f' : Framer) (recorded recorded' : List ℕ) where
   pub takes_seen : (hand : List ℕ) (n : ℕ) → 0 < n → n ≤ length hand → Consumes left left' (take n hand) → ((b : List ℕ) → IsFed f b → IsFed f' (b ++ take n hand))
-      → ((b : List ℕ) (k : ℕ) → IsFed f b → k < n → IsPart (b ++ take k hand)) → recorded' ≡ recorded ++ take (1_048_576 - length recorded) (take n hand)
+      → ((b : List ℕ) (k : ℕ) → IsFed f b → k < n → IsPartOfFrame (b ++ take k hand)) → recorded' ≡ recorded ++ take (1_048_576 - length recorded) (take n hand)
       → Takes left left' f f' recorded recorded' n
   takes_seen hand n some le taken fed within keeps =
       let size : length (take n hand) ≡ n = length-take-le n hand le in
@@ -50,15 +50,15 @@ module _ (left left' : Option (List ℕ)) (f f' : Framer) (recorded recorded' : 
         size = sym size;
         taken = taken;
         fed = fed;
-        within = λ b k h lt. subst (λ w. IsPart (b ++ w)) (sym (take-take k n hand (omega (arith, lt, size)))) (within b k h (omega (arith, lt, size)));
+        within = λ b k h lt. subst (λ w. IsPartOfFrame (b ++ w)) (sym (take-take k n hand (omega (arith, lt, size)))) (within b k h (omega (arith, lt, size)));
         none = λ b z _ _. absurd (omega arith);
         keeps = keeps;
       }
 
   -- octets that were needed
   pub takes_needed : (xs : List ℕ) (m need : ℕ) → Consumes left left' xs → m ≤ length xs → length xs ≤ need
-      → ((b w : List ℕ) → IsFed f b → length w < need → IsPart (b ++ w)) → ((b : List ℕ) → IsFed f b → IsFed f' (b ++ take m xs))
-      → ((c : List ℕ) → IsFed f' c → IsPart c → m ≡ length xs) → (length xs ≡ 0 → IsAtEnd left')
+      → ((b w : List ℕ) → IsFed f b → length w < need → IsPartOfFrame (b ++ w)) → ((b : List ℕ) → IsFed f b → IsFed f' (b ++ take m xs))
+      → ((c : List ℕ) → IsFed f' c → IsPartOfFrame c → m ≡ length xs) → (length xs ≡ 0 → IsAtEnd left')
       → recorded' ≡ recorded ++ take (1_048_576 - length recorded) xs → Takes left left' f f' recorded recorded' (length xs)
   takes_needed xs m need taken le most any fed all end keeps = record {
     octets = xs;
@@ -73,7 +73,7 @@ module _ (left left' : Option (List ℕ)) (f f' : Framer) (recorded recorded' : 
   }
 
   -- nothing is needed
-  pub takes_none : Consumes left left' [] → ((b : List ℕ) → IsFed f b → IsFed f' b) → ((b : List ℕ) → IsFed f b → IsPart b → IsAtEnd left') → recorded' ≡ recorded
+  pub takes_none : Consumes left left' [] → ((b : List ℕ) → IsFed f b → IsFed f' b) → ((b : List ℕ) → IsFed f b → IsPartOfFrame b → IsAtEnd left') → recorded' ≡ recorded
       → Takes left left' f f' recorded recorded' 0
   takes_none taken fed end keeps = record {
     octets = [];
@@ -111,15 +111,15 @@ recorded_more (suc m) (x ∷ a) b =
     ap (λ z. x ∷ z) (ap (λ (i : ℕ). take m a ++ take i b) e ∙ recorded_more m a b)
 
 module _ (left left' left'' : Option (List ℕ)) (f f' : Framer) (recorded recorded' : List ℕ) (count size n : ℕ) (r : IsFraming left left' f recorded count size) (t : Takes left' left'' f f' recorded recorded' n) where
-  within_both : (k : ℕ) → k < length (r.octets ++ t.octets) → IsPart (take k (r.octets ++ t.octets))
+  within_both : (k : ℕ) → k < length (r.octets ++ t.octets) → IsPartOfFrame (take k (r.octets ++ t.octets))
   within_both k lt = elim (cases_lt k (length r.octets)) [
-    | inl less ↦ subst IsPart (sym (take-append-le k r.octets t.octets (omega (arith, less)))) (r.within k less)
+    | inl less ↦ subst IsPartOfFrame (sym (take-append-le k r.octets t.octets (omega (arith, less)))) (r.within k less)
     | inr ge ↦
         let more : k - length r.octets < length t.octets = omega (arith, ge, lt, length-append r.octets t.octets) in
         let sum : length r.octets + (k - length r.octets) ≡ k = omega (arith, ge) in
         let e : r.octets ++ take (k - length r.octets) t.octets ≡ take k (r.octets ++ t.octets) =
         sym (take-append-add r.octets t.octets (k - length r.octets)) ∙ ap (λ (i : ℕ). take i (r.octets ++ t.octets)) sum in
-        subst IsPart e (t.within r.octets (k - length r.octets) r.fed more)
+        subst IsPartOfFrame e (t.within r.octets (k - length r.octets) r.fed more)
   ]
 
   pub framing_more : (least : ℕ) → least ≤ count + n → IsFraming left left'' f' recorded' least (counted (size + n))
@@ -138,7 +138,7 @@ module _ (left left' left'' : Option (List ℕ)) (f f' : Framer) (recorded recor
   no_more [] z = refl
   no_more (o ∷ x) z = absurd (omega (arith, z))
 
-  pub element_ends : (frame : Framing) → n ≡ 0 → ((b : List ℕ) → IsFed f' b → Judged b frame) → TakesElement left left'' recorded' size frame
+  pub element_ends : (frame : Framing) → n ≡ 0 → ((b : List ℕ) → IsFed f' b → HasFraming b frame) → TakesElement left left'' recorded' size frame
   unfolding framing_more
   element_ends frame z judged =
       let m = framing_more 0 (omega arith) in
@@ -149,12 +149,12 @@ module _ (left left' left'' : Option (List ℕ)) (f f' : Framer) (recorded recor
         judged = judged m.octets m.fed;
         within = m.within;
         keeps = m.keeps;
-        part = λ p. inl (t.none r.octets z r.fed (subst IsPart none p));
+        part = λ p. inl (t.none r.octets z r.fed (subst IsPartOfFrame none p));
         size_is = r.size_is ∙ ap (λ x. counted (length x)) (sym none);
       }
 
 pub element_endless : (left left' : Option (List ℕ)) (f : Framer) (recorded : List ℕ) (count size : ℕ) (frame : Framing) → IsFraming left left' f recorded count size → 18_446_744_073_709_551_615 ≤ count
-    → ((b : List ℕ) → IsFed f b → Judged b frame) → TakesElement left left' recorded size frame
+    → ((b : List ℕ) → IsFed f b → HasFraming b frame) → TakesElement left left' recorded size frame
 element_endless left left' f recorded count size frame r le judged = record {
   octets = r.octets;
   taken = r.taken;
@@ -175,13 +175,13 @@ spelling_framed q a b h =
     tree_framed e.tree 18_446_744_073_709_551_615 b e.spells (omega (arith, short)) (omega (arith, shallow))
 
 -- in part of an element no message ends
-no_message : (q : Named) (b : List ℕ) → IsPart b → ((n : ℕ) → n < length b → IsPart (take n b)) → IsUnfinishedIn (profile_of q) b
+no_message : (q : Named) (b : List ℕ) → IsPartOfFrame b → ((n : ℕ) → n < length b → IsPartOfFrame (take n b)) → IsUnfinishedIn (profile_of q) b
 no_message q b p within a n h = elim (cases_lt n (length b)) [
   | inl lt ↦ part_and_whole (take n b) (within n lt) (spelling_framed q a (take n b) h.1)
   | inr ge ↦ part_and_whole b p (subst IsFrame (take_all n b ge) (spelling_framed q a (take n b) h.1))
 ]
 
-pub part_taken : (left left' left'' : Option (List ℕ)) (f : Framer) (recorded : List ℕ) (count size : ℕ) → IsFraming left left' f recorded count size → Keeps left' left'' → ((b : List ℕ) → IsFed f b → IsPart b)
+pub part_taken : (left left' left'' : Option (List ℕ)) (f : Framer) (recorded : List ℕ) (count size : ℕ) → IsFraming left left' f recorded count size → Keeps left' left'' → ((b : List ℕ) → IsFed f b → IsPartOfFrame b)
     → TakesPart left left''
 part_taken left left' left'' f recorded count size r keeps part = record {
   octets = r.octets;
@@ -189,7 +189,7 @@ part_taken left left' left'' f recorded count size r keeps part = record {
   unfinished = λ q. no_message q r.octets (part r.octets r.fed) r.within;
 }
 
-none_is_part : IsPart []
+none_is_part : IsPartOfFrame []
 none_is_part = (1 ∷ 0 ∷ [], (λ e. cc), definite [] (low (λ e. omega arith) (λ e. omega arith) refl) (short (lit≤ tt)) (lit≤ tt) refl)
 
 nothing_recorded : (m : ℕ) (xs : List ℕ) → take (suc m) xs ≡ [] → xs ≡ []
@@ -204,7 +204,7 @@ module _ (left left' : Option (List ℕ)) (recorded : List ℕ) (size : ℕ) (fr
       sym (take-append-drop 1_048_576 t.octets) ∙ ap (λ z. z ++ drop 1_048_576 t.octets) (sym t.keeps ∙ e) ∙ append_assoc m rest (drop 1_048_576 t.octets) in
       let more = rest ++ drop 1_048_576 t.octets in
       elim (cases_lt (length m) (length t.octets)) [
-        | inl lt ↦ part_and_whole m (subst IsPart (ap (λ z. take (length m) z) all ∙ take_front m more) (t.within (length m) lt)) (spelling_framed q a m h)
+        | inl lt ↦ part_and_whole m (subst IsPartOfFrame (ap (λ z. take (length m) z) all ∙ take_front m more) (t.within (length m) lt)) (spelling_framed q a m h)
         | inr ge ↦ all ∙ ap (λ z. m ++ z) (none_left more (omega (arith, ge, ap length all, length-append m more))) ∙ append-nil m
       ]
     where
@@ -222,10 +222,10 @@ module _ (left left' : Option (List ℕ)) (recorded : List ℕ) (size : ℕ) (fr
   none_next rest c end =
       let none : t.octets ≡ [] = nothing_recorded 1_048_575 t.octets (sym t.keeps ∙ c ∙ end) in (
         subst (Consumes left left') none t.taken,
-        elim (t.part (subst IsPart (sym none) none_is_part)) [ inl e ↦ e | inr le ↦ absurd (omega (arith, le, ap length none)) ],
+        elim (t.part (subst IsPartOfFrame (sym none) none_is_part)) [ inl e ↦ e | inr le ↦ absurd (omega (arith, le, ap length none)) ],
       )
 
-  end_is : (f : Framing) → Judged t.octets f → MatchOption (end_of f size) (HasNoEnd t.octets left') (λ n. IsFrame t.octets × (n ≡ counted (length t.octets)))
+  end_is : (f : Framing) → HasFraming t.octets f → MatchOption (end_of f size) (HasNoEnd t.octets left') (λ n. IsFrame t.octets × (n ≡ counted (length t.octets)))
   end_is framed.Whole j = (j, t.size_is)
   end_is framed.Unframed j = inl (record { front = t.octets; more = []; joined = sym (append-nil t.octets); unframed = j; within = t.within })
   end_is framed.Part j = inr (j, t.part j)
@@ -265,15 +265,15 @@ took_unframed left left' left'' recorded recorded' size t r = record {
 }
 
 -- no message is at the front of octets with which no element begins
-pub none_begins : (octets more : List ℕ) → IsUnframed octets → ((n : ℕ) → n < length octets → IsPart (take n octets)) → (m rest : List ℕ) → IsFrame m → octets ++ more ≡ m ++ rest → ⊥
+pub none_begins : (octets more : List ℕ) → IsUnframed octets → ((n : ℕ) → n < length octets → IsPartOfFrame (take n octets)) → (m rest : List ℕ) → IsFrame m → octets ++ more ≡ m ++ rest → ⊥
 none_begins octets more unframed within m rest frame e = elim (cases_lt (length m) (length octets)) [
   | inl less ↦
       let t = front_of m octets rest more (omega (arith, less)) (sym e) in
-      part_and_whole m (subst IsPart (ap (λ z. take (length m) z) t.1 ∙ take_front m t.0) (within (length m) less)) frame
+      part_and_whole m (subst IsPartOfFrame (ap (λ z. take (length m) z) t.1 ∙ take_front m t.0) (within (length m) less)) frame
   | inr ge ↦ let t = front_of octets m more rest ge e in unframed t.0 (subst IsFrame t.1 frame)
 ]
 
-unframed_unfinished : (q : Named) (octets more : List ℕ) → IsUnframed octets → ((n : ℕ) → n < length octets → IsPart (take n octets)) → IsUnfinishedIn (profile_of q) (octets ++ more)
+unframed_unfinished : (q : Named) (octets more : List ℕ) → IsUnframed octets → ((n : ℕ) → n < length octets → IsPartOfFrame (take n octets)) → IsUnfinishedIn (profile_of q) (octets ++ more)
 unframed_unfinished q octets more unframed within a n h =
     none_begins octets more unframed within (take n (octets ++ more)) (drop n (octets ++ more)) (spelling_framed q a (take n (octets ++ more)) h.1) (sym (take-append-drop n (octets ++ more)))
 

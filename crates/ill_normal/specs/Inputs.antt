@@ -37,8 +37,8 @@ abbrev pub FailsText : Option (List ℕ) → Option (List ℕ) → Bool → RunF
 FailsText left left' source_broken fault = NoHex left left' fault ⊎ IsUnread 4_194_305 left left' source_broken fault
 
 -- memory, the source or the sink failed
-abbrev pub IsFault : RunFault → Type 0
-IsFault RunFault.OutOfMemory = Unit {0}
-IsFault RunFault.ReadFault = Unit {0}
-IsFault (RunFault.WriteFault n) = Unit {0}
-IsFault _ = ⊥
+abbrev pub IsResourceFault : RunFault → Type 0
+IsResourceFault RunFault.OutOfMemory = Unit {0}
+IsResourceFault RunFault.ReadFault = Unit {0}
+IsResourceFault (RunFault.WriteFault n) = Unit {0}
+IsResourceFault _ = ⊥

@@ -75,7 +75,7 @@ pub record MakesIn (q : Profile) {T : Type 0} (is : T → List ℕ → Type 0) (
   pub size : piece.octets ≡ length octets
 
 -- the octets that were taken are these messages, and their output was written
-pub record WritesIn (q : Profile) (text : MessagePlace → Spelling → List ℕ) (left left' held held' : Option (List ℕ)) (messages : List Spelling) : Type 0 where
+pub record WritesMessagesIn (q : Profile) (text : MessagePlace → Spelling → List ℕ) (left left' held held' : Option (List ℕ)) (messages : List Spelling) : Type 0 where
   pub octets : List ℕ
   pub spelled : AreSpelledIn q octets messages []
   pub taken : Consumes left left' octets
@@ -84,7 +84,7 @@ pub record WritesIn (q : Profile) (text : MessagePlace → Spelling → List ℕ
 -- the input was messages to its end, at most 1,000,000
 pub record PassesAllIn (q : Profile) (text : MessagePlace → Spelling → List ℕ) (is_good : Spelling → Bool) (left left' held held' : Option (List ℕ)) (passed : StreamCounts) : Type 0 where
   pub messages : List Spelling
-  pub writes : WritesIn q text left left' held held' messages
+  pub writes : WritesMessagesIn q text left left' held held' messages
   pub end : IsAtEnd left'
   pub few : length messages ≤ 1_000_000
   pub count : passed.whole ≡ length messages
@@ -117,22 +117,22 @@ EndsIn q text source sink whole next StreamErrorKind.TooMany =
     (whole ≡ 1_000_000) × ((octet : ℕ) × Consumes source.left source.left' (octet ∷ [])) × Keeps sink.held sink.held'
 
 -- the octets of the last message that were written, where the sink broke within it
-abbrev pub part_of : StreamErrorKind → ℕ
-part_of (StreamErrorKind.Read failure) = 0
-part_of (StreamErrorKind.Write n) = n
-part_of StreamErrorKind.TooMany = 0
+abbrev pub part_written : StreamErrorKind → ℕ
+part_written (StreamErrorKind.Read failure) = 0
+part_written (StreamErrorKind.Write n) = n
+part_written StreamErrorKind.TooMany = 0
 
 -- the messages before the end, and why there was one; of what follows them no more was taken than a message may have
 pub record EndsAfterIn (q : Profile) (text : MessagePlace → Spelling → List ℕ) (is_good : Spelling → Bool) (source : Taking) (sink : Putting) (stopped : StreamError) : Type 0 where
   pub messages : List Spelling
   pub rest : Option (List ℕ)
   pub grown : Option (List ℕ)
-  pub writes : WritesIn q text source.left rest sink.held grown messages
+  pub writes : WritesMessagesIn q text source.left rest sink.held grown messages
   pub taken : TakesFront rest source.left'
   pub count : stopped.whole ≡ length messages
   pub good : stopped.good ≡ good_of is_good messages
   pub before : stopped.before ≡ length writes.octets
-  pub written : stopped.written ≡ length (output_from text first messages) + part_of stopped.why
+  pub written : stopped.written ≡ length (output_from text first messages) + part_written stopped.why
   pub ends : EndsIn q text (taking rest source.left' source.broken) (putting grown sink.held' sink.broken) stopped.whole (position_after first messages) stopped.why
 
 -- the same in profile 2

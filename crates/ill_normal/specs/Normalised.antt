@@ -36,14 +36,14 @@ abbrev pub Fails : Taking → Putting → NormalFailure → Type 0
 Fails source sink failure = FailsIn profile_two source sink failure
 
 -- memory, the source or the sink failed
-abbrev pub IsFault : NormalFailure → Type 0
-IsFault (NormalFailure.Refused refusal) = ⊥
-IsFault _ = Unit {0}
+abbrev pub IsResourceFailure : NormalFailure → Type 0
+IsResourceFailure (NormalFailure.Refused refusal) = ⊥
+IsResourceFailure _ = Unit {0}
 
 -- the result is this one, or a fault
 abbrev pub Answers : {T : Type 0} → Result T NormalFailure → T → Type 0
 Answers (Ok x) y = x ≡ y
-Answers (Err failure) y = IsFault failure
+Answers (Err failure) y = IsResourceFailure failure
 
 -- the result is this refusal, or a fault
 abbrev pub AnswersRefused : {T : Type 0} → Result T NormalFailure → Fault → Type 0

@@ -1,7 +1,7 @@
 -- What a call that goes on after refusals does to its source, its sink and its reports.
 use Rattle.std.specs.Prelude.{◌≡◌, ◌⊎◌, ℕ, ◌+◌, ◌<◌, ◌≤◌, Bool, nat_eq, List, [], ◌∷◌, ◌++◌, length, take, Option, None, IsTrue}
 use Rattle.std.specs.Io.KnownBytes.{Consumes, Keeps, Appends, IsAtEnd}
-use Rattle.ber_framing.specs.Framed.{IsPart, IsUnframed}
+use Rattle.ber_framing.specs.Framed.{IsPartOfFrame, IsUnframed}
 use Rattle.ber_leaf.specs.Profile.{Profile}
 use Rattle.ill_schema.specs.declared.refusal.Refusal.{Refusal}
 use Rattle.ill_normal.specs.Calls.{Taking, taking, Putting, putting}
@@ -23,7 +23,7 @@ abbrev pub reporting : Option (List RefusalReport) → Option (List RefusalRepor
 reporting old new = record { old = old; new = new }
 
 -- the octets that were taken are these messages; what is written of them was put, and what is refused was reported
-pub record Goes (q : Profile) (text : MessagePlace → Spelling → List ℕ) (left left' held held' : Option (List ℕ)) (reports : Reporting) (items : List Item) : Type 0 where
+pub record Skips (q : Profile) (text : MessagePlace → Spelling → List ℕ) (left left' held held' : Option (List ℕ)) (reports : Reporting) (items : List Item) : Type 0 where
   pub octets : List ℕ
   pub are : AreItems q octets items []
   pub taken : Consumes left left' octets
@@ -36,12 +36,12 @@ pub record IsEndless (octets : List ℕ) : Type 0 where
   pub more : List ℕ
   pub joined : octets ≡ front ++ more
   pub unframed : IsUnframed front
-  pub within : (n : ℕ) → n < length front → IsPart (take n front)
+  pub within : (n : ℕ) → n < length front → IsPartOfFrame (take n front)
 
 -- where an element ends that begins with these octets can't be known; or they are part of one, and the input ends in them, or they are too many
 -- to count
 abbrev pub HasNoEnd : List ℕ → Option (List ℕ) → Type 0
-HasNoEnd octets left' = IsEndless octets ⊎ (IsPart octets × (IsAtEnd left' ⊎ (18_446_744_073_709_551_615 ≤ length octets)))
+HasNoEnd octets left' = IsEndless octets ⊎ (IsPartOfFrame octets × (IsAtEnd left' ⊎ (18_446_744_073_709_551_615 ≤ length octets)))
 
 -- the message at this position was refused, its end can't be known, and it was reported
 pub record LosesEnd (q : Profile) (left left' : Option (List ℕ)) (reports : Reporting) (p : MessagePlace) : Type 0 where
@@ -53,7 +53,7 @@ pub record LosesEnd (q : Profile) (left left' : Option (List ℕ)) (reports : Re
   pub reported : Adds reports.old reports.new (report p refusal None ∷ [])
 
 -- nothing was left
-pub record IsDone (left left' : Option (List ℕ)) (reports : Reporting) : Type 0 where
+pub record HasNothingLeft (left left' : Option (List ℕ)) (reports : Reporting) : Type 0 where
   pub none : Consumes left left' []
   pub end : IsAtEnd left'
   pub reported : Adds reports.old reports.new []
@@ -61,7 +61,7 @@ pub record IsDone (left left' : Option (List ℕ)) (reports : Reporting) : Type 
 -- after these messages: the end of the input, or one more that was refused, whose end can't be known
 abbrev pub EndsWith : Profile → Option (List ℕ) → Option (List ℕ) → Reporting → List Item → SkippingCounts → Type 0
 EndsWith q left left' reports items counts =
-    (IsDone left left' reports × (counts.messages ≡ length items) × (counts.refused ≡ length (reports_from first items)))
+    (HasNothingLeft left left' reports × (counts.messages ≡ length items) × (counts.refused ≡ length (reports_from first items)))
     ⊎ (LosesEnd q left left' reports (position_past first items) × (counts.messages ≡ length items + 1) × (counts.refused ≡ length (reports_from first items) + 1))
 
 -- the input was read, as far as the ends of its messages can be known
@@ -69,7 +69,7 @@ pub record SkipsToEnd (q : Profile) (text : MessagePlace → Spelling → List �
   pub items : List Item
   pub rest : Option (List ℕ)
   pub reported : Option (List RefusalReport)
-  pub goes : Goes q text source.left rest sink.held sink.held' (reporting reports.old reported) items
+  pub goes : Skips q text source.left rest sink.held sink.held' (reporting reports.old reported) items
   pub ends : EndsWith q rest source.left' (reporting reported reports.new) items counts
   pub few : counts.messages ≤ 1_000_000
   pub good : counts.good ≡ good_in is_good items
@@ -86,22 +86,22 @@ StopsFor q text source sink before next SkippingErrorKind.TooMany =
     (before ≡ 1_000_000) × ((octet : ℕ) × Consumes source.left source.left' (octet ∷ [])) × Keeps sink.held sink.held'
 
 -- the octets of the last message that were written, where the sink broke within it
-abbrev pub part_of : SkippingErrorKind → ℕ
-part_of (SkippingErrorKind.WriteFault n) = n
-part_of _ = 0
+abbrev pub part_written : SkippingErrorKind → ℕ
+part_written (SkippingErrorKind.WriteFault n) = n
+part_written _ = 0
 
 -- the messages before the end, and why there was one
 pub record SkipsAndStops (q : Profile) (text : MessagePlace → Spelling → List ℕ) (is_good : Spelling → Bool) (source : Taking) (sink : Putting) (reports : Reporting) (error : SkippingError) : Type 0 where
   pub items : List Item
   pub rest : Option (List ℕ)
   pub grown : Option (List ℕ)
-  pub goes : Goes q text source.left rest sink.held grown reports items
+  pub goes : Skips q text source.left rest sink.held grown reports items
   pub messages : error.messages ≡ length items
   pub refused : error.refused ≡ length (reports_from first items)
   pub good : error.good ≡ good_in is_good items
   pub octets : error.octets ≡ counted (length goes.octets)
-  pub written : error.written ≡ length (written_from text first items) + part_of error.why
-  pub halts : StopsFor q text (taking rest source.left' source.broken) (putting grown sink.held' sink.broken) error.messages (position_past first items) error.why
+  pub written : error.written ≡ length (written_from text first items) + part_written error.why
+  pub stops : StopsFor q text (taking rest source.left' source.broken) (putting grown sink.held' sink.broken) error.messages (position_past first items) error.why
 
 -- why a job went no further, where this many octets were written
 abbrev pub fault_of_kind : ℕ → SkippingErrorKind → RunFault

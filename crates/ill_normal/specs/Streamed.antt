@@ -10,7 +10,7 @@ use Rattle.ill_normal.specs.declared.failure.StreamCause.{StreamCause}
 use Rattle.ill_normal.specs.declared.failure.StreamFailure.{StreamFailure}
 use Rattle.ill_normal.specs.Calls.{Taking, taking, Putting, putting}
 use Rattle.ill_normal.specs.Messages.{TakesNoFurtherIn}
-use Rattle.ill_normal.specs.Normalised.{FailsIn, IsFault}
+use Rattle.ill_normal.specs.Normalised.{FailsIn, IsResourceFailure}
 
 -- `whole` messages of `before` octets were taken, and their normal forms were written, in order
 pub record PassesIn (q : Profile) (left left' held held' : Option (List ℕ)) (whole before : ℕ) : Type 0 where
@@ -47,12 +47,12 @@ StopsAfter source sink failure = StopsAfterIn profile_two source sink failure
 -- a stream's result is this number, or a fault
 abbrev pub AnswersCount : Result ℕ StreamFailure → ℕ → Type 0
 AnswersCount (Ok m) n = m ≡ n
-AnswersCount (Err e) n = elim e.why as (λ _. Type 0) [ StreamCause.Normal failure ↦ IsFault failure | StreamCause.TooManyMessages ↦ ⊥ ]
+AnswersCount (Err e) n = elim e.why as (λ _. Type 0) [ StreamCause.Normal failure ↦ IsResourceFailure failure | StreamCause.TooManyMessages ↦ ⊥ ]
 
 -- after m messages this failure is the refusal f after n messages, or a fault
 abbrev pub IsRefusedAfter : ℕ → NormalFailure → ℕ → Fault → Type 0
 IsRefusedAfter m (NormalFailure.Refused refusal) n f = (m ≡ n) × (fault_of refusal ≡ f)
-IsRefusedAfter m failure n f = IsFault failure
+IsRefusedAfter m failure n f = IsResourceFailure failure
 
 -- a stream's result is this refusal after n messages, or a fault
 abbrev pub AnswersRefusedAfter : Result ℕ StreamFailure → ℕ → Fault → Type 0
@@ -65,4 +65,4 @@ AnswersRefusedAfter (Err e) n f = elim e.why as (λ _. Type 0) [
 -- a stream's result is that there are too many messages, or a fault
 abbrev pub AnswersTooMany : Result ℕ StreamFailure → Type 0
 AnswersTooMany (Ok m) = ⊥
-AnswersTooMany (Err e) = elim e.why as (λ _. Type 0) [ StreamCause.Normal failure ↦ IsFault failure | StreamCause.TooManyMessages ↦ Unit {0} ]
+AnswersTooMany (Err e) = elim e.why as (λ _. Type 0) [ StreamCause.Normal failure ↦ IsResourceFailure failure | StreamCause.TooManyMessages ↦ Unit {0} ]

@@ -1,9 +1,9 @@
 //! The next message of an input: its octets, up to where they end by their framing, and what is made of them.
 ghost use Rattle.std.specs.Prelude.{◌≡◌, ℕ, ◌-◌, ◌<◌, ◌≤◌, List, [], ◌++◌, length, take, IfOk, IfErr, OnOk, IsTrue, MatchOption};
 ghost use Rattle.std.specs.Io.KnownBytes.{Consumes, IsAtEnd, Keeps};
-ghost use Rattle.ber_framing.specs.Framed.{IsPart};
+ghost use Rattle.ber_framing.specs.Framed.{IsPartOfFrame};
 ghost use Rattle.ill_schema.specs.Profiles.{profile_of};
-ghost use Rattle.ber_framing.specs.Framer.{IsFed, Judged};
+ghost use Rattle.ber_framing.specs.Framer.{IsFed, HasFraming};
 ghost use Rattle.ill_normal.specs.Next.{IsNext, TakesPart};
 ghost use Rattle.ill_normal.specs.code.Taking.{end_of, Takes, TakesElement, TakesRest, Took};
 
@@ -152,7 +152,7 @@ fn take_framed<R: Source, L: Lookahead<R>>(
     recorded: &mut Vec<u8>,
 ) -> Result<(Framer, u64), TakeError>
     ensures element { IfOk result (λ taken. (frame : Framing)
-        → ((b : List ℕ) → IsFed taken.0 b → Judged b frame)
+        → ((b : List ℕ) → IsFed taken.0 b → HasFraming b frame)
         → TakesElement (R.left source.old) (R.left source.new) recorded.new.items taken.1 frame) }
     ensures broken { IfErr result (λ e. e ≡ TakeError.Broken → IsTrue (R.is_broken source.new)
         × TakesPart (R.left source.old) (R.left source.new)) }
@@ -208,7 +208,7 @@ fn take_some<R: Source, L: Lookahead<R>>(
     ensures broken { IfErr result (λ e. e ≡ TakeError.Broken → IsTrue (R.is_broken source.new)
         × Keeps (R.left source.old) (R.left source.new)) }
     ensures part { IfErr result (λ e. e ≡ TakeError.Broken → (b : List ℕ) → IsFed framer.old b
-        → IsPart b) }
+        → IsPartOfFrame b) }
     ensures stays { IsTrue (R.is_broken source.old) → IsTrue (R.is_broken source.new) }
     ensures room { length buffer.new ≡ length buffer.old }
 {

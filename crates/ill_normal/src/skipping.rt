@@ -80,7 +80,7 @@ pub fn for_each_accepted_message<M: Render, R: Source, L: Lookahead<R>, W: Sink,
         (R.is_broken source.new))
         (putting (W.contents sink.old) (W.contents sink.new) (W.is_broken sink.new))
         (reporting (T.reported reports.old) (T.reported reports.new))) }
-    ensures halts { IfErr result (SkipsAndStops (profile_of (M.profile maker.now))
+    ensures stops { IfErr result (SkipsAndStops (profile_of (M.profile maker.now))
         (M.text maker.now) (M.is_good maker.now)
         (taking (R.left source.old) (R.left source.new) (R.is_broken source.new))
         (putting (W.contents sink.old) (W.contents sink.new) (W.is_broken sink.new))

@@ -8,7 +8,7 @@ ghost use Rattle.ill_schema.specs.declared.profile.Profile.{Profile as Named};
 ghost use Rattle.ill_refusals.specs.Fault.{Fault};
 ghost use Rattle.ill_refusals.specs.Outcome.{OnlyRefuses};
 ghost use Rattle.ill_normal.specs.Calls.{taking, putting};
-ghost use Rattle.ill_normal.specs.Messages.{part_of};
+ghost use Rattle.ill_normal.specs.Messages.{part_written};
 ghost use Rattle.ill_normal.specs.code.Ending.{stream_cause};
 ghost use Rattle.ill_normal.specs.Streamed.{Passes, PassesIn, StopsAfter, StopsAfterIn, AnswersCount, AnswersRefusedAfter, AnswersTooMany};
 
@@ -95,7 +95,7 @@ impl Render for NormalFormsIn {
 
 /// The reason why a stream went no further.
 fn cause(why: StreamErrorKind) -> StreamCause
-    requires { part_of why ≤ 1_048_576 }
+    requires { part_written why ≤ 1_048_576 }
     ensures { result ≡ stream_cause why }
 {
     match why {

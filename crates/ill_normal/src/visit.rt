@@ -196,7 +196,7 @@ pub trait VisitMessages {
 ///
 /// # Errors
 ///
-/// That of the visitor; also where the input goes on after 1,000,000 messages.
+/// The error of the visitor; also where the input goes on after 1,000,000 messages.
 #[inline(always)]
 pub fn visit_messages<V: VisitMessages, R: Source, L: Lookahead<R>, W: Sink, T: ReportRefusals>(
     alloc: Global,

@@ -9,9 +9,9 @@ use std::alloc::{AllocError, Global};
 /// The symbol by which a party is known (Symbol).
 #[derive(Debug, Drop, PartialEq, Eq)]
 pub enum Symbol {
-    /// That of a person (row 0).
+    /// The symbol of a person (row 0).
     PersonSymbol(IllString),
-    /// That of an institution (row 1).
+    /// The symbol of an institution (row 1).
     InstitutionSymbol(IllString),
 }
 
@@ -62,9 +62,9 @@ impl Typed for Symbol {
 /// The name of a party (Name).
 #[derive(Debug, Drop, PartialEq, Eq)]
 pub enum Name {
-    /// That of a person (row 0).
+    /// The name of a person (row 0).
     NameOfPerson(IllString),
-    /// That of an institution (row 1).
+    /// The name of an institution (row 1).
     NameOfInstitution(IllString),
 }
 

@@ -26,7 +26,7 @@ use Rattle.ill_grammar.specs.Due.{due_with}
 use Rattle.ill_grammar.specs.Standing.{HoldsPart, IsHeld, foreign_entries}
 use Rattle.ill_grammar.specs.Contents.{with_alternative, absent_content, IsValueOf}
 use Rattle.ill_refusals.specs.code.Step.{snoc}
-use Rattle.ill_grammar.specs.Due.{Due}
+use Rattle.ill_grammar.specs.Due.{DueEntry}
 use Rattle.ill_grammar.specs.declared.due.Next.{Next}
 use Rattle.ill_grammar.specs.declared.due.Next.TheVariants.{Rows, Inner, Items, Either, Segments, BitSegments, Root, Foreigns, Nothing}
 use Rattle.ill_grammar.specs.declared.due.Slot.{Slot}
@@ -49,7 +49,7 @@ in_row p T node n r alt f c held ts h m k =
     row_added p node n r h.row held (with_alternative alt c) ts T h.behind h.lacking h.is_row q.0 q.1 k
 
 -- in a wrapper
-in_wrapper : (p : Named) (T : Tree) (w : Wrapped) (d : Due) (c : Content) → IsInnerDue (tag_of T) w d → IsValueOf p (found_is d.found) c T → HoldsPart p w (Some (with_alternative d.alternative c) ∷ []) (more T none)
+in_wrapper : (p : Named) (T : Tree) (w : Wrapped) (d : DueEntry) (c : Content) → IsInnerDue (tag_of T) w d → IsValueOf p (found_is d.found) c T → HoldsPart p w (Some (with_alternative d.alternative c) ∷ []) (more T none)
 in_wrapper p T w d c h m =
     let q = begun_means p (component_of w) d.alternative d.found c T (begun_proper (tag_of T) w d.alternative d.found h.begun) h.begun m in
     (with_alternative d.alternative c, T, refl, refl, q.1)
@@ -59,7 +59,7 @@ some-append [] c = refl
 some-append (d ∷ cs) c = ap (λ xs. Some d ∷ xs) (some-append cs c)
 
 -- in a list
-in_list : (p : Named) (T : Tree) (node : NodeId) (d : Due) (c : Content) (items : List Content) (ts : Trees) → IsItemDue (tag_of T) node d → IsValueOf p (found_is d.found) c T
+in_list : (p : Named) (T : Tree) (node : NodeId) (d : DueEntry) (c : Content) (items : List Content) (ts : Trees) → IsItemDue (tag_of T) node d → IsValueOf p (found_is d.found) c T
     → MatchItems (profile_of p) (items_of items) (rows_of node) ts → MatchItems (profile_of p) (items_of (items ++ with_alternative d.alternative c ∷ [])) (rows_of node) (snoc ts T)
 in_list p T node d c items ts h m k =
     let q = begun_means p (component_at (record { node = node; row = 0 }) h.row) d.alternative d.found c T (row_proper node 0 h.row h.is_row) h.begun m in

@@ -26,7 +26,7 @@ use Rattle.ill_refusals.specs.Next.{missing}
 use Rattle.ill_refusals.specs.Fault.{fault, element_fault, string_fault}
 use Rattle.ill_refusals.specs.Place.{Open, next_in}
 use Rattle.ill_refusals.specs.code.Judge.{Judgement, closes, or_faulty}
-use Rattle.ill_refusals.specs.code.Step.{moved}
+use Rattle.ill_refusals.specs.code.Step.{step_after}
 use Rattle.ill_grammar.specs.Places.{alternative_of, place_view}
 use Rattle.ill_grammar.specs.Elements.{element_is}
 use Rattle.ill_read.specs.code.Drafts.{ChecksText, HasClosed, IsNoSegment, IsRightText, with_entry}
@@ -34,7 +34,7 @@ use Rattle.ill_grammar.specs.Due.{due_with}
 use Rattle.ill_grammar.specs.code.Judging.{IsEnd}
 use Rattle.ill_read.specs.code.Judged.{IsStep}
 use Rattle.ill_read.specs.code.Stepping.{GoesOn}
-use Rattle.ill_grammar.specs.Standing.{Level, level_of, pushed, next_at, IsHeld, IsFrame, AreFrames}
+use Rattle.ill_grammar.specs.Standing.{Level, level_of, pushed, next_at, IsHeld, IsFrameOf, AreFrames}
 use Rattle.ill_read.specs.Paths.{text_so_far, HoldsAt}
 use Rattle.ill_grammar.specs.Contents.{with_alternative}
 use Rattle.ill_grammar.specs.declared.due.Next.{Next}
@@ -58,7 +58,7 @@ record IsPopped (p : Named) (levels : List Level) (old frames : List Frame) (f :
   pub below : List Level
   pub entries : List (Option Content)
   pub held : levels ≡ pushed (level_of f o.tag entries) below
-  pub framed : IsFrame p f o path frames entries
+  pub framed : IsFrameOf p f o path frames entries
   pub outer : AreFrames p path frames below
   pub whole : old ≡ frames ++ f ∷ []
 
@@ -72,15 +72,15 @@ popped p old frames levels f o path a rest last =
       below = a.2;
       entries = a.3;
       held = a.5 ∙ ap (λ (g : Frame). pushed (level_of g o.tag a.3) a.2) same;
-      framed = subst (λ g. IsFrame p g o path frames a.3) same (subst (λ fs. IsFrame p a.1 o path fs a.3) outer a.6);
+      framed = subst (λ g. IsFrameOf p g o path frames a.3) same (subst (λ fs. IsFrameOf p a.1 o path fs a.3) outer a.6);
       outer = subst (λ fs. AreFrames p path fs a.2) outer a.7;
       whole = a.4 ∙ ap (λ fs. fs ++ a.1 ∷ []) outer ∙ ap (λ g. frames ++ g ∷ []) same;
     }
 
 -- the end that was judged, by the fault of its text
 ending : (p : Named) (place : List Open) (marks at : ℕ) (rest : List ℕ) (j : Judgement) (e : IsEnd p place marks j) (x : Option LeafFault) → string_fault (profile_of p) e.innermost.element e.innermost.trees ≡ x
-    → moved j place at rest ≡ moved (or_faulty x e.innermost.start (closes marks)) (e.innermost ∷ e.outer) at rest
-ending p place marks at rest j e x h = ap₂ (λ y q. moved y q at rest) e.is e.is_path ∙ ap (λ y. moved (or_faulty y e.innermost.start (closes marks)) (e.innermost ∷ e.outer) at rest) h
+    → step_after j place at rest ≡ step_after (or_faulty x e.innermost.start (closes marks)) (e.innermost ∷ e.outer) at rest
+ending p place marks at rest j e x h = ap₂ (λ y q. step_after y q at rest) e.is e.is_path ∙ ap (λ y. step_after (or_faulty y e.innermost.start (closes marks)) (e.innermost ∷ e.outer) at rest) h
 
 -- an open segment is one of the segments that are due round it, and its text is more of theirs
 pub record IsOpenSegment (p : Named) (e : CodeElement) (n : Next) (tag : Tag) (ts : Trees) (before : List ℕ) : Type 0 where
@@ -116,7 +116,7 @@ open_segment p e n own tag slot alt entries ts before held due (inr s) =
 -- a segment closes
 pub segment_closed : {D : Type 0} (p : Named) (holds : D → List Level → List ℕ → Type 0) (old new : Path D) (f : Frame) (place : List Open) (marks at : ℕ) (rest : List ℕ) (j : Judgement) → HoldsAt p holds old place
     → IsEnd p place marks j → new.frames.open.items ≡ take (length old.frames.open.items - 1) old.frames.open.items → slice_get old.frames.open.items (length old.frames.open.items - 1) ≡ Some f
-    → (read_as f.found ≡ Segment) ⊎ (read_as f.found ≡ BitSegment) → new.frames.profile ≡ old.frames.profile → new.draft ≡ old.draft → IsStep p holds new (Ok false) (moved j place at rest)
+    → (read_as f.found ≡ Segment) ⊎ (read_as f.found ≡ BitSegment) → new.frames.profile ≡ old.frames.profile → new.draft ≡ old.draft → IsStep p holds new (Ok false) (step_after j place at rest)
 segment_closed p holds old new f place marks at rest j stands end frames last is same draft =
     let o = end.innermost in
     let path = end.outer in
@@ -141,7 +141,7 @@ right_text p _ text h = refl
 pub element_closed : {D : Type 0} (p : Named) (holds : D → List Level → List ℕ → Type 0) (old : Path D) (shorter : List Frame) (f : Frame) (middle : D) (new : Path D) (place : List Open) (marks at : ℕ) (rest : List ℕ)
     (j : Judgement) (result : Bool) → HoldsAt p holds old place → IsEnd p place marks j → shorter ≡ take (length old.frames.open.items - 1) old.frames.open.items
     → slice_get old.frames.open.items (length old.frames.open.items - 1) ≡ Some f → IsNoSegment (read_as f.found) → ((x : ⊤) → ChecksText p holds old.draft f (Ok x)) → HasClosed p holds old.draft f (next_at p shorter) middle
-    → (after : Place) → place_view after ≡ next_place f.found → GoesOn after shorter new.frames.open.items result → new.frames.profile ≡ old.frames.profile → new.draft ≡ middle → IsStep p holds new (Ok result) (moved j place at rest)
+    → (after : Place) → place_view after ≡ next_place f.found → GoesOn after shorter new.frames.open.items result → new.frames.profile ≡ old.frames.profile → new.draft ≡ middle → IsStep p holds new (Ok result) (step_after j place at rest)
 element_closed p holds old shorter f middle new place marks at rest j result stands end frames last apart checks closed after there goes same draft =
     let o = end.innermost in
     let path = end.outer in
@@ -165,7 +165,7 @@ element_closed p holds old shorter f middle new place marks at rest j result sta
 -- or its text is at fault, or memory runs out
 pub element_refused : {D : Type 0} (p : Named) (holds : D → List Level → List ℕ → Type 0) (old : Path D) (shorter : List Frame) (f : Frame) (new : Path D) (place : List Open) (marks at : ℕ) (rest : List ℕ)
     (j : Judgement) (failure : Failure) → HoldsAt p holds old place → IsEnd p place marks j → shorter ≡ take (length old.frames.open.items - 1) old.frames.open.items
-    → slice_get old.frames.open.items (length old.frames.open.items - 1) ≡ Some f → IsNoSegment (read_as f.found) → ChecksText p holds old.draft f (Err failure) → IsStep p holds new (Err failure) (moved j place at rest)
+    → slice_get old.frames.open.items (length old.frames.open.items - 1) ≡ Some f → IsNoSegment (read_as f.found) → ChecksText p holds old.draft f (Err failure) → IsStep p holds new (Err failure) (step_after j place at rest)
 element_refused p holds old shorter f new place marks at rest j Failure.OutOfMemory stands end frames last apart checks = tt
 element_refused p holds old shorter f new place marks at rest j (Failure.Refused r) stands end frames last apart checks =
     let o = end.innermost in

@@ -26,7 +26,7 @@ use Rattle.ill_read.specs.code.Judged.{IsJudgement, IsStep}
 use Rattle.ill_refusals.specs.Place.{Open}
 use Rattle.ill_read.specs.code.Progress.{size_of, IsProgress}
 use Rattle.ill_grammar.specs.Standing.{depth_of}
-use Rattle.ill_refusals.specs.code.Step.{Step, refused, goes, whole, stuck, with_tree, close, moved}
+use Rattle.ill_refusals.specs.code.Step.{Step, refused, goes, whole, stuck, with_tree, close, step_after}
 use Rattle.ill_read.specs.declared.failure.Failure.{Failure}
 use Rattle.ill_read.specs.code.Progress.{Judgement as CodeJudgement}
 use Rattle.ill_read.specs.code.Progress as code
@@ -48,22 +48,22 @@ with_end : (place : List Open) (T : Tree) (k l : ℕ) (rest after : List ℕ) �
 with_end [] T k l rest after e f = e
 with_end (o ∷ place) T k l rest after e f = (e, f)
 
-or_end : (c : Option LeafFault) (at : ℕ) (j : Judgement) (place : List Open) (k l : ℕ) (rest after : List ℕ) → EndsAt k after (moved j place l rest) → EndsAt k after (moved (or_faulty c at j) place l rest)
+or_end : (c : Option LeafFault) (at : ℕ) (j : Judgement) (place : List Open) (k l : ℕ) (rest after : List ℕ) → EndsAt k after (step_after j place l rest) → EndsAt k after (step_after (or_faulty c at j) place l rest)
 or_end None at j place k l rest after h = h
 or_end (Some c) at j place k l rest after h = leaf_cause c
 
 moved_end : (p : Named) (frames : Frames) (place : List Open) (at : ℕ) (rest : List ℕ) (judgement : CodeJudgement) (j : Judgement) → IsProgress (depth_of frames) (length rest) judgement
-    → IsJudgement p frames place at rest judgement j → EndsAt (at + size_of judgement) (drop (size_of judgement) rest) (moved j place at rest)
+    → IsJudgement p frames place at rest judgement j → EndsAt (at + size_of judgement) (drop (size_of judgement) rest) (step_after j place at rest)
 moved_end p frames place at rest (code.Closes m) j q h =
-    subst (λ x. EndsAt (at + m) (drop m rest) (moved x place at rest)) (sym h.is)
+    subst (λ x. EndsAt (at + m) (drop m rest) (step_after x place at rest)) (sym h.is)
     (or_end _ _ (closes m) place (at + m) at rest (drop m rest)
     (subst (λ x. EndsAt (at + m) (drop m rest) (close x (at + m) (drop m rest))) (sym h.is_path) (with_end h.outer _ (at + m) (at + m) (drop m rest) (drop m rest) refl refl)))
-moved_end p frames place at rest (code.Opens o) j q h = subst (λ x. EndsAt (at + o.header) (drop o.header rest) (moved x place at rest)) (sym h.1) (refl, refl)
+moved_end p frames place at rest (code.Opens o) j q h = subst (λ x. EndsAt (at + o.header) (drop o.header rest) (step_after x place at rest)) (sym h.1) (refl, refl)
 moved_end p frames place at rest (code.Reads r) j q h =
     let content = take r.size (drop r.header rest) in
     let le = q.1 in
     let n : length content ≡ r.size = length-take-le r.size (drop r.header rest) (omega (arith, length-drop r.header rest)) in
-    subst (λ x. EndsAt (at + (r.header + r.size)) (drop (r.header + r.size) rest) (moved x place at rest)) (sym h.1)
+    subst (λ x. EndsAt (at + (r.header + r.size)) (drop (r.header + r.size) rest) (step_after x place at rest)) (sym h.1)
     (or_end _ at (reads (tag_of_id r.id) r.header content) place (at + (r.header + r.size)) at rest (drop (r.header + r.size) rest)
     (with_end place _ (at + (r.header + r.size)) (at + r.header + length content) (drop (r.header + r.size) rest) (drop (r.header + length content) rest)
     (omega (arith, n)) (ap (λ k. drop (r.header + k) rest) n)))
@@ -89,7 +89,7 @@ record IsMade (p : Named) (at : ℕ) (s rest : List ℕ) (judgement : CodeJudgem
 
 made : (p : Named) (Stands : List Open → Type 0) (frames : Frames) (at : ℕ) (s rest : List ℕ) (judgement : CodeJudgement) → (b : StandsBefore p Stands at s rest) → IsProgress (depth_of frames) (length rest) judgement
     → IsJudgement p frames b.place at rest judgement (judge (profile_of p) b.place at rest)
-    → IsMade p at s rest judgement (moved (judge (profile_of p) b.place at rest) b.place at rest)
+    → IsMade p at s rest judgement (step_after (judge (profile_of p) b.place at rest) b.place at rest)
 made p Stands frames at s rest judgement b q h = record {
   placed = step_placed (profile_of p) s b.place at rest b.octets (b.before, b.joined, b.offset, b.is_place);
   ends = moved_end p frames b.place at rest judgement (judge (profile_of p) b.place at rest) q h;
@@ -98,9 +98,9 @@ made p Stands frames at s rest judgement b q h = record {
 -- it is at the next place
 pub goes_on : {D : Type 0} (p : Named) (holds : D → List Level → List ℕ → Type 0) (path new : Path D) (at : ℕ) (s rest : List ℕ) (judgement : CodeJudgement) → (b : StandsBefore p (HoldsAt p holds path) at s rest)
     → IsProgress (depth_of path.frames) (length rest) judgement → IsJudgement p path.frames b.place at rest judgement (judge (profile_of p) b.place at rest)
-    → IsStep p holds new (Ok false) (moved (judge (profile_of p) b.place at rest) b.place at rest)
+    → IsStep p holds new (Ok false) (step_after (judge (profile_of p) b.place at rest) b.place at rest)
     → StandsBefore p (HoldsAt p holds new) (at + size_of judgement) s (drop (size_of judgement) rest)
-goes_on p holds path new at s rest judgement b q h is = go (moved (judge (profile_of p) b.place at rest) b.place at rest) (made p (HoldsAt p holds path) path.frames at s rest judgement b q h) is
+goes_on p holds path new at s rest judgement b q h is = go (step_after (judge (profile_of p) b.place at rest) b.place at rest) (made p (HoldsAt p holds path) path.frames at s rest judgement b q h) is
   where
     go : (st : Step) → IsMade p at s rest judgement st → IsStep p holds new (Ok false) st → StandsBefore p (HoldsAt p holds new) (at + size_of judgement) s (drop (size_of judgement) rest)
     go (goes place l after) m i = record {
@@ -117,9 +117,9 @@ goes_on p holds path new at s rest judgement b q h is = go (moved (judge (profil
 -- the message is whole: its octets encode what the draft holds
 pub is_whole : {D : Type 0} (p : Named) (holds : D → List Level → List ℕ → Type 0) (path new : Path D) (at : ℕ) (s rest : List ℕ) (judgement : CodeJudgement) → (b : StandsBefore p (HoldsAt p holds path) at s rest)
     → IsProgress (depth_of path.frames) (length rest) judgement → IsJudgement p path.frames b.place at rest judgement (judge (profile_of p) b.place at rest)
-    → IsStep p holds new (Ok true) (moved (judge (profile_of p) b.place at rest) b.place at rest)
+    → IsStep p holds new (Ok true) (step_after (judge (profile_of p) b.place at rest) b.place at rest)
     → (at + size_of judgement ≤ length s) × ((a : Apdu) × HoldsApdu p holds new.draft a (take (at + size_of judgement) s))
-is_whole p holds path new at s rest judgement b q h is = go (moved (judge (profile_of p) b.place at rest) b.place at rest) (made p (HoldsAt p holds path) path.frames at s rest judgement b q h) is
+is_whole p holds path new at s rest judgement b q h is = go (step_after (judge (profile_of p) b.place at rest) b.place at rest) (made p (HoldsAt p holds path) path.frames at s rest judgement b q h) is
   where
     go : (st : Step) → IsMade p at s rest judgement st → IsStep p holds new (Ok true) st
         → (at + size_of judgement ≤ length s) × ((a : Apdu) × HoldsApdu p holds new.draft a (take (at + size_of judgement) s))
@@ -133,9 +133,9 @@ is_whole p holds path new at s rest judgement b q h is = go (moved (judge (profi
 -- a text is at fault, or memory runs out
 pub is_refused : {D : Type 0} (p : Named) (holds : D → List Level → List ℕ → Type 0) (path new : Path D) (at : ℕ) (s rest : List ℕ) (judgement : CodeJudgement) (failure : Failure)
     → (b : StandsBefore p (HoldsAt p holds path) at s rest) → IsProgress (depth_of path.frames) (length rest) judgement
-    → IsJudgement p path.frames b.place at rest judgement (judge (profile_of p) b.place at rest) → IsStep p holds new (Err failure) (moved (judge (profile_of p) b.place at rest) b.place at rest)
+    → IsJudgement p path.frames b.place at rest judgement (judge (profile_of p) b.place at rest) → IsStep p holds new (Err failure) (step_after (judge (profile_of p) b.place at rest) b.place at rest)
     → IsRefusedIn (profile_of p) s failure
-is_refused p holds path new at s rest judgement failure b q h is = go failure (moved (judge (profile_of p) b.place at rest) b.place at rest) (made p (HoldsAt p holds path) path.frames at s rest judgement b q h) is
+is_refused p holds path new at s rest judgement failure b q h is = go failure (step_after (judge (profile_of p) b.place at rest) b.place at rest) (made p (HoldsAt p holds path) path.frames at s rest judgement b q h) is
   where
     go : (failure : Failure) (st : Step) → IsMade p at s rest judgement st → IsStep p holds new (Err failure) st → IsRefusedIn (profile_of p) s failure
     go (Failure.Refused r) (refused f) m i =

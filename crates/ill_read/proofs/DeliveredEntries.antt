@@ -22,7 +22,7 @@ use Rattle.ill_read.specs.code.Drafts.{IsDueAt, with_entry}
 use Rattle.ill_grammar.specs.Due.{due_with}
 use Rattle.ill_read.specs.code.Judged.{IsStep}
 use Rattle.ill_read.specs.code.Stepping.{GoesOn}
-use Rattle.ill_grammar.specs.Standing.{Level, level_of, pushed, top_level, top_part, next_at, top, IsFrame, AreFrames}
+use Rattle.ill_grammar.specs.Standing.{Level, level_of, pushed, top_level, top_part, next_at, next_at_top, IsFrameOf, AreFrames}
 use Rattle.ill_read.specs.Paths.{text_so_far}
 use Rattle.ill_grammar.specs.Contents.{with_alternative, IsValueOf}
 use Rattle.ill_grammar.specs.declared.due.Next.{Next}
@@ -57,7 +57,7 @@ pub innermost_level : (p : Named) (place : List Open) (frames : List Frame) (lev
 innermost_level p [] frames levels h apart = (top_level p, [], h.1, sym (ap (next_at p) h.0))
 innermost_level p (o ∷ path) frames levels h apart =
     let f = h.1 in
-    let k : IsFrame p f o path h.0 h.3 = h.6 in
+    let k : IsFrameOf p f o path h.0 h.3 = h.6 in
     let here : next_at p frames ≡ shape f.place = ap (next_at p) h.4 ∙ next_behind p h.0 f in
     let l = level_of f o.tag h.3 in
     (l, h.2, h.5 ∙ pushed_apart l h.2 (no_segment_in p (read_as f.found) (shape f.place) h.3 o.trees k.held (subst IsOutside here apart)), sym here)
@@ -76,8 +76,8 @@ pub entry_added : {D : Type 0} (p : Named) (holds : D → List Level → List �
     → IsStep p holds new (Ok result) (with_tree place T at rest)
 entry_added p holds frames levels new [] slot alt el c T at rest false same h d apart after on goes given = absurd (goes.0 h.0)
 entry_added p holds frames levels new [] slot alt el c T at rest true same h d apart after on goes given =
-    let next : top p ≡ next_at p frames = sym (ap (next_at p) h.0) in
-    let due : IsDueIn (tag_of T) (top p) (due_with slot alt el) = subst (λ n. IsDueIn (tag_of T) n (due_with slot alt el)) (sym next) d in
+    let next : next_at_top p ≡ next_at p frames = sym (ap (next_at p) h.0) in
+    let due : IsDueIn (tag_of T) (next_at_top p) (due_with slot alt el) = subst (λ n. IsDueIn (tag_of T) n (due_with slot alt el)) (sym next) d in
     let x = given (top_level p) [] h.1 (record { trees = none; held = (refl, refl, refl); next = next; is_due = due }) in
     let q = begun_means p (component_of (top_part p)) alt (Begun.Element el) c T (inner_proper profile_two (component_of (top_part p)) refl refl (λ e. let q : Kind.Choice ≡ Kind.Any = sym (root_choice p) ∙ e in cc)) due.begun x.0 in
     (with_alternative alt c, x.1, q.1)
@@ -92,7 +92,7 @@ entry_added p holds frames levels new (o ∷ path) slot alt el c T at rest false
     let f = h.1 in
     let below = h.2 in
     let entries = h.3 in
-    let k : IsFrame p f o path outer entries = h.6 in
+    let k : IsFrameOf p f o path outer entries = h.6 in
     let here : next_at p frames ≡ (shape f.place) = ap (next_at p) h.4 ∙ next_behind p outer f in
     let due : IsDueIn (tag_of T) (shape f.place) (due_with slot alt el) = subst (λ n. IsDueIn (tag_of T) n (due_with slot alt el)) here d in
     let other : IsOutside (shape f.place) = due_outside (tag_of T) (shape f.place) (due_with slot alt el) due apart in

@@ -20,7 +20,7 @@ use Rattle.ill_grammar.specs.Elements.{element_is}
 use Rattle.ill_grammar.specs.LeafTypes.{leaf_is, module_leaf_is}
 use Rattle.ill_read.specs.code.Drafts.{IsContentOf, IsRightText, rows_left}
 use Rattle.ill_read.specs.Paths.{text_so_far}
-use Rattle.ill_grammar.specs.Standing.{IsHeld, IsFrame}
+use Rattle.ill_grammar.specs.Standing.{IsHeld, IsFrameOf}
 use Rattle.ill_grammar.specs.Contents.{absent_content, IsValueOf}
 use Rattle.ill_grammar.specs.declared.due.Next.{Next}
 use Rattle.ill_grammar.specs.declared.due.Next.TheVariants.{BitSegments, Foreigns, Rows, Inner, Items, Either, Segments, Root, Nothing}
@@ -84,7 +84,7 @@ content_ended p BitSegment n entries o before tagged h apart other m = absurd (o
 content_ended p _ _ entries o before tagged h apart other m = absurd h
 
 -- of the innermost open element
-pub frame_ended : (p : Named) (f : Frame) (o : Open) (path : List Open) (outer : List Frame) (entries : List (Option Content)) → IsFrame p f o path outer entries → (read_as f.found ≡ Segment → ⊥)
+pub frame_ended : (p : Named) (f : Frame) (o : Open) (path : List Open) (outer : List Frame) (entries : List (Option Content)) → IsFrameOf p f o path outer entries → (read_as f.found ≡ Segment → ⊥)
     → (read_as f.found ≡ BitSegment → ⊥) → missing (profile_of p) (next_in (profile_of p) (o ∷ path)) ≡ None → EndsWith p (read_as f.found) (shape f.place) entries o (text_so_far (o ∷ path))
 frame_ended p f o path outer entries k apart other m =
     subst (λ x. EndsWith p (read_as f.found) (shape f.place) entries o (text_with x (text_so_far path) o.trees)) k.element

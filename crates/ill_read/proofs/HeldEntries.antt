@@ -8,7 +8,7 @@ use Rattle.ill_schema.specs.Content.{Content}
 use Rattle.ill_schema.specs.Value.{content_of}
 use Rattle.ill_schema.specs.declared.part.Row.{Row}
 use Rattle.ill_schema.specs.declared.value.Value.{Value}
-use Rattle.ill_read.specs.code.OpenValues.{HasPassed}
+use Rattle.ill_read.specs.code.OpenValues.{HasAddedAbsent}
 use Rattle.ill_grammar.specs.Contents.{absent_content}
 
 abbrev pub somes : List (Option Value) → List Value
@@ -45,7 +45,7 @@ take-past (suc n) (r ∷ rows) e = ap (λ xs. r ∷ xs) (take-past n rows e)
 
 -- one more row is passed
 pub passed-more : (rows : List Row) (from n : ℕ) (row : Row) (entry : Option Value) (old mid new : List (Option Value)) → from ≤ n → slice_get rows n ≡ Some row
-    → HasPassed (drop from (take n rows)) old mid → option_map content_of entry ≡ absent_content row → new ≡ mid ++ entry ∷ [] → HasPassed (drop from (take (n + 1) rows)) old new
+    → HasAddedAbsent (drop from (take n rows)) old mid → option_map content_of entry ≡ absent_content row → new ≡ mid ++ entry ∷ [] → HasAddedAbsent (drop from (take (n + 1) rows)) old new
 passed-more rows from n row entry old mid new h is p e a =
     let s : n + 1 ≡ suc n = omega arith in
     let more : drop from (take (n + 1) rows) ≡ drop from (take n rows) ++ row ∷ [] = ap (λ i. drop from (take i rows)) s ∙ drop-take-more from n rows row h is in
@@ -57,10 +57,10 @@ passed-more rows from n row entry old mid new h is p e a =
     }
 
 -- after the last row there is no row to pass
-pub passed-past : (rows : List Row) (from n : ℕ) (old new : List (Option Value)) → slice_get rows n ≡ None → HasPassed (drop from (take n rows)) old new → HasPassed (drop from (take (n + 1) rows)) old new
+pub passed-past : (rows : List Row) (from n : ℕ) (old new : List (Option Value)) → slice_get rows n ≡ None → HasAddedAbsent (drop from (take n rows)) old new → HasAddedAbsent (drop from (take (n + 1) rows)) old new
 passed-past rows from n old new is p =
     let s : suc n ≡ n + 1 = omega arith in
-    subst (λ (rs : List Row). HasPassed (drop from rs) old new) (sym (take-past n rows is) ∙ ap (λ i. take i rows) s) p
+    subst (λ (rs : List Row). HasAddedAbsent (drop from rs) old new) (sym (take-past n rows is) ∙ ap (λ i. take i rows) s) p
 
 -- what was drained is a front of what there was to drain
 pub drained_front : (s : Drain (Option Value) Global) (es : List (Option Value)) (t : Drain (Option Value) Global) → Yields drain_steps s es t → drain_items s ≡ es ++ drain_items t

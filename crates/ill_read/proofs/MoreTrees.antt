@@ -9,9 +9,9 @@ use Rattle.ill_grammar.specs.declared.place.Place.{Place}
 use Rattle.ill_refusals.specs.Next.{due, next_of, next_after, opening}
 use Rattle.ill_refusals.specs.Next as following
 use Rattle.ill_refusals.specs.Place.{Open}
-use Rattle.ill_grammar.specs.Standing.{AreDue, IsHeld, IsFrame}
+use Rattle.ill_grammar.specs.Standing.{AreDue, IsHeld, IsFrameOf}
 use Rattle.ill_refusals.specs.code.Step.{snoc}
-use Rattle.ill_grammar.specs.Due.{Due}
+use Rattle.ill_grammar.specs.Due.{DueEntry}
 use Rattle.ill_grammar.specs.declared.frame.Frame.{Frame}
 use Rattle.ill_grammar.proofs.DueElements.{due_element_is}
 use Rattle.ill_refusals.proofs.Rows.{next_after-more}
@@ -28,9 +28,9 @@ abbrev pub with_one : Open → Tree → Open
 with_one o T = record o { trees = snoc o.trees T }
 
 -- the frame of an open element, after a tree that was due
-pub frame_added : (p : Named) (f : Frame) (o : Open) (path : List Open) (outer : List Frame) (entries new : List (Option Content)) (T : Tree) (d : Due) → IsFrame p f o path outer entries
+pub frame_added : (p : Named) (f : Frame) (o : Open) (path : List Open) (outer : List Frame) (entries new : List (Option Content)) (T : Tree) (d : DueEntry) → IsFrameOf p f o path outer entries
     → IsDueIn (tag_of T) (shape f.place) d → (after : Place) → shape after ≡ behind (shape f.place) d.slot → IsHeld p (read_as f.found) (behind (shape f.place) d.slot) new (snoc o.trees T)
-    → IsFrame p (record f { place = after }) (with_one o T) path outer new
+    → IsFrameOf p (record f { place = after }) (with_one o T) path outer new
 frame_added p f o path outer entries new T d h is after goes held =
     let D = due_element_is (tag_of T) (shape f.place) d is in
     let e : due profile_two (tag_of T) (next_after profile_two (opening profile_two o.element) o.trees) ≡ Some D.0 = ap (due profile_two (tag_of T)) (sym h.next) ∙ D.1 in

@@ -24,7 +24,7 @@ use Rattle.ber_core.specs.HeaderRead.{Lacks, IsWholeLength}
 use Rattle.ill_grammar.specs.Need.{NeedsAfterIn, outermost, begins_zero, in_mark, NeedsOfLength, NeedsOfElement, NeedsAfterMark, NeedsBefore, IsNeed}
 use Rattle.ill_refusals.specs.Place.{Open, bound, IsDue}
 use Rattle.ber_core.specs.Reading.{identified, part_identifier, no_identifier, read_identifier, definite, indefinite, part_length, read_length}
-use Rattle.ill_refusals.specs.code.Step.{close, moved}
+use Rattle.ill_refusals.specs.code.Step.{close, step_after}
 use Rattle.ill_refusals.proofs.Continuations.{Keeps, with_keeps, due_at, ends_before, reads_before}
 use Rattle.ber_core.proofs.HeadersRead.{whole_header_read}
 use Rattle.ill_refusals.proofs.Judgements.{Judged, judged, bound_some}
@@ -93,7 +93,7 @@ Reaches e k (closes m) = e ≤ k + m
 Reaches e k (opens tag x h end) = e ≤ k + h
 Reaches e k (reads tag h content) = e ≤ k + h + length content
 
-reaches_keeps : (p : Profile) (path : List Open) (k e : ℕ) (rest : List ℕ) (j : Judgement) → Judged p path k rest j → Reaches e k j → Keeps e (moved j path k rest)
+reaches_keeps : (p : Profile) (path : List Open) (k e : ℕ) (rest : List ℕ) (j : Judgement) → Judged p path k rest j → Reaches e k j → Keeps e (step_after j path k rest)
 reaches_keeps p path k e rest (faulty f) r h = tt
 reaches_keeps p path k e rest (closes m) r h =
     subst (λ z. Keeps e (close z (k + m) (drop m rest))) (sym r.is_path) (with_keeps e r.outer _ (k + m) (drop m rest) (inr h))

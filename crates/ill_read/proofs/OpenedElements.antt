@@ -12,7 +12,7 @@ use Rattle.ill_grammar.specs.Elements.{element_is, is_two_element}
 use Rattle.ill_grammar.specs.Due.{IsDueIn, behind, first_of, next_is, shape, shape_at, read_as, slot_in, next_place}
 use Rattle.ill_refusals.specs.Next.{opening}
 use Rattle.ill_refusals.specs.Place.{Open, allows, bound}
-use Rattle.ill_grammar.specs.Standing.{Level, level_of, pushed, next_at, IsHeld, IsFrame}
+use Rattle.ill_grammar.specs.Standing.{Level, level_of, pushed, next_at, IsHeld, IsFrameOf}
 use Rattle.ill_read.specs.Paths.{text_so_far, HoldsAt}
 use Rattle.ill_refusals.specs.code.Step.{opened}
 use Rattle.ill_read.specs.code.Drafts.{HasOpened, InBitString, IsNoSegment, IsOpeningIn, text_opened}
@@ -77,7 +77,7 @@ pub opens_at : {D : Type 0} (p : Named) (holds : D → List Level → List ℕ �
 opens_at p holds old new opening f place round h due after allowed first r b has frames same is =
     let tag = tag_of_id opening.id in
     let o : Open = opened (element_is (read_as f.found)) tag f.start f.end in
-    let framed : IsFrame p f o place old.frames.open.items [] = record {
+    let framed : IsFrameOf p f o place old.frames.open.items [] = record {
       element = refl;
       start = refl;
       identified = has_identified tag true (subst (HasIdentifier tag) opening.form opening.id.valid);

@@ -47,7 +47,8 @@ use Rattle.ill_grammar.specs.Contents.{with_alternative, absent_content}
 use Rattle.ill_read.specs.code.Drafts.{HasBits, HasModuleElement, IsModuleElement, IsPrimitiveOf, IsRightContent, text_opened, IsNoSegment, HasOpened, HasClosed, HasLeaf, HasText, HoldsApdu, HasEnded, IsContentOf, IsDueAt, IsOpeningIn, IsRightText, rows_before, rows_left, with_entry}
 use Rattle.ill_grammar.specs.Due.{due_with}
 use Rattle.ill_read.specs.code.OctetDrafts.{AreNormal, AreOctets, AreWritten, IsBehind, innermost, written}
-use Rattle.ill_read.specs.code.Outlines.{AreFronts, AreLed, AreOutlined, AreOwn, AreOwnAs, ArePassed, HasLed, HasOutline, HasPassed, HasRear, IsLed, alternative_marks, first_marks, foreign_marks, held_marks, is_any, is_open_type, last_marks, late_marks, start_marks, text_marks}
+use Rattle.ill_grammar.specs.Cells.{is_any}
+use Rattle.ill_read.specs.code.Outlines.{AreFronts, ArePreceded, AreOutlined, AreOwn, AreOwnAs, AreAbsent, HasPreceding, HasOutline, HasAbsent, HasEnding, IsPreceded, alternative_marks, first_marks, foreign_marks, held_marks, is_open_type, last_marks, late_marks, start_marks, text_marks}
 use Rattle.ill_grammar.specs.declared.due.Next.{Next}
 use Rattle.ill_grammar.specs.declared.due.Next.TheVariants.{Rows, Inner, Items, Either, Segments, BitSegments, Foreigns, Nothing, Root}
 use Rattle.ill_grammar.specs.declared.due.Slot.{Slot}
@@ -69,13 +70,13 @@ use Rattle.std.proofs.Common.{suc, ◌+◌, ◌<◌, ◌≤◌, take, drop, slic
 
 -- ---- rows that are passed
 
-passed_join : (xs ys : List Row) (a b : List Mark) → ArePassed xs a → ArePassed ys b → ArePassed (xs ++ ys) (a ++ b)
-passed_join [] ys a b h k = subst (λ ms. ArePassed ys (ms ++ b)) (sym h) k
+passed_join : (xs ys : List Row) (a b : List Mark) → AreAbsent xs a → AreAbsent ys b → AreAbsent (xs ++ ys) (a ++ b)
+passed_join [] ys a b h k = subst (λ ms. AreAbsent ys (ms ++ b)) (sym h) k
 passed_join (x ∷ xs) ys a b h k = (h.0, h.1 ++ b, ap (λ ms. ms ++ b) h.2, h.3, passed_join xs ys h.1 b h.4 k)
 
 -- one more row is passed
-pub passed_more : (node : NodeId) (from n : ℕ) (old mid new : List Mark) → from ≤ n → n < length (rows_of node) → HasPassed [] (drop from (take n (rows_of node))) old mid
-    → new ≡ mid ++ mark.Absent (record { node = node; row = n }) ∷ [] → HasPassed [] (drop from (take (n + 1) (rows_of node))) old new
+pub passed_more : (node : NodeId) (from n : ℕ) (old mid new : List Mark) → from ≤ n → n < length (rows_of node) → HasAbsent [] (drop from (take n (rows_of node))) old mid
+    → new ≡ mid ++ mark.Absent (record { node = node; row = n }) ∷ [] → HasAbsent [] (drop from (take (n + 1) (rows_of node))) old new
 passed_more node from n old mid new h within p a =
     let s : n + 1 ≡ suc n = omega arith in
     let part = mark.Absent (record { node = node; row = n }) in
@@ -84,7 +85,7 @@ passed_more node from n old mid new h within p a =
     record {
       marks = p.marks ++ part ∷ [];
       added = a ∙ ap (λ xs. xs ++ part ∷ []) p.added ∙ append_assoc old p.marks (part ∷ []);
-      are = subst (λ rows. ArePassed rows (p.marks ++ part ∷ [])) (sym more) (passed_join _ (r.0 ∷ []) p.marks (part ∷ []) p.are (record { node = node; row = n }, [], refl, r.1, refl));
+      are = subst (λ rows. AreAbsent rows (p.marks ++ part ∷ [])) (sym more) (passed_join _ (r.0 ∷ []) p.marks (part ∷ []) p.are (record { node = node; row = n }, [], refl, r.1, refl));
     }
   where
     row_there : (rows : List Row) (k : ℕ) → k < length rows → (row : Row) × (slice_get rows k ≡ Some row)
@@ -110,11 +111,11 @@ passed_entry row (Some c) es part rest ms is at q h =
     let s = default_leaf row.presence row.node c q in
     (mark.Absent part ∷ [], rest, is, subst (λ x. IsMarked x (mark.Absent part ∷ [])) (sym s.1) (inr (part, refl, (row, at, q ∙ ap (λ x. Some x) s.1))), h)
 
-pub passed_entries : (rows : List Row) (ms : List Mark) → ArePassed rows ms → AreEntries (entries_of (map absent_content rows)) ms
+pub passed_entries : (rows : List Row) (ms : List Mark) → AreAbsent rows ms → AreEntries (entries_of (map absent_content rows)) ms
 passed_entries [] ms h = h
 passed_entries (row ∷ rows) ms h = passed_entry row (absent_content row) (map absent_content rows) h.0 h.1 ms h.2 h.3 refl (passed_entries rows h.1 h.4)
 
-pub entry_added : (entries : List (Option Content)) (rows : List Row) (c : Content) (own p x : List Mark) → AreEntries (entries_of entries) own → ArePassed rows p → IsMarked c x
+pub entry_added : (entries : List (Option Content)) (rows : List Row) (c : Content) (own p x : List Mark) → AreEntries (entries_of entries) own → AreAbsent rows p → IsMarked c x
     → AreEntries (entries_of (entries ++ (map absent_content rows ++ Some c ∷ []))) (own ++ (p ++ x))
 entry_added entries rows c own p x h k m =
     entries_join entries (map absent_content rows ++ Some c ∷ []) own (p ++ x) h (entries_join (map absent_content rows) (Some c ∷ []) p x (passed_entries rows p k) (x, [], sym (append-nil x), m, refl))
@@ -140,7 +141,7 @@ joined_marks : (text : List ℕ) (own rows last : List Mark) → text ≡ [] →
 joined_marks text own rows last e = ap (λ t. (own ++ map mark.Octet t) ++ (rows ++ last)) e ∙ ap (λ x. x ++ (rows ++ last)) (append-nil own) ∙ sym (append_assoc own rows last)
 
 sequence_marked : (entries : List (Option Content)) (left : List Row) (text : List ℕ) (c : Content) (own rows : List Mark) → text ≡ [] → c ≡ content.sequence (entries_of (entries ++ map absent_content left))
-    → AreEntries (entries_of entries) own → ArePassed left rows → IsMarked c (mark.Sequence ∷ ((own ++ map mark.Octet text) ++ (rows ++ mark.End ∷ [])))
+    → AreEntries (entries_of entries) own → AreAbsent left rows → IsMarked c (mark.Sequence ∷ ((own ++ map mark.Octet text) ++ (rows ++ mark.End ∷ [])))
 sequence_marked entries left text c own rows none is h k =
     subst (λ x. IsMarked x (mark.Sequence ∷ ((own ++ map mark.Octet text) ++ (rows ++ mark.End ∷ [])))) (sym is)
     (own ++ rows, ap (λ ms. mark.Sequence ∷ ms) (joined_marks text own rows (mark.End ∷ []) none), entries_join entries (map absent_content left) own rows h (passed_entries left rows k))
@@ -247,7 +248,7 @@ IsInside _ c text inside = inside ≡ map mark.Octet text
 
 -- a loose wrapper that ends as a sequence without elements
 late_marked : (w : Wrapped) (entries : List (Option Content)) (text : List ℕ) (c : Content) (own rows : List Mark) → text ≡ [] → c ≡ content.sequence (entries_of (entries ++ map absent_content (rows_of w.node)))
-    → entries ≡ [] → AreEntries (entries_of entries) own → ArePassed (rows_of w.node) rows → IsMarked c (whole_marks (Either w) (LooseWrapper w) own (map mark.Octet text) rows)
+    → entries ≡ [] → AreEntries (entries_of entries) own → AreAbsent (rows_of w.node) rows → IsMarked c (whole_marks (Either w) (LooseWrapper w) own (map mark.Octet text) rows)
 late_marked w entries text c own rows none is held h k =
     let own_none : own ≡ [] = subst (λ xs. AreEntries (entries_of xs) own) held h in
     subst (λ o. IsMarked c ((o ++ map mark.Octet text) ++ (mark.Sequence ∷ (rows ++ mark.End ∷ [])))) (sym own_none)
@@ -264,7 +265,7 @@ wrapper_marked false entries text c own inside rows none es h i k = subst (λ ms
 
 -- the marks of an element that has ended say its content
 ended_marked : (p : Named) (e : CodeElement) (n : Next) (entries : List (Option Content)) (ts : Trees) (text : List ℕ) (c : Content) (own inside rows : List Mark) → IsHeld p e n entries ts → IsRightText p e text
-    → IsContentOf e n entries text c → AreOwn e entries own → IsInside e c text inside → ArePassed (rows_left n) rows → IsEntryMarked e c (whole_marks n e own inside rows)
+    → IsContentOf e n entries text c → AreOwn e entries own → IsInside e c text inside → AreAbsent (rows_left n) rows → IsEntryMarked e c (whole_marks n e own inside rows)
 ended_marked p (Leaf l) Segments entries ts text c own inside rows held right is h i k =
     subst (λ ms. IsMarked c (mark.Leaf l ∷ ((own ++ ms) ++ (rows ++ mark.End ∷ [])))) (sym i) (string_marked p (mark.Leaf l) (leaf_is l) entries text c own rows refl held.1 right is h k)
 ended_marked p (ModuleLeaf l) Segments entries ts text c own inside rows held right is h i k =
@@ -312,7 +313,7 @@ first_more p _ e entries ts t slot alt el own held d h = append-nil _
 
 -- the marks of an element come after those of the elements before it
 entry_marked : (p : Named) (l : Level) (below : List Level) (next : Next) (t : Tag) (slot : Slot) (alt : Option ℕ) (el : CodeElement) (c : Content) (old mid new y : List Mark) → IsDueAt p l next t slot alt el
-    → AreFronts (l ∷ below) old → HasLed l.next slot alt old mid → new ≡ mid ++ y → IsEntryMarked el c y → AreFronts (with_entry l slot (with_alternative alt c) ∷ below) new
+    → AreFronts (l ∷ below) old → HasPreceding l.next slot alt old mid → new ≡ mid ++ y → IsEntryMarked el c y → AreFronts (with_entry l slot (with_alternative alt c) ∷ below) new
 entry_marked p l below next t slot alt el c old mid new y due h led e m =
     (h.0, h.1, h.2 ++ x, joined, h.4, own_more (is_open_type l.element) refl h.5, h.6)
   where
@@ -340,7 +341,7 @@ entry_marked p l below next t slot alt el c old mid new y due h led e m =
     nothing_more q =
         let awaits = open_awaits p l.element l.next l.entries due.trees t slot alt el q due.held due.is_due in
         let found = awaited t l.next (due_with slot alt el) due.is_due awaits in
-        let none : led.rows ≡ [] = subst (λ rows. ArePassed rows led.rows) (no_rows l.next slot awaits) led.are in
+        let none : led.rows ≡ [] = subst (λ rows. AreAbsent rows led.rows) (no_rows l.next slot awaits) led.are in
         ap (λ ms. ms ++ (alternative ++ y)) none ∙ ap (λ o. alternative_marks o ++ y) found.1 ∙ foreign_entry el c y found.0 m
 
     own_more : (b : Bool) → is_open_type l.element ≡ b → AreOwnAs b l.entries h.2 → AreOwnAs b (l.entries ++ (map absent_content (rows_before l.next slot) ++ Some (with_alternative alt c) ∷ [])) (h.2 ++ x)
@@ -364,13 +365,13 @@ opened_none BitSegment text whole none = absurd (whole.1 refl)
 opened_none _ text whole none = ap (map mark.Octet) none
 
 pub outline_opened : (old new : OutlineDraft) (next : Next) (o : Opening) (contents_start : ℕ) (mid : List Mark) → IsNoSegment (read_as o.found) → HasOpened AreOctets old.octets next o contents_start new.octets
-    → HasLed next (slot_in o.found) (alternative_of o.found) old.marks.items mid → new.marks.items ≡ mid ++ first_marks (first_of (read_as o.found)) (read_as o.found) → HasOpened AreOutlined old next o contents_start new
+    → HasPreceding next (slot_in o.found) (alternative_of o.found) old.marks.items mid → new.marks.items ≡ mid ++ first_marks (first_of (read_as o.found)) (read_as o.found) → HasOpened AreOutlined old next o contents_start new
 outline_opened old new next o contents_start mid whole octets led e levels text h opening inside = record {
   octets = octets levels text h.octets opening inside;
   front = new.marks.items;
   joined = sym (append-nil new.marks.items) ∙ ap (λ t. new.marks.items ++ t) (sym (ap (λ ls. text_marks (innermost ls) (text_opened (read_as o.found) text)) (pushed_apart l levels whole) ∙ opened_none (read_as o.found) text whole i.none));
   are = subst (λ ls. AreFronts ls new.marks.items) (sym (pushed_apart l levels whole))
-      (h.front, mid, [], e ∙ ap (λ ms. mid ++ ms) (sym (append-nil _)), subst (λ ls. AreLed (tag_of_id o.id) (read_as o.found) ls h.front mid) (sym i.are) is_led, none_own (is_open_type (read_as o.found)), h.are);
+      (h.front, mid, [], e ∙ ap (λ ms. mid ++ ms) (sym (append-nil _)), subst (λ ls. ArePreceded (tag_of_id o.id) (read_as o.found) ls h.front mid) (sym i.are) is_led, none_own (is_open_type (read_as o.found)), h.are);
 }
   where
     l : Level
@@ -382,9 +383,9 @@ outline_opened old new next o contents_start mid whole octets led e levels text 
     front : old.marks.items ≡ h.front
     front = h.joined ∙ ap (λ t. h.front ++ text_marks (innermost levels) t) i.none ∙ ap (λ ms. h.front ++ ms) (text_none (innermost levels)) ∙ append-nil h.front
 
-    is_led : IsLed (tag_of_id o.id) (read_as o.found) i.level.next h.front mid
-    is_led = subst (λ n. IsLed (tag_of_id o.id) (read_as o.found) n h.front mid) (sym i.next)
-        (record { slot = slot_in o.found; alternative = alternative_of o.found; is_due = i.is_due; led = subst (λ ms. HasLed next (slot_in o.found) (alternative_of o.found) ms mid) front led })
+    is_led : IsPreceded (tag_of_id o.id) (read_as o.found) i.level.next h.front mid
+    is_led = subst (λ n. IsPreceded (tag_of_id o.id) (read_as o.found) n h.front mid) (sym i.next)
+        (record { slot = slot_in o.found; alternative = alternative_of o.found; is_due = i.is_due; led = subst (λ ms. HasPreceding next (slot_in o.found) (alternative_of o.found) ms mid) front led })
 
 -- a segment of a string has no marks of its own
 pub outline_segment : (old new : OutlineDraft) (next : Next) (o : Opening) (contents_start : ℕ) → (read_as o.found ≡ Segment) ⊎ (read_as o.found ≡ BitSegment) → HasOpened AreOctets old.octets next o contents_start new.octets → new.marks ≡ old.marks → HasOpened AreOutlined old next o contents_start new
@@ -428,17 +429,17 @@ outline_bits old new octets has same l below text is h = record {
 
 -- an entry more in the innermost element, where no text is open
 outline_entry : (p : Named) (old new : OutlineDraft) (l : Level) (below : List Level) (next : Next) (r : Reading) (el : CodeElement) (c : Content) (mid y : List Mark) → AreOutlined old (l ∷ below) [] → IsDueAt p l next (tag_of_id r.id) (slot_in r.found) (alternative_of r.found) el
-    → HasLed next (slot_in r.found) (alternative_of r.found) old.marks.items mid → new.marks.items ≡ mid ++ y → IsEntryMarked el c y → AreFronts (with_entry l (slot_in r.found) (with_alternative (alternative_of r.found) c) ∷ below) new.marks.items
+    → HasPreceding next (slot_in r.found) (alternative_of r.found) old.marks.items mid → new.marks.items ≡ mid ++ y → IsEntryMarked el c y → AreFronts (with_entry l (slot_in r.found) (with_alternative (alternative_of r.found) c) ∷ below) new.marks.items
 outline_entry p old new l below next r el c mid y h due led e m =
     let front : old.marks.items ≡ h.front = h.joined ∙ ap (λ ms. h.front ++ ms) (text_none l.element) ∙ append-nil h.front in
-    let here = subst (λ n. HasLed n (slot_in r.found) (alternative_of r.found) h.front mid) (sym due.next) (subst (λ ms. HasLed next (slot_in r.found) (alternative_of r.found) ms mid) front led) in
+    let here = subst (λ n. HasPreceding n (slot_in r.found) (alternative_of r.found) h.front mid) (sym due.next) (subst (λ ms. HasPreceding next (slot_in r.found) (alternative_of r.found) ms mid) front led) in
     entry_marked p l below next (tag_of_id r.id) (slot_in r.found) (alternative_of r.found) el c h.front mid new.marks.items y due h.are here e m
 
 closed_text : (ms : List Mark) (e : CodeElement) → ms ≡ ms ++ text_marks e []
 closed_text ms e = sym (append-nil ms) ∙ ap (λ t. ms ++ t) (sym (text_none e))
 
 pub outline_leaf : (p : Named) (old new : OutlineDraft) (next : Next) (r : Reading) (leaf : LeafType) (octets : List ℕ) (mid : List Mark) → IsContentIn p (leaf_is leaf) octets → HasLeaf p AreOctets old.octets next r leaf octets new.octets
-    → HasLed next (slot_in r.found) (alternative_of r.found) old.marks.items mid → new.marks.items ≡ mid ++ octets_marks (mark.Leaf leaf) octets → HasLeaf p AreOutlined old next r leaf octets new
+    → HasPreceding next (slot_in r.found) (alternative_of r.found) old.marks.items mid → new.marks.items ≡ mid ++ octets_marks (mark.Leaf leaf) octets → HasLeaf p AreOutlined old next r leaf octets new
 outline_leaf p old new next r leaf octets mid right has led e after l below h due = record {
   octets = has after l below h.octets due;
   front = new.marks.items;
@@ -461,7 +462,7 @@ module_marked p (Foreign m) tag octets c other right is = refl
 module_marked p _ tag octets c other right is = absurd other
 
 pub outline_element : (p : Named) (old new : OutlineDraft) (next : Next) (r : Reading) (octets : List ℕ) (mid : List Mark) → IsModuleElement (read_as r.found) → IsRightContent p (read_as r.found) octets → HasModuleElement p AreOctets old.octets next r octets new.octets
-    → HasLed next (slot_in r.found) (alternative_of r.found) old.marks.items mid → new.marks.items ≡ mid ++ module_marks (read_as r.found) octets → HasModuleElement p AreOutlined old next r octets new
+    → HasPreceding next (slot_in r.found) (alternative_of r.found) old.marks.items mid → new.marks.items ≡ mid ++ module_marks (read_as r.found) octets → HasModuleElement p AreOutlined old next r octets new
 outline_element p old new next r octets mid other right has led e l below c h due is = record {
   octets = has l below c h.octets due is;
   front = new.marks.items;
@@ -470,13 +471,13 @@ outline_element p old new next r octets mid other right has led e l below c h du
 }
 
 -- nothing is marked before an element of a foreign tree
-pub foreign_led : (p : Named) (l : Level) (next : Next) (t : Tag) (slot : Slot) (alt : Option ℕ) (m : ℕ) (ms : List Mark) → IsDueAt p l next t slot alt (Foreign m) → HasLed next slot alt ms ms
+pub foreign_led : (p : Named) (l : Level) (next : Next) (t : Tag) (slot : Slot) (alt : Option ℕ) (m : ℕ) (ms : List Mark) → IsDueAt p l next t slot alt (Foreign m) → HasPreceding next slot alt ms ms
 foreign_led p l next t slot alt m ms due =
     let awaits = foreign_due t l.next (due_with slot alt (Foreign m)) m due.is_due refl in
     let found = awaited t l.next (due_with slot alt (Foreign m)) due.is_due awaits in
-    subst (λ n. HasLed n slot alt ms ms) due.next (go l.next awaits found.1)
+    subst (λ n. HasPreceding n slot alt ms ms) due.next (go l.next awaits found.1)
   where
-    go : (n : Next) → AwaitsForeign n → alt ≡ None → HasLed n slot alt ms ms
+    go : (n : Next) → AwaitsForeign n → alt ≡ None → HasPreceding n slot alt ms ms
     go (Root w) o none = record { rows = []; added = sym (append-nil ms) ∙ ap (λ a. ms ++ alternative_marks a) (sym none); are = refl }
     go (Foreigns n) o none = record { rows = []; added = sym (append-nil ms) ∙ ap (λ a. ms ++ alternative_marks a) (sym none); are = refl }
     go _ o none = absurd o
@@ -509,7 +510,7 @@ bits_behind : (d : NormalFormDraft) (e : CodeElement) (front text : List ℕ) �
 bits_behind d e front text h is = (let k : IsBehind d BitString front text = subst (λ x. IsBehind d x front text) is h in k.1)
 
 -- an element ends: its last marks are put after its own
-pub outline_closed : (p : Named) (old new : OutlineDraft) (f : Frame) (next : Next) (mid : List Mark) → HasClosed p AreOctets old.octets f next new.octets → mid ≡ old.marks.items ++ held_marks (read_as f.found) old.octets f.contents_start → HasRear (shape f.place) mid new.marks.items
+pub outline_closed : (p : Named) (old new : OutlineDraft) (f : Frame) (next : Next) (mid : List Mark) → HasClosed p AreOctets old.octets f next new.octets → mid ≡ old.marks.items ++ held_marks (read_as f.found) old.octets f.contents_start → HasEnding (shape f.place) mid new.marks.items
     → HasClosed p AreOutlined old f next new
 outline_closed p old new f next mid has held_as rear tag entries trees l below text c h held right is value due =
     let a = h.are in

@@ -26,7 +26,7 @@ use Rattle.ill_refusals.specs.Element.{segment}
 use Rattle.ill_refusals.specs.Fault.{element_fault}
 use Rattle.ill_refusals.specs.Place.{Open, allows}
 use Rattle.ill_refusals.specs.code.Judge.{Judgement, or_faulty, reads}
-use Rattle.ill_refusals.specs.code.Step.{Step, moved}
+use Rattle.ill_refusals.specs.code.Step.{Step, step_after}
 use Rattle.ill_grammar.specs.Places.{alternative_of, place_view}
 use Rattle.ill_grammar.specs.Elements.{element_is}
 use Rattle.ill_grammar.specs.declared.place.Place.{Place}
@@ -55,7 +55,7 @@ use Rattle.ill_read.proofs.Strings.{is_segment, segment_added, text_after}
 
 -- where the contents that were read lead
 abbrev pub content_read : Named → CodeElement → List Open → Tag → ℕ → List ℕ → ℕ → ℕ → List ℕ → Step
-content_read p e place tag header octets start at rest = moved (or_faulty (element_fault (profile_of p) (element_is e) octets) start (reads tag header octets)) place at rest
+content_read p e place tag header octets start at rest = step_after (or_faulty (element_fault (profile_of p) (element_is e) octets) start (reads tag header octets)) place at rest
 
 -- an element that is no segment, by its content
 element_read : {D : Type 0} (p : Named) (holds : D → List Level → List ℕ → Type 0) (old new : Path D) (place : List Open) (r : Reading) (c : Content) (start : ℕ) (octets : List ℕ) (result : Bool) (header at : ℕ) (rest : List ℕ)
@@ -77,7 +77,7 @@ element_read p holds old new place r c start octets result header at rest stands
     let added = entry_added p holds old.frames.open.items stands.0 new place (slot_in r.found) (alternative_of r.found) (read_as r.found) c (primitive tag octets)
     (at + header + length octets) (drop (header + length octets) rest) result (kept ∙ stands.3) stands.1 due apart after (ap shape_at there ∙ goes_on) goes
     (λ level below e due_at. (value, has goes_on level below (subst (λ t. holds old.draft (level ∷ below) t) no (subst (λ ls. holds old.draft ls (text_so_far place)) e stands.2)) due_at)) in
-    subst (λ f. IsStep p holds new (Ok result) (moved (or_faulty f start (reads tag header octets)) place at rest)) (sym sound) added
+    subst (λ f. IsStep p holds new (Ok result) (step_after (or_faulty f start (reads tag header octets)) place at rest)) (sym sound) added
 
 -- a leaf
 pub leaf_read : {D : Type 0} (p : Named) (holds : D → List Level → List ℕ → Type 0) (old new : Path D) (place : List Open) (r : Reading) (l : LeafType) (start : ℕ) (octets : List ℕ) (result : Bool) (header at : ℕ) (rest : List ℕ)
@@ -147,7 +147,7 @@ segment_joined p holds old new place r start octets header at rest stands due so
     let added = segment_added p holds new place stands.0 d T (at + header + length octets) (drop (header + length octets) rest) (ap (λ (x : Frames). x.profile) frames ∙ stands.3)
     (subst (λ fs. AreFrames p place fs stands.0) items stands.1) (subst (λ fs. IsDueIn (tag_of_id r.id) (next_at p fs) d) items due) (subst (λ fs. IsSegmentOf (next_at p fs) T) items one)
     (subst (λ fs. holds new.draft stands.0 (text_after (next_at p fs) (text_so_far place) T)) items held) in
-    subst (λ f. IsStep p holds new (Ok false) (moved (or_faulty f start (reads (tag_of_id r.id) header octets)) place at rest)) (sym sound) added
+    subst (λ f. IsStep p holds new (Ok false) (step_after (or_faulty f start (reads (tag_of_id r.id) header octets)) place at rest)) (sym sound) added
 
 -- a segment of a string
 pub segment_read : {D : Type 0} (p : Named) (holds : D → List Level → List ℕ → Type 0) (old new : Path D) (place : List Open) (r : Reading) (start : ℕ) (octets : List ℕ) (header at : ℕ) (rest : List ℕ)
@@ -183,6 +183,6 @@ bit_segment_read p holds old new place r start octets header at rest stands begi
 
 -- what was judged to be read is
 pub reads_judged : {D : Type 0} (p : Named) (holds : D → List Level → List ℕ → Type 0) (old new : Path D) (place : List Open) (r : Reading) (at : ℕ) (rest : List ℕ) (j : Judgement) (result : Result Bool Failure)
-    → HoldsAt p holds old place → IsJudgement p old.frames place at rest (Reads r) j → ReadsExactly holds old r at (content_in r.header r.size rest) new result → IsStep p holds new result (moved j place at rest)
+    → HoldsAt p holds old place → IsJudgement p old.frames place at rest (Reads r) j → ReadsExactly holds old r at (content_in r.header r.size rest) new result → IsStep p holds new result (step_after j place at rest)
 reads_judged p holds old new place r at rest j result stands judged reads_on =
-    subst (λ x. IsStep p holds new result (moved x place at rest)) (sym judged.1) (reads_on p place r.header at rest stands judged.0)
+    subst (λ x. IsStep p holds new result (step_after x place at rest)) (sym judged.1) (reads_on p place r.header at rest stands judged.0)

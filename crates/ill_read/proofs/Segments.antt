@@ -5,7 +5,7 @@ use Rattle.ber_core.specs.Tree.{octet_string}
 use Rattle.ber_leaf.specs.Leaf.{bit_string}
 use Rattle.ber_leaf.specs.Segments.{segment_tag}
 use Rattle.ill_grammar.specs.Elements.{found_is}
-use Rattle.ill_grammar.specs.Due.{Due, IsDueIn}
+use Rattle.ill_grammar.specs.Due.{DueEntry, IsDueIn}
 use Rattle.ill_grammar.specs.declared.due.Next.TheVariants.{BitSegments}
 use Rattle.ill_grammar.proofs.DueTags.{due_bit_segment, due_segment}
 use Rattle.ill_read.specs.code.Drafts.{IsNoSegment}
@@ -17,7 +17,7 @@ use Rattle.ill_grammar.specs.Elements.{element_is}
 use Rattle.ill_grammar.specs.Due.{shape, read_as}
 use Rattle.ill_refusals.specs.Element.{Element, leaf, segment}
 use Rattle.ill_refusals.specs.Place.{Open}
-use Rattle.ill_grammar.specs.Standing.{Level, next_at, IsHeld, IsFrame, AreFrames}
+use Rattle.ill_grammar.specs.Standing.{Level, next_at, IsHeld, IsFrameOf, AreFrames}
 use Rattle.ill_read.specs.Paths.{segments_after, text_so_far}
 use Rattle.ill_grammar.specs.declared.due.Next.{Next}
 use Rattle.ill_grammar.specs.declared.due.Next.TheVariants.{Segments}
@@ -54,7 +54,7 @@ pub no_text : (p : Named) (place : List Open) (frames : List Frame) (levels : Li
 no_text p [] frames levels h apart = refl
 no_text p (o ∷ path) frames levels h apart =
     let f = h.1 in
-    let k : IsFrame p f o path h.0 _ = h.6 in
+    let k : IsFrameOf p f o path h.0 _ = h.6 in
     let here : next_at p frames ≡ shape f.place = ap (next_at p) h.4 ∙ next_behind p h.0 f in
     ap (λ e. text_with e (text_so_far path) o.trees) (sym k.element)
     ∙ text_apart p (read_as f.found) (shape f.place) _ o.trees k.held (subst IsOutside here apart) (text_so_far path) o.trees
@@ -75,7 +75,7 @@ no_segment_in p e n entries ts h apart = (
 )
 
 -- what is due outside strings is no segment
-pub due_outside : (t : Tag) (n : Next) (d : Due) → IsDueIn t n d → ((u : Tag) → found_is d.found ≡ segment u → ⊥) → IsOutside n
+pub due_outside : (t : Tag) (n : Next) (d : DueEntry) → IsDueIn t n d → ((u : Tag) → found_is d.found ≡ segment u → ⊥) → IsOutside n
 due_outside t n d h apart = (λ s. apart octet_string (due_segment t n d h s), λ s. apart (segment_tag bit_string) (due_bit_segment t n d h s))
 
 pub segments_alone : (e : CodeElement) (u : Tag) → IsNoSegment e → element_is e ≡ segment u → ⊥

@@ -5,7 +5,7 @@ use Rattle.ill_schema.specs.declared.profile.Profile.{Profile as Named}
 use Rattle.ill_refusals.specs.Place.{Open}
 use Rattle.ill_grammar.specs.Due.{due_with, read_as, shape, slot_in}
 use Rattle.ill_grammar.specs.Elements.{element_is}
-use Rattle.ill_grammar.specs.Standing.{AreFrames, IsFrame, IsHeld, Level, level_of, next_at, top}
+use Rattle.ill_grammar.specs.Standing.{AreFrames, IsFrameOf, IsHeld, Level, level_of, next_at, next_at_top}
 use Rattle.ill_grammar.specs.declared.due.Next.TheVariants.{BitSegments, Segments}
 use Rattle.ill_grammar.specs.declared.element.Element.{Element as CodeElement}
 use Rattle.ill_grammar.specs.declared.element.Element.TheVariants.{BitSegment, BitString, Foreign, Leaf, List as ListOf, LooseWrapper, ModuleLeaf, Segment, Sequence, Wrapper}
@@ -23,13 +23,13 @@ pub record IsLevel (levels : List Level) (Is : CodeElement → Type 0) : Type 0 
 
 -- a string that is no BIT STRING has segments
 pub string_level : (p : Named) (place : List Open) (frames : List Frame) (levels : List Level) → AreFrames p place frames levels → next_at p frames ≡ Segments → IsLevel levels (λ e. e ≡ BitString → ⊥)
-string_level p [] frames levels h s = absurd (let q : top p ≡ Segments = sym (ap (next_at p) h.0) ∙ s in cc)
+string_level p [] frames levels h s = absurd (let q : next_at_top p ≡ Segments = sym (ap (next_at p) h.0) ∙ s in cc)
 string_level p (o ∷ path) frames levels h s = go (λ t. string_level p path h.0 h.2 h.7 t) (read_as f.found) refl
   where
     f : Frame
     f = h.1
 
-    k : IsFrame p f o path h.0 h.3
+    k : IsFrameOf p f o path h.0 h.3
     k = h.6
 
     next : shape f.place ≡ Segments
@@ -62,13 +62,13 @@ string_level p (o ∷ path) frames levels h s = go (λ t. string_level p path h.
 
 -- a BIT STRING has segments of its own
 pub bit_level : (p : Named) (place : List Open) (frames : List Frame) (levels : List Level) → AreFrames p place frames levels → next_at p frames ≡ BitSegments → IsLevel levels (λ e. e ≡ BitString)
-bit_level p [] frames levels h s = absurd (let q : top p ≡ BitSegments = sym (ap (next_at p) h.0) ∙ s in cc)
+bit_level p [] frames levels h s = absurd (let q : next_at_top p ≡ BitSegments = sym (ap (next_at p) h.0) ∙ s in cc)
 bit_level p (o ∷ path) frames levels h s = go (λ t. bit_level p path h.0 h.2 h.7 t) (read_as f.found) refl
   where
     f : Frame
     f = h.1
 
-    k : IsFrame p f o path h.0 h.3
+    k : IsFrameOf p f o path h.0 h.3
     k = h.6
 
     next : shape f.place ≡ BitSegments

@@ -9,10 +9,10 @@ use Rattle.ill_grammar.specs.Due.{IsDueIn, next_is, behind, shape, read_as}
 use Rattle.ill_read.specs.code.Judged.{IsStep}
 use Rattle.ill_refusals.specs.Next.{due, next_after, opening}
 use Rattle.ill_refusals.specs.Place.{Open}
-use Rattle.ill_grammar.specs.Standing.{Level, next_at, IsHeld, IsFrame, AreFrames}
+use Rattle.ill_grammar.specs.Standing.{Level, next_at, IsHeld, IsFrameOf, AreFrames}
 use Rattle.ill_read.specs.Paths.{text_so_far}
 use Rattle.ill_refusals.specs.code.Step.{snoc, with_tree}
-use Rattle.ill_grammar.specs.Due.{Due}
+use Rattle.ill_grammar.specs.Due.{DueEntry}
 use Rattle.ill_grammar.specs.declared.due.Next.{Next}
 use Rattle.ill_grammar.specs.declared.due.Next.TheVariants.{Segments}
 use Rattle.ill_grammar.specs.declared.element.Element.{Element as CodeElement}
@@ -44,12 +44,12 @@ abbrev pub text_after : Next → List ℕ → Tree → List ℕ
 text_after BitSegments before T = join_bits before (tree_bits T)
 text_after _ before T = before ++ text T
 
-pub is_segment : (n : Next) (T : Tree) (d : Due) → IsDueIn (tag_of T) n d → n ≡ Segments → IsString octet_string T → IsSegmentOf n T
+pub is_segment : (n : Next) (T : Tree) (d : DueEntry) → IsDueIn (tag_of T) n d → n ≡ Segments → IsString octet_string T → IsSegmentOf n T
 is_segment n T d h e s =
     let k : IsDueIn (tag_of T) Segments d = subst (λ x. IsDueIn (tag_of T) x d) e h in
     subst (λ x. IsSegmentOf x T) (sym e) (same_tag-is (tag_of T) octet_string k.tag, s)
 
-pub is_bit_segment : (n : Next) (T : Tree) (d : Due) → IsDueIn (tag_of T) n d → n ≡ BitSegments → IsString (segment_tag bit_string) T → IsSegmentOf n T
+pub is_bit_segment : (n : Next) (T : Tree) (d : DueEntry) → IsDueIn (tag_of T) n d → n ≡ BitSegments → IsString (segment_tag bit_string) T → IsSegmentOf n T
 is_bit_segment n T d h e s =
     let k : IsDueIn (tag_of T) BitSegments d = subst (λ x. IsDueIn (tag_of T) x d) e h in
     subst (λ x. IsSegmentOf x T) (sym e) (same_tag-is (tag_of T) (segment_tag bit_string) k.tag, s)
@@ -90,8 +90,8 @@ stays_in Segments slot T s = refl
 stays_in BitSegments slot T s = refl
 stays_in _ slot T s = absurd s
 
-string_frame : (p : Named) (f : Frame) (o : Open) (path : List Open) (outer : List Frame) (entries : List (Option Content)) (T : Tree) (d : Due) → IsFrame p f o path outer entries
-    → IsDueIn (tag_of T) (shape f.place) d → IsSegmentOf (shape f.place) T → IsFrame p f (with_one o T) path outer entries
+string_frame : (p : Named) (f : Frame) (o : Open) (path : List Open) (outer : List Frame) (entries : List (Option Content)) (T : Tree) (d : DueEntry) → IsFrameOf p f o path outer entries
+    → IsDueIn (tag_of T) (shape f.place) d → IsSegmentOf (shape f.place) T → IsFrameOf p f (with_one o T) path outer entries
 string_frame p f o path outer entries T d h is s =
     let D = due_element_is (tag_of T) (shape f.place) d is in
     let found : due profile_two (tag_of T) (next_after profile_two (opening profile_two o.element) o.trees) ≡ Some D.0 = ap (due profile_two (tag_of T)) (sym h.next) ∙ D.1 in
@@ -110,13 +110,13 @@ string_frame p f o path outer entries T d h is s =
     }
 
 -- a segment in the string round it
-pub segment_added : {D : Type 0} (p : Named) (holds : D → List Level → List ℕ → Type 0) (path : Path D) (place : List Open) (levels : List Level) (d : Due) (T : Tree) (at : ℕ) (rest : List ℕ)
+pub segment_added : {D : Type 0} (p : Named) (holds : D → List Level → List ℕ → Type 0) (path : Path D) (place : List Open) (levels : List Level) (d : DueEntry) (T : Tree) (at : ℕ) (rest : List ℕ)
     → path.frames.profile ≡ p → AreFrames p place path.frames.open.items levels → IsDueIn (tag_of T) (next_at p path.frames.open.items) d → IsSegmentOf (next_at p path.frames.open.items) T
     → holds path.draft levels (text_after (next_at p path.frames.open.items) (text_so_far place) T) → IsStep p holds path (Ok false) (with_tree place T at rest)
 segment_added p holds path [] levels d T at rest same h is s t = absurd (subst (λ fs. IsSegmentOf (next_at p fs) T) h.0 s)
 segment_added p holds path (o ∷ outside) levels d T at rest same h is s t =
     let f = h.1 in
-    let k : IsFrame p f o outside h.0 h.3 = h.6 in
+    let k : IsFrameOf p f o outside h.0 h.3 = h.6 in
     let here : next_at p path.frames.open.items ≡ (shape f.place) = ap (next_at p) h.4 ∙ next_behind p h.0 f in
     let due : IsDueIn (tag_of T) (shape f.place) d = subst (λ n. IsDueIn (tag_of T) n d) here is in
     let one : IsSegmentOf (shape f.place) T = subst (λ n. IsSegmentOf n T) here s in

@@ -4,7 +4,7 @@ ghost use Rattle.ill_schema.specs.Content.{simple};
 ghost use Rattle.ill_schema.specs.Presence.{default_value};
 ghost use Rattle.ill_schema.specs.Table.{kind_of, rows_of};
 ghost use Rattle.ill_schema.specs.Value.{content_of};
-ghost use Rattle.ill_read.specs.code.OpenValues.{HasPassed, HasAdded, IsSequence, IsList, IsLast};
+ghost use Rattle.ill_read.specs.code.OpenValues.{HasAddedAbsent, HasAdded, IsSequence, IsList, IsLast};
 ghost use Rattle.ill_read.specs.code.Drafts.{rows_before, rows_left};
 ghost use Rattle.ill_grammar.specs.Contents.{absent_content};
 
@@ -58,8 +58,8 @@ impl OpenValues {
             self.new.entries.items) }
     {
         match (next, slot) {
-            (Next::Rows(node, position), Slot::Row(row)) => self.pass(node, position, row)?,
-            (Next::Either(wrapped), Slot::Row(row)) => self.pass(wrapped.node, 0, row)?,
+            (Next::Rows(node, position), Slot::Row(row)) => self.add_absent(node, position, row)?,
+            (Next::Either(wrapped), Slot::Row(row)) => self.add_absent(wrapped.node, 0, row)?,
             _ => {}
         }
         self.entries.push(Some(value))?;
@@ -67,20 +67,20 @@ impl OpenValues {
     }
 
     /// Passes the rows that are still to come.
-    fn pass_last(&mut self, next: Next) -> Result<(), AllocError>
-        ensures { OnOk result (HasPassed (rows_left next) self.old.entries.items
+    fn add_absent_rest(&mut self, next: Next) -> Result<(), AllocError>
+        ensures { OnOk result (HasAddedAbsent (rows_left next) self.old.entries.items
             self.new.entries.items) }
     {
         match next {
-            Next::Rows(node, position) => self.pass(node, position, rows(node)),
-            Next::Either(wrapped) => self.pass(wrapped.node, 0, rows(wrapped.node)),
+            Next::Rows(node, position) => self.add_absent(node, position, rows(node)),
+            Next::Either(wrapped) => self.add_absent(wrapped.node, 0, rows(wrapped.node)),
             _ => Ok(()),
         }
     }
 
     /// Passes rows that have no element.
-    fn pass(&mut self, node: NodeId, from: u8, until: u8) -> Result<(), AllocError>
-        ensures { OnOk result (HasPassed (drop from (take until (rows_of node)))
+    fn add_absent(&mut self, node: NodeId, from: u8, until: u8) -> Result<(), AllocError>
+        ensures { OnOk result (HasAddedAbsent (drop from (take until (rows_of node)))
             self.old.entries.items self.new.entries.items) }
     {
         for number in from..until {
@@ -96,7 +96,7 @@ impl OpenValues {
         ensures { IfOk result (λ v. IsSequence (rows_left next) contents_start v
             self.old.entries.items self.new.entries.items) }
     {
-        self.pass_last(next)?;
+        self.add_absent_rest(next)?;
         let contents_start = contents_start.min(self.len());
         Ok(Value::Seq(self.entries.split_off(contents_start)?))
     }

@@ -8,7 +8,8 @@ ghost use Rattle.ill_read.specs.Outline.{octets_marks};
 ghost use Rattle.ill_grammar.specs.Standing.{top_level};
 ghost use Rattle.ill_read.specs.code.Drafts.{rows_before, rows_left};
 ghost use Rattle.ill_read.specs.declared.mark.Mark.{Mark};
-ghost use Rattle.ill_read.specs.code.Outlines.{AreOutlined, HasLed, HasOutline, HasPassed, HasRear, alternative_marks, first_marks, held_marks, is_any, late_marks, start_marks};
+ghost use Rattle.ill_grammar.specs.Cells.{is_any};
+ghost use Rattle.ill_read.specs.code.Outlines.{AreOutlined, HasPreceding, HasOutline, HasAbsent, HasEnding, alternative_marks, first_marks, held_marks, late_marks, start_marks};
 
 use crate::draft::Draft;
 use crate::failure::Failure;
@@ -68,18 +69,18 @@ impl OutlineDraft {
     /// Marks the octets that only the draft of octets has when an element ends: the bits of a BIT STRING, and a foreign tree in its
     /// wrapper.
     #[inline(always)]
-    fn put_held(&mut self, frame: Frame) -> Result<(), AllocError>
+    fn mark_held(&mut self, frame: Frame) -> Result<(), AllocError>
         ensures octets { self.new.octets ≡ self.old.octets }
         ensures marks { OnOk result (self.new.marks.items ≡ self.old.marks.items ++ held_marks
             (read_as frame.found) self.old.octets frame.contents_start) }
     {
         match Element::of(frame.found) {
-            Element::BitString => put_octets(&mut self.marks, self.octets.bit_string()),
+            Element::BitString => mark_octets(&mut self.marks, self.octets.bit_string()),
             Element::Wrapper(wrapped) => {
                 if !is_open_type(wrapped.node) {
                     return Ok(());
                 }
-                put_foreign(
+                mark_foreign(
                     &mut self.marks,
                     self.octets.written_from(frame.contents_start),
                 )
@@ -108,17 +109,17 @@ fn is_open_type(node: NodeId) -> bool
 }
 
 /// Marks what comes before an element that was found at this place: the rows that it passes, and the alternative that it is.
-fn lead(marks: &mut Vec<Mark>, place: Place, found: Found) -> Result<(), AllocError>
-    ensures { OnOk result (HasLed (shape place) (slot_in found) (alternative_of found)
+fn mark_preceding(marks: &mut Vec<Mark>, place: Place, found: Found) -> Result<(), AllocError>
+    ensures { OnOk result (HasPreceding (shape place) (slot_in found) (alternative_of found)
         marks.old.items marks.new.items) }
 {
-    pass_before(marks, Next::at(place), Slot::of(found))?;
-    choose(marks, found.alternative())
+    mark_absent_before(marks, Next::at(place), Slot::of(found))?;
+    mark_alternative(marks, found.alternative())
 }
 
 /// Marks that an element begins. What comes in a loose wrapper says whether it is a sequence, and a foreign tree is marked when its
 /// wrapper ends.
-fn begin(marks: &mut Vec<Mark>, element: Element) -> Result<(), AllocError>
+fn mark_start(marks: &mut Vec<Mark>, element: Element) -> Result<(), AllocError>
     ensures { OnOk result (marks.new.items ≡ marks.old.items
         ++ first_marks (first_of element) element) }
 {
@@ -134,7 +135,7 @@ fn begin(marks: &mut Vec<Mark>, element: Element) -> Result<(), AllocError>
 }
 
 /// Marks a choice's alternative.
-fn choose(marks: &mut Vec<Mark>, alternative: Option<u8>) -> Result<(), AllocError>
+fn mark_alternative(marks: &mut Vec<Mark>, alternative: Option<u8>) -> Result<(), AllocError>
     ensures { OnOk result (marks.new.items ≡ marks.old.items ++ alternative_marks alternative) }
 {
     if let Some(row) = alternative {
@@ -144,7 +145,7 @@ fn choose(marks: &mut Vec<Mark>, alternative: Option<u8>) -> Result<(), AllocErr
 }
 
 /// Marks octets.
-fn put_octets(marks: &mut Vec<Mark>, octets: &[u8]) -> Result<(), AllocError>
+fn mark_octets(marks: &mut Vec<Mark>, octets: &[u8]) -> Result<(), AllocError>
     ensures { OnOk result (marks.new.items ≡ marks.old.items ++ map Mark.Octet octets.now) }
 {
     marks.reserve(octets.len())?;
@@ -156,7 +157,7 @@ fn put_octets(marks: &mut Vec<Mark>, octets: &[u8]) -> Result<(), AllocError>
 
 /// Marks what has only octets, which begins with this mark. Room is made once.
 #[inline(always)]
-fn put_content(marks: &mut Vec<Mark>, first: Mark, octets: &[u8]) -> Result<(), AllocError>
+fn mark_content(marks: &mut Vec<Mark>, first: Mark, octets: &[u8]) -> Result<(), AllocError>
     ensures { OnOk result (marks.new.items ≡ marks.old.items ++ octets_marks first octets.now) }
 {
     marks.reserve(octets.len() + 2)?;
@@ -170,62 +171,62 @@ fn put_content(marks: &mut Vec<Mark>, first: Mark, octets: &[u8]) -> Result<(), 
 
 /// Marks a foreign tree, which has these octets.
 #[inline(never)]
-fn put_foreign(marks: &mut Vec<Mark>, octets: &[u8]) -> Result<(), AllocError>
+fn mark_foreign(marks: &mut Vec<Mark>, octets: &[u8]) -> Result<(), AllocError>
     ensures { OnOk result (marks.new.items ≡ marks.old.items
         ++ octets_marks Mark.Foreign octets.now) }
 {
-    put_content(marks, Mark::Foreign, octets)
+    mark_content(marks, Mark::Foreign, octets)
 }
 
 /// Passes the rows before an element at the slot, where this may come next in the element round it. The first row in a loose wrapper
 /// says that this is a sequence.
-fn pass_before(marks: &mut Vec<Mark>, next: Next, slot: Slot) -> Result<(), AllocError>
-    ensures { OnOk result (HasPassed (start_marks next slot) (rows_before next slot) marks.old.items
+fn mark_absent_before(marks: &mut Vec<Mark>, next: Next, slot: Slot) -> Result<(), AllocError>
+    ensures { OnOk result (HasAbsent (start_marks next slot) (rows_before next slot) marks.old.items
         marks.new.items) }
 {
     match (next, slot) {
         (Next::Rows(node, position), Slot::Row(row)) => {
-            pass(marks, node, position, row.min(rows(node)))
+            mark_absent(marks, node, position, row.min(rows(node)))
         }
         (Next::Either(wrapped), Slot::Row(row)) => {
             marks.push(Mark::Sequence)?;
-            pass(marks, wrapped.node, 0, row.min(rows(wrapped.node)))
+            mark_absent(marks, wrapped.node, 0, row.min(rows(wrapped.node)))
         }
         _ => Ok(()),
     }
 }
 
 /// Passes the rows that are still to come.
-fn pass_last(marks: &mut Vec<Mark>, next: Next) -> Result<(), AllocError>
-    ensures { OnOk result (HasPassed (late_marks next) (rows_left next) marks.old.items
+fn mark_absent_rest(marks: &mut Vec<Mark>, next: Next) -> Result<(), AllocError>
+    ensures { OnOk result (HasAbsent (late_marks next) (rows_left next) marks.old.items
         marks.new.items) }
 {
     match next {
-        Next::Rows(node, position) => pass(marks, node, position, rows(node)),
+        Next::Rows(node, position) => mark_absent(marks, node, position, rows(node)),
         Next::Either(wrapped) => {
             marks.push(Mark::Sequence)?;
-            pass(marks, wrapped.node, 0, rows(wrapped.node))
+            mark_absent(marks, wrapped.node, 0, rows(wrapped.node))
         }
         _ => Ok(()),
     }
 }
 
 /// Ends the marks of an element, where this might still come in it.
-fn end(marks: &mut Vec<Mark>, next: Next) -> Result<(), AllocError>
-    ensures { OnOk result (HasRear next marks.old.items marks.new.items) }
+fn mark_end(marks: &mut Vec<Mark>, next: Next) -> Result<(), AllocError>
+    ensures { OnOk result (HasEnding next marks.old.items marks.new.items) }
 {
     if let Next::Inner(_) | Next::Root(_) | Next::Foreigns(_) | Next::Nothing = next {
         return Ok(());
     }
-    pass_last(marks, next)?;
+    mark_absent_rest(marks, next)?;
     marks.push(Mark::End)?;
     Ok(())
 }
 
 /// Passes rows that have no element.
-fn pass(marks: &mut Vec<Mark>, node: NodeId, from: u8, until: u8) -> Result<(), AllocError>
+fn mark_absent(marks: &mut Vec<Mark>, node: NodeId, from: u8, until: u8) -> Result<(), AllocError>
     requires { until ≤ length (rows_of node) }
-    ensures { OnOk result (HasPassed [] (drop from (take until (rows_of node))) marks.old.items
+    ensures { OnOk result (HasAbsent [] (drop from (take until (rows_of node))) marks.old.items
         marks.new.items) }
 {
     for row in from..until {
@@ -252,8 +253,8 @@ impl Draft for OutlineDraft {
         match element {
             Element::Segment | Element::BitSegment => {}
             _ => {
-                lead(&mut self.marks, place, opening.found)?;
-                begin(&mut self.marks, element)?;
+                mark_preceding(&mut self.marks, place, opening.found)?;
+                mark_start(&mut self.marks, element)?;
             }
         }
         self.octets.open(profile, place, opening)
@@ -267,14 +268,14 @@ impl Draft for OutlineDraft {
         opening: Opening,
     ) -> Result<usize, AllocError> {
         let element = Element::of(opening.found);
-        lead(&mut self.marks, place, opening.found)?;
-        begin(&mut self.marks, element)?;
+        mark_preceding(&mut self.marks, place, opening.found)?;
+        mark_start(&mut self.marks, element)?;
         self.octets.open_usual(profile, place, opening)
     }
 
     fn text(&mut self, octets: &[u8]) -> Result<(), AllocError> {
         self.octets.text(octets)?;
-        put_octets(&mut self.marks, octets)
+        mark_octets(&mut self.marks, octets)
     }
 
     fn bits(
@@ -297,8 +298,8 @@ impl Draft for OutlineDraft {
     ) -> Result<(), AllocError> {
         self.octets.leaf(profile, place, reading, leaf, content)?;
         let marks = &mut self.marks;
-        lead(marks, place, reading.found)?;
-        put_content(marks, Mark::Leaf(leaf), content)?;
+        mark_preceding(marks, place, reading.found)?;
+        mark_content(marks, Mark::Leaf(leaf), content)?;
         Ok(())
     }
 
@@ -316,18 +317,18 @@ impl Draft for OutlineDraft {
             return Ok(());
         }
         let marks = &mut self.marks;
-        lead(marks, place, reading.found)?;
-        begin(marks, element)?;
-        put_octets(marks, content)?;
+        mark_preceding(marks, place, reading.found)?;
+        mark_start(marks, element)?;
+        mark_octets(marks, content)?;
         marks.push(Mark::End)?;
         Ok(())
     }
 
     #[inline(always)]
     fn close(&mut self, profile: Profile, frame: Frame, place: Place) -> Result<(), Failure> {
-        self.put_held(frame)?;
+        self.mark_held(frame)?;
         self.octets.close(profile, frame, place)?;
-        end(&mut self.marks, frame.next())?;
+        mark_end(&mut self.marks, frame.next())?;
         Ok(())
     }
 

@@ -46,7 +46,7 @@ impl<D: Draft> Reader<D> {
     ghost use Rattle.ill_grammar.specs.Standing.{StandsBefore, top_level};
     ghost use Rattle.ill_read.specs.Answers.{IsRefusedIn};
     ghost use Rattle.ill_refusals.specs.code.Judge.{faulty, judge, judge_octets};
-    ghost use Rattle.ill_refusals.specs.code.Step.{moved};
+    ghost use Rattle.ill_refusals.specs.code.Step.{step_after};
     ghost use Rattle.ill_read.specs.code.Drafts.{HoldsApdu};
     ghost use Rattle.ill_read.specs.code.Filling.{HasLooked, NoneEndsWithin};
     ghost use Rattle.ill_read.specs.code.Judged.{IsJudgement, IsStep};
@@ -389,7 +389,7 @@ impl<D: Draft> Reader<D> {
             (judge (profile_of p) b.place self.old.at rest)
             → size ≡ size_of judgement
             → IsStep p D.holds self.old.path (Ok whole)
-            (moved (judge (profile_of p) b.place self.old.at rest) b.place self.old.at rest)
+            (step_after (judge (profile_of p) b.place self.old.at rest) b.place self.old.at rest)
             → HasAdvanced p D.holds D.has self.new s rest result }
         ensures profile { self.new.path.frames.profile ≡ self.old.path.frames.profile }
     {

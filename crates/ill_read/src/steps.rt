@@ -198,7 +198,7 @@ impl<D: Draft> Path<D> {
         }
         self.draft
             .leaf(profile, self.frames.place(), reading, leaf, content)?;
-        Ok(self.pass(reading.found.after()))
+        Ok(self.move_to(reading.found.after()))
     }
 
     /// Takes the content of an element that only the module profile has.
@@ -222,7 +222,7 @@ impl<D: Draft> Path<D> {
         }
         self.draft
             .module_element(profile, self.frames.place(), reading, content)?;
-        Ok(self.pass(reading.found.after()))
+        Ok(self.move_to(reading.found.after()))
     }
 
     /// Closes the innermost element, in which nothing is missing. Returns whether the message is whole.
@@ -240,12 +240,12 @@ impl<D: Draft> Path<D> {
         }
         let profile = self.frames.profile;
         self.draft.close(profile, frame, self.frames.place())?;
-        Ok(self.pass(frame.found.after()))
+        Ok(self.move_to(frame.found.after()))
     }
 
     /// Goes on at the place after an element. Returns whether the message is whole.
     #[inline(always)]
-    fn pass(&mut self, after: Place) -> bool
+    fn move_to(&mut self, after: Place) -> bool
         requires is_of { IsTrue (is_place_of self.old.frames.profile after) }
         ensures passed { GoesOn after self.old.frames.open.items self.new.frames.open.items result }
         ensures draft { self.new.draft ≡ self.old.draft }

@@ -10,7 +10,7 @@ use Rattle.ill_refusals.specs.Outcome.{OnlyAccepts, OnlyRefuses}
 use Rattle.ill_refusals.specs.Place.{Open, IsPlace, IsDue}
 use Rattle.ber_leaf.specs.Profile.{Profile}
 use Rattle.ill_refusals.proofs.Judgements.{Judged, judged}
-use Rattle.ill_refusals.specs.code.Step.{Step, refused, goes, whole, stuck, with_tree, close, moved}
+use Rattle.ill_refusals.specs.code.Step.{Step, refused, goes, whole, stuck, with_tree, close, step_after}
 use Rattle.ill_refusals.proofs.Machine.{step, after, Runs, runs-step, runs-trans}
 use Rattle.ill_refusals.proofs.OneOutcome.{begin, due_run, encodes_run, refused_alone, accepted_alone, message_encodes}
 use Rattle.ill_refusals.proofs.DueSteps.{IsMessage, Placed, step_placed}
@@ -60,7 +60,7 @@ closes_keeps e o outer k m how (inl (inr h)) = inl h
 closes_keeps e o outer k m (inl a) (inl (inl h)) = let q : Some k ≡ Some e = sym a ∙ h in let r : k ≡ e = cc in inr (omega arith)
 closes_keeps e o outer k m (inr a) (inl (inl h)) = absurd (let q : None ≡ Some e = sym a ∙ h in cc)
 
-moved_keeps : (p : Profile) (e : ℕ) (path : List Open) (k : ℕ) (rest : List ℕ) (j : Judgement) → Judged p path k rest j → HasEnd e path ⊎ (e ≤ k) → Keeps e (moved j path k rest)
+moved_keeps : (p : Profile) (e : ℕ) (path : List Open) (k : ℕ) (rest : List ℕ) (j : Judgement) → Judged p path k rest j → HasEnd e path ⊎ (e ≤ k) → Keeps e (step_after j path k rest)
 moved_keeps p e path k rest (faulty f) r h = tt
 moved_keeps p e path k rest (closes m) r h =
     subst (λ z. Keeps e (close z (k + m) (drop m rest))) (sym r.is_path)

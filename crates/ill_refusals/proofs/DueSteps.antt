@@ -26,7 +26,7 @@ use Rattle.ill_refusals.proofs.OpenElements.{in_body, due_whole, due_proper, rea
 use Rattle.ber_core.proofs.ReadOctets.{octets_left, octets_right, take-all}
 use Rattle.ill_refusals.proofs.Segments.{segments_octets}
 use Rattle.ill_refusals.proofs.Judgements.{MayEnd, Judged, Closes, Opens, Reads, judged, bound_some, id_size, length_size}
-use Rattle.ill_refusals.specs.code.Step.{Step, refused, goes, whole, stuck, snoc, with_tree, close, opened, moved}
+use Rattle.ill_refusals.specs.code.Step.{Step, refused, goes, whole, stuck, snoc, with_tree, close, opened, step_after}
 use Rattle.ill_refusals.proofs.Machine.{step, IsFinal, Runs, runs-none, runs-step, runs-trans}
 use Rattle.ill_refusals.proofs.TreeRuns.{whole-snoc}
 use Rattle.ill_refusals.proofs.PlaceRuns.{place_proper}
@@ -113,7 +113,7 @@ add_tree p s (o ∷ path) T u b x d e h q w sp deep le =
 
 -- a primitive element is read
 pub reads_placed : (p : Profile) (s : List ℕ) (path : List Open) (k : ℕ) (rest : List ℕ) (tag : Tag) (n : ℕ) (octets : List ℕ) → IsTrue (are_octets s) → Placed p s (goes path k rest)
-    → Reads p path k rest tag n octets → Placed p s (moved (reads tag n octets) path k rest)
+    → Reads p path k rest tag n octets → Placed p s (step_after (reads tag n octets) path k rest)
 reads_placed p s path k rest tag n octets ok h r =
     let u = h.0 in let d = r.found in let T = primitive tag octets in
     let id = identifier tag false in
@@ -134,7 +134,7 @@ reads_placed p s path k rest tag n octets ok h r =
 
 -- an element opens
 pub opens_placed : (p : Profile) (s : List ℕ) (path : List Open) (k : ℕ) (rest : List ℕ) (tag : Tag) (e : Element) (n : ℕ) (end : Option ℕ) → Placed p s (goes path k rest)
-    → Opens p path k rest tag e n end → Placed p s (moved (opens tag e n end) path k rest)
+    → Opens p path k rest tag e n end → Placed p s (step_after (opens tag e n end) path k rest)
 opens_placed p s path k rest tag e n end h r =
     let u = h.0 in let d = r.found in let st = r.started in
     let id = identifier tag true in
@@ -262,9 +262,9 @@ closes_at p s o outer k rest m ok h may how =
     ]
 
 closes_placed : (p : Profile) (s : List ℕ) (path : List Open) (k : ℕ) (rest : List ℕ) (m : ℕ) → IsTrue (are_octets s) → Placed p s (goes path k rest)
-    → Closes p path k rest m → Placed p s (moved (closes m) path k rest)
+    → Closes p path k rest m → Placed p s (step_after (closes m) path k rest)
 closes_placed p s path k rest m ok h r =
-    subst (λ z. Placed p s (moved (closes m) z k rest)) (sym r.is_path)
+    subst (λ z. Placed p s (step_after (closes m) z k rest)) (sym r.is_path)
     (closes_at p s r.innermost r.outer k rest m ok (subst (λ z. Placed p s (goes z k rest)) r.is_path h) r.may_end (elim r.how [
       | inl x ↦ inl x
       | inr x ↦ inr (x.0, x.1, x.2, subst (λ z. k + 2 ≤ bound p z) r.is_path x.3)
@@ -275,7 +275,7 @@ take-u u rest k e = ap (λ n. take n (u ++ rest)) e ∙ take-all u rest
 
 -- each step leads from a place to a place, to a fault or to a message
 moved_placed : (p : Profile) (s : List ℕ) (path : List Open) (k : ℕ) (rest : List ℕ) (j : Judgement) → IsTrue (are_octets s) → Placed p s (goes path k rest) → judge p path k rest ≡ j
-    → Judged p path k rest j → Placed p s (moved j path k rest)
+    → Judged p path k rest j → Placed p s (step_after j path k rest)
 moved_placed p s path k rest (faulty f) ok h e r =
     let u = h.0 in let at = h.2 in
     let t : take k s ≡ u = ap (take k) h.1 ∙ take-u u rest k at in
@@ -304,7 +304,7 @@ with_less : (path : List Open) (T : Tree) (k : ℕ) (rest : List ℕ) (n : ℕ) 
 with_less [] T k rest n h = tt
 with_less (o ∷ path) T k rest n h = h
 
-moved_less : (p : Profile) (path : List Open) (k : ℕ) (rest : List ℕ) (j : Judgement) (n : ℕ) → Judged p path k rest j → 2 * length rest + length path < n + 1 → Less (moved j path k rest) n
+moved_less : (p : Profile) (path : List Open) (k : ℕ) (rest : List ℕ) (j : Judgement) (n : ℕ) → Judged p path k rest j → 2 * length rest + length path < n + 1 → Less (step_after j path k rest) n
 moved_less p path k rest (faulty f) n r l = tt
 moved_less p path k rest (closes m) n r l =
     let a : length path ≡ suc (length r.outer) = ap length r.is_path in

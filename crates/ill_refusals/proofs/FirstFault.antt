@@ -7,7 +7,7 @@ use Rattle.ber_leaf.specs.Profile.{Profile}
 use Rattle.ill_schema.specs.declared.refusal.Cause.{Cause}
 use Rattle.ill_schema.specs.declared.part.PartId.{PartId}
 use Rattle.ill_refusals.specs.Element.{Element, leaf, sequence, list, wrapper, loose_wrapper, segment, foreign, left_out}
-use Rattle.ill_refusals.specs.Fault.{Fault, fault, Finding, passes, finds, first_fault, no_octet, innermost_ends, ended, second_zero, of_element, after_identifier, bad_form, bad_length, too_long, too_deep, bad_content, at_fault, bad_identifier, end_mark, ends_at, is_indefinite, past_end, cut_fault, element_fault, string_fault, fault_at, is_deep}
+use Rattle.ill_refusals.specs.Fault.{Fault, fault, Finding, passes, finds, first_fault, no_octet, innermost_ends, end_finding, second_zero, of_element, after_identifier, bad_form, bad_length, too_long, too_deep, bad_content, at_fault, bad_identifier, end_mark, ends_at, is_indefinite, past_end, cut_fault, element_fault, string_fault, fault_at, is_deep}
 use Rattle.ill_refusals.specs.code.Judge.{Judgement, faulty, closes, opens, reads, or_faulty, judge_end, judge_content, judge_size, judge_length, judge_form, judge_tag, judge_element, judge_mark, judge_octets, judge, fault_in}
 use Rattle.ill_refusals.specs.Next.{Due, element_of, due, missing}
 use Rattle.ill_refusals.specs.Place.{Open, next_in, bound, allows}
@@ -18,7 +18,7 @@ end_judged : (p : Profile) (path : List Open) (k marks : ℕ) (more : List Findi
 end_judged p [] k marks more = refl
 end_judged p (o ∷ path) k marks more = go (missing p (next_in p (o ∷ path))) (string_fault p o.element o.trees)
   where
-    go : (x : Option PartId) (c : Option LeafFault) → first_fault (ended x k c o.start ∷ more) ≡ fault_in (elim x as (λ _. Judgement) [
+    go : (x : Option PartId) (c : Option LeafFault) → first_fault (end_finding x k c o.start ∷ more) ≡ fault_in (elim x as (λ _. Judgement) [
       | Some part ↦ faulty (fault (Cause.Missing part) k)
       | None ↦ or_faulty c o.start (closes marks)
     ])

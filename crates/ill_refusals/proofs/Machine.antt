@@ -3,10 +3,10 @@ use Rattle.std.proofs.Common.{◌≡◌, ℕ, zero, suc, ◌+◌, ◌*◌, List,
 use Rattle.ber_leaf.specs.Profile.{Profile}
 use Rattle.ill_refusals.specs.Place.{Open}
 use Rattle.ill_refusals.specs.code.Judge.{judge}
-use Rattle.ill_refusals.specs.code.Step.{Step, refused, goes, whole, stuck, moved}
+use Rattle.ill_refusals.specs.code.Step.{Step, refused, goes, whole, stuck, step_after}
 
 abbrev pub step : Profile → List Open → ℕ → List ℕ → Step
-step p path k rest = moved (judge p path k rest) path k rest
+step p path k rest = step_after (judge p path k rest) path k rest
 
 abbrev pub next : Profile → Step → Step
 next p (goes path k rest) = step p path k rest

@@ -7,7 +7,7 @@ use Rattle.ber_core.specs.Octets.{are_octets}
 use Rattle.ill_refusals.specs.Place.{Open, IsDue}
 use Rattle.ber_leaf.specs.Profile.{Profile}
 use Rattle.ill_refusals.proofs.Judgements.{Judged, judged, id_size}
-use Rattle.ill_refusals.specs.code.Step.{Step, refused, goes, whole, stuck, with_tree, close, moved}
+use Rattle.ill_refusals.specs.code.Step.{Step, refused, goes, whole, stuck, with_tree, close, step_after}
 use Rattle.ill_refusals.proofs.Machine.{step, after, after-sum, IsFinal, Runs}
 use Rattle.std.proofs.lemmas.List.{take-append-drop, length-take-le}
 use Rattle.ill_refusals.proofs.DueSteps.{Placed, step_placed}
@@ -30,7 +30,7 @@ with_fewer : (path outer : List Open) (T : Tree) (k l : ℕ) (rest : List ℕ) �
 with_fewer path [] T k l rest e h = tt
 with_fewer path (o ∷ outer) T k l rest e h = inr (e, h)
 
-moved_later : (p : Profile) (path : List Open) (k : ℕ) (rest : List ℕ) (j : Judgement) → Judged p path k rest j → Later path k (moved j path k rest)
+moved_later : (p : Profile) (path : List Open) (k : ℕ) (rest : List ℕ) (j : Judgement) → Judged p path k rest j → Later path k (step_after j path k rest)
 moved_later p path k rest (faulty f) r = tt
 moved_later p path k rest (closes m) r =
     let a : length path ≡ suc (length r.outer) = ap length r.is_path in
@@ -119,7 +119,7 @@ last_place p s a b k l f ok h e g = elim (either_leads p (begin s) (goes a k (dr
       let m : l ≡ k = cc in let n : length a ≡ length b = ap length (same_path a b k l (drop k s) (drop l s) q) in inr (m, omega arith)
   | inr x ↦ elim x [
     | inl r ↦
-        let st : step p a k (drop k s) ≡ refused f = ap (λ j. moved j a k (drop k s)) (is_judged p a k (drop k s) f e) in
+        let st : step p a k (drop k s) ≡ refused f = ap (λ j. step_after j a k (drop k s)) (is_judged p a k (drop k s) f e) in
         let q : refused f ≡ goes b l (drop l s) = sym (ap (after p r.0) st ∙ final_stays p r.0 (refused f) tt) ∙ r.1 in
         absurd cc
     | inr r ↦ elim (leads_later p s b a l k ok g r) [ inl y ↦ inl y | inr y ↦ let z = y.1 in inr (y.0, omega arith) ]

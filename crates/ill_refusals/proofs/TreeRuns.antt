@@ -12,7 +12,7 @@ use Rattle.ill_refusals.proofs.WholeElements.{IsElement, IsProper}
 use Rattle.ill_refusals.proofs.OpenElements.{IsProperNext, due_element, due_proper, opening_proper, element_read, element_primitive}
 use Rattle.ill_refusals.proofs.Rows.{next_after-more}
 use Rattle.ill_refusals.proofs.Judgements.{IsStarted, MayEnd, ends_judged, mark_judged, opens_judged, indefinite_judged, reads_judged}
-use Rattle.ill_refusals.specs.code.Step.{goes, snoc, with_tree, opened, moved}
+use Rattle.ill_refusals.specs.code.Step.{goes, snoc, with_tree, opened, step_after}
 use Rattle.ill_refusals.proofs.Machine.{step, after, Runs, runs-step, runs-trans}
 
 abbrev pub joined : Trees → Trees → Trees
@@ -39,8 +39,8 @@ whole-snoc p n (more U ts) T d w e h =
     let a = next_after-more p n U ts w.0 w.1 in
     (w.0, w.1, w.2, whole-snoc p (next_of w.0) ts T d w.3 (ap (due p (tag_of T)) (sym a) ∙ e) h)
 
-pub step_is : (p : Profile) (path : List Open) (k : ℕ) (rest : List ℕ) (j : Judgement) → judge p path k rest ≡ j → step p path k rest ≡ moved j path k rest
-step_is p path k rest j e = ap (λ x. moved x path k rest) e
+pub step_is : (p : Profile) (path : List Open) (k : ℕ) (rest : List ℕ) (j : Judgement) → judge p path k rest ≡ j → step p path k rest ≡ step_after j path k rest
+step_is p path k rest j e = ap (λ x. step_after x path k rest) e
 
 same_goes : (path : List Open) (k l : ℕ) (a b : List ℕ) → k ≡ l → a ≡ b → goes path k a ≡ goes path l b
 same_goes path k l a b e f = ap₂ (λ (n : ℕ) (w : List ℕ). goes path n w) e f

@@ -71,15 +71,15 @@ first_fault (finds f ∷ findings) = Some f
 first_fault (sound ∷ findings) = None
 
 -- an element ends at offset k: a mandatory part is missing, or the text of a string is at fault, at the string's first octet
-abbrev pub ended : Option PartId → ℕ → Option LeafFault → ℕ → Finding
-ended (Some part) k text start = finds (fault (Cause.Missing part) k)
-ended None k (Some c) start = finds (fault (cause_of c) start)
-ended None k None start = sound
+abbrev pub end_finding : Option PartId → ℕ → Option LeafFault → ℕ → Finding
+end_finding (Some part) k text start = finds (fault (Cause.Missing part) k)
+end_finding None k (Some c) start = finds (fault (cause_of c) start)
+end_finding None k None start = sound
 
 -- the innermost element ends at offset k
 abbrev pub innermost_ends : Profile → List Open → ℕ → Finding
 innermost_ends p [] k = sound
-innermost_ends p (o ∷ path) k = ended (missing p (next_in p (o ∷ path))) k (string_fault p o.element o.trees) o.start
+innermost_ends p (o ∷ path) k = end_finding (missing p (next_in p (o ∷ path))) k (string_fault p o.element o.trees) o.start
 
 -- 1. the innermost element is definite, and its end is here
 abbrev pub definite_end : Profile → List Open → ℕ → Finding

@@ -1,6 +1,6 @@
 -- The names of the nodes, and of each node's rows.
 use Rattle.std.specs.Prelude.{ℕ, ◌-◌, nat_eq, List, [], ◌∷◌, ◌++◌, codes, Option, Some, None, option_map, slice_get, if◌then◌else◌}
-use Rattle.ill_schema.specs.declared.{node.NodeId.NodeId, part.PartId.PartId, part.Presence.Presence, part.Row.Row}
+use Rattle.ill_schema.specs.declared.{node.NodeId.NodeId, part.PartId.PartId, part.Presence.Presence, part.Row.Row, refusal.Cause.Cause}
 use Rattle.ill_schema.specs.declared.node.NodeId.TheVariants.{LeftOut, Symbol, Name, SystemId, TransactionId, DateTime, ServiceDateTime, PostalAddress, SystemAddress, DeliveryAddress, ClientId, DeliveryService, RequesterOptionalMessages, ResponderOptionalMessages, SearchType, SupplyMediumInfo, ItemId, Amount, CostInfo, SendTo, SendToList, AlreadyTriedList, ThirdPartyInfo, UnitsPerMedium, UnitsPerMediumList, DateDue, ShippedVia, SupplyDetails, IllServiceTypes, SupplyMediumInfos, IllRequest, Shipped, LocationInfo, Locs, Conditional, Retry, Unfilled, Locations, WillSupply, HoldPlaced, Estimate, Results, IllAnswer, ConditionalReply, Cancel, CancelReply, Received, Recall, Returned, CheckedIn, Overdue, Renew, RenewAnswer, Lost, Damaged, MessageApdu, StatusQuery, Expired, IllApdu, Encoding, External, TaggedExternal, Externals, Extension, Extensions, EDeliveryService, DocumentType, EDeliveryDetails, ElectronicDelivery, ElectronicDeliveries, SpecificUnits, DamagedPortion, DamagedDetails, HistoryReport, StatusReport, AlreadyForwarded, UserErrorReport, StateTransition, ProviderErrorReport, ErrorReport, ForwardNotification, StatusOrErrorReport, ModuleDeliveryService, ModuleShippedVia, ModuleItemId, ModuleUnitsPerMedium, ModuleUnitsPerMediumList, ModuleSupplyDetails, ModuleIllRequest, ModuleShipped, ModuleConditional, ModuleWillSupply, ModuleResults, ModuleIllAnswer, ModuleConditionalReply, ModuleCancel, ModuleCancelReply, ModuleReceived, ModuleRecall, ModuleReturned, ModuleCheckedIn, ModuleOverdue, ModuleRenew, ModuleRenewAnswer, ModuleLost, ModuleDamaged, ModuleMessageApdu, ModuleStatusQuery, ModuleExpired, ModuleIllApdu}
 use Rattle.ber_leaf.specs.Profile.{Profile}
 use Rattle.ill_schema.specs.Apdu.{root}
@@ -172,6 +172,16 @@ names_of node = names node
 -- the names of a part: its node's and its row's
 abbrev pub part_name_of : PartId → Option (List ℕ × List ℕ)
 part_name_of part = let names = names_of part.node in option_map (λ row. (names.0, row)) (slice_get names.1 part.row)
+
+-- the names of the part that a cause is about
+abbrev pub cause_part_name_of : Cause → Option (List ℕ × List ℕ)
+cause_part_name_of (Cause.LeftOut part) = part_name_of part
+cause_part_name_of (Cause.Missing part) = part_name_of part
+cause_part_name_of _ = None
+
+-- both names, with a dot between them
+abbrev pub dotted_name : List ℕ × List ℕ → List ℕ
+dotted_name names = names.0 ++ codes "." ++ names.1
 
 abbrev pub carried : Presence → NodeId → Option NodeId
 carried Presence.LeftOut node = None

@@ -17,17 +17,20 @@ numbers_after n (a ∷ octets) =
     else numbers_after (128 * n + (a - 0x80)) octets
 
 -- the first number stands for two components, of which the first is 0, 1 or 2 (X.690, 8.19.4)
-abbrev pub components : List ℕ → List ℕ
-components [] = []
-components (n ∷ numbers) = min 2 (n / 40) ∷ (n - 40 * min 2 (n / 40)) ∷ numbers
+abbrev pub oid_components : List ℕ → List ℕ
+oid_components [] = []
+oid_components (n ∷ numbers) = min 2 (n / 40) ∷ (n - 40 * min 2 (n / 40)) ∷ numbers
 
+abbrev pub after_dot : ℕ → List ℕ
+after_dot n = codes "." ++ decimal n
+
+-- numbers with dots between them
 abbrev pub with_dots : List ℕ → List ℕ
 with_dots [] = []
-with_dots (n ∷ []) = decimal n
-with_dots (n ∷ m ∷ numbers) = decimal n ++ codes "." ++ with_dots (m ∷ numbers)
+with_dots (n ∷ numbers) = decimal n ++ flat_map after_dot numbers
 
 -- an OBJECT IDENTIFIER in decimals, unless one of its numbers takes more than 63 bits
 abbrev pub oid_text : List ℕ → List ℕ
 oid_text octets =
-    if list_all (λ n. nat_lt n 9_223_372_036_854_775_808) (numbers_after 0 octets) then with_dots (components (numbers_after 0 octets))
+    if list_all (λ n. nat_lt n 9_223_372_036_854_775_808) (numbers_after 0 octets) then with_dots (oid_components (numbers_after 0 octets))
     else codes "oid " ++ hexadecimal octets

@@ -1,4 +1,5 @@
 //! Causes of refusals, with their names, numbers and texts.
+use crate::names::part_name;
 use crate::node::NodeId;
 use crate::part::PartId;
 use ber_leaf::LeafFault;
@@ -59,8 +60,9 @@ pub enum Cause {
 }
 
 impl Cause {
-    ghost use Rattle.std.specs.Prelude.{◌≡◌, ◌≢◌, IfNone, IfSome};
+    ghost use Rattle.std.specs.Prelude.{◌≡◌, ◌≢◌, IfNone, IfSome, MatchOption, None, Some};
     ghost use Rattle.ill_schema.specs.Causes.{cause_name, cause_number, cause_text};
+    ghost use Rattle.ill_schema.specs.Names.{cause_part_name_of};
     ghost use Rattle.ill_schema.specs.declared.refusal.Cause.{Cause as Reason};
 
     /// The name of the cause.
@@ -94,6 +96,21 @@ impl Cause {
             Cause::BadNull => "BadNull",
             Cause::BadOid => "BadOid",
             Cause::BadBits => "BadBits",
+        }
+    }
+
+    /// The names of the part that the cause is about: its node's and its row's. None where it is about no part.
+    ///
+    /// ```text
+    /// Cause::BadEnd.part_name() // None
+    /// ```
+    pub fn part_name(self) -> Option<(&'static str, &'static str)>
+        ensures { MatchOption result (cause_part_name_of self ≡ None)
+            (λ names. cause_part_name_of self ≡ Some (names.0.now, names.1.now)) }
+    {
+        match self {
+            Cause::LeftOut(part) | Cause::Missing(part) => part_name(part),
+            _ => None,
         }
     }
 

@@ -9,9 +9,9 @@ use Rattle.ber_core.specs.Identifier.{Tag, identifier}
 use Rattle.ber_core.specs.Length.{shortest_length}
 use Rattle.ber_core.specs.Tree.{Tree, Trees, primitive, constructed, none, more}
 use Rattle.ber_leaf.specs.Profile.{is_graphic}
-use Rattle.ill_schema.specs.Texts.{components, digits, hexadecimal, numbers_after, oid_text, with_dots}
+use Rattle.ill_schema.specs.Texts.{after_dot, digits, hexadecimal, numbers_after, oid_components, oid_text, with_dots}
 use Rattle.ill_text.specs.Shown.{content_text, escaped, quoted, tree_text, trees_text}
-use Rattle.ill_text.specs.code.ObjectIdentifiers.{are_small, dotted}
+use Rattle.ill_text.specs.code.ObjectIdentifiers.{are_small}
 use Rattle.ill_text.proofs.Subidentifiers.{two_and_others}
 
 -- ---- in quotes, and in hexadecimal
@@ -56,7 +56,7 @@ numbers_few n (a ∷ o) = go (nat_lt a 0x80) (numbers_few 0 o) (numbers_few (128
     go true last other = omega (arith, last)
     go false last other = omega (arith, other)
 
-dotted_size : (n : ℕ) → n < 2 ^ 64 → length (dotted n) ≤ 40
+dotted_size : (n : ℕ) → n < 2 ^ 64 → length (after_dot n) ≤ 40
 dotted_size n h = omega (arith, length_wide n (omega (arith, h)), length-append (codes ".") (decimal n))
 
 small_parts : (n : ℕ) (numbers : List ℕ) → IsTrue (are_small (n ∷ numbers)) → (n < 2 ^ 63) × IsTrue (are_small numbers)
@@ -64,29 +64,29 @@ small_parts n numbers h =
     let parts = and_parts (nat_lt n 9_223_372_036_854_775_808) (are_small numbers) h in
     (ltb-true n 9_223_372_036_854_775_808 parts.0, parts.1)
 
-all_dotted_size : (numbers : List ℕ) → IsTrue (are_small numbers) → length (flat_map dotted numbers) ≤ 40 * length numbers
+all_dotted_size : (numbers : List ℕ) → IsTrue (are_small numbers) → length (flat_map after_dot numbers) ≤ 40 * length numbers
 all_dotted_size [] h = omega arith
 all_dotted_size (n ∷ numbers) h =
     let parts = small_parts n numbers h in
-    omega (arith, dotted_size n (omega (arith, parts.0)), all_dotted_size numbers parts.1, length-append (dotted n) (flat_map dotted numbers))
+    omega (arith, dotted_size n (omega (arith, parts.0)), all_dotted_size numbers parts.1, length-append (after_dot n) (flat_map after_dot numbers))
 
 -- the two components for which the first number stands, and others
-two_size : (a b : ℕ) (others : List ℕ) → a < 2 ^ 64 → b < 2 ^ 64 → length ((decimal a ++ dotted b) ++ others) ≤ length others + 79
+two_size : (a b : ℕ) (others : List ℕ) → a < 2 ^ 64 → b < 2 ^ 64 → length ((decimal a ++ after_dot b) ++ others) ≤ length others + 79
 two_size a b others h k =
-    omega (arith, length_wide a (omega (arith, h)), dotted_size b k, length-append (decimal a) (dotted b), length-append (decimal a ++ dotted b) others)
+    omega (arith, length_wide a (omega (arith, h)), dotted_size b k, length-append (decimal a) (after_dot b), length-append (decimal a ++ after_dot b) others)
 
-components_size : (numbers : List ℕ) → IsTrue (are_small numbers) → length (with_dots (components numbers)) ≤ 40 * length numbers + 40
+components_size : (numbers : List ℕ) → IsTrue (are_small numbers) → length (with_dots (oid_components numbers)) ≤ 40 * length numbers + 40
 components_size [] h = omega arith
 components_size (n ∷ numbers) h =
     let parts = small_parts n numbers h in
     let first = min 2 (n / 40) in
-    let two = two_size first (n - 40 * first) (flat_map dotted numbers) (omega arith) (omega (arith, parts.0)) in
+    let two = two_size first (n - 40 * first) (flat_map after_dot numbers) (omega arith) (omega (arith, parts.0)) in
     omega (arith, two, all_dotted_size numbers parts.1, ap length (two_and_others n numbers))
 
 pub oid_size : (o : List ℕ) → length (oid_text o) ≤ 40 * length o + 40
 oid_size o = go (are_small (numbers_after 0 o)) refl
   where
-    go : (b : Bool) → are_small (numbers_after 0 o) ≡ b → length (if b then with_dots (components (numbers_after 0 o)) else codes "oid " ++ hexadecimal o) ≤ 40 * length o + 40
+    go : (b : Bool) → are_small (numbers_after 0 o) ≡ b → length (if b then with_dots (oid_components (numbers_after 0 o)) else codes "oid " ++ hexadecimal o) ≤ 40 * length o + 40
     go true e = omega (arith, components_size (numbers_after 0 o) e, numbers_few 0 o)
     go false e = omega (arith, hexadecimal_size o, length-append (codes "oid ") (hexadecimal o))
 

@@ -1,18 +1,14 @@
 -- The numbers of an OBJECT IDENTIFIER, and the text that is put of one after another.
-use Rattle.std.proofs.Common.{◌≡◌, ℕ, ◌-◌, ◌*◌, ◌/◌, min, ◌&&◌, true, false, nat_lt, List, [], ◌∷◌, ◌++◌, codes, decimal, refl, sym, ap, ◌∙◌, arith, append_assoc, append-nil, ltb-true, IsTrue}
+use Rattle.std.proofs.Common.{◌≡◌, ℕ, ◌-◌, ◌*◌, ◌/◌, min, ◌&&◌, true, false, nat_lt, List, ◌∷◌, ◌++◌, codes, decimal, refl, sym, ap, ◌∙◌, arith, append_assoc, ltb-true, IsTrue}
 use Rattle.std.specs.Prelude.{flat_map}
 use Rattle.std.proofs.lemmas.Bool.{and_parts}
-use Rattle.ill_schema.specs.Texts.{components, oid_text, hexadecimal, numbers_after, with_dots}
-use Rattle.ill_text.specs.code.ObjectIdentifiers.{IsFirst, are_small, dotted}
-
-dots : (n : ℕ) (numbers : List ℕ) → with_dots (n ∷ numbers) ≡ decimal n ++ flat_map dotted numbers
-dots n [] = sym (append-nil (decimal n))
-dots n (m ∷ numbers) = ap (λ x. decimal n ++ codes "." ++ x) (dots m numbers) ∙ simp append_assoc
+use Rattle.ill_schema.specs.Texts.{after_dot, hexadecimal, numbers_after, oid_components, oid_text, with_dots}
+use Rattle.ill_text.specs.code.ObjectIdentifiers.{IsFirst, are_small}
 
 -- the first number is put as two components, and then each of the others
 pub two_and_others : (n : ℕ) (numbers : List ℕ)
-    → (decimal (min 2 (n / 40)) ++ dotted (n - 40 * min 2 (n / 40))) ++ flat_map dotted numbers ≡ with_dots (components (n ∷ numbers))
-two_and_others n numbers = let first = min 2 (n / 40) in sym (ap (λ x. decimal first ++ codes "." ++ x) (dots (n - 40 * first) numbers) ∙ simp append_assoc)
+    → (decimal (min 2 (n / 40)) ++ after_dot (n - 40 * min 2 (n / 40))) ++ flat_map after_dot numbers ≡ with_dots (oid_components (n ∷ numbers))
+two_and_others n numbers = let first = min 2 (n / 40) in append_assoc (decimal first) (after_dot (n - 40 * first)) (flat_map after_dot numbers)
 
 -- a number that is small is held as it is
 pub held_small : (numbers : List ℕ) (held : ℕ) (others : List ℕ) → IsFirst numbers held others → are_small numbers ≡ true → (numbers ≡ held ∷ others) × (are_small others ≡ true)
@@ -22,7 +18,7 @@ held_small numbers held others f e =
     let small = ltb-true f.number 9_223_372_036_854_775_808 q.0 in
     (f.are ∙ ap (λ (n : ℕ). n ∷ others) (let h = f.holds in omega arith), q.1)
 
-pub small_text : (octets : List ℕ) → are_small (numbers_after 0 octets) ≡ true → with_dots (components (numbers_after 0 octets)) ≡ oid_text octets
+pub small_text : (octets : List ℕ) → are_small (numbers_after 0 octets) ≡ true → with_dots (oid_components (numbers_after 0 octets)) ≡ oid_text octets
 small_text octets e = rw e refl
 
 pub great_text : (octets : List ℕ) → are_small (numbers_after 0 octets) ≡ false → codes "oid " ++ hexadecimal octets ≡ oid_text octets

@@ -9,7 +9,7 @@ ghost use Rattle.ber_core.specs.Tree.{Tree, Trees};
 ghost use Rattle.ill_read.specs.declared.mark.Mark.{Mark};
 ghost use Rattle.ill_text.specs.Shown.{line, tree_text, trees_text};
 ghost use Rattle.ill_read.specs.Marks.{leading_octets, octets_in};
-ghost use Rattle.ill_text.specs.code.Elements.{blank, is_last, up_to_last};
+ghost use Rattle.ill_text.specs.code.Elements.{blank, ends_number, up_to_last};
 ghost use Rattle.ill_text.specs.code.Sending.{Adds, counted, sending};
 ghost use Rattle.ill_text.specs.code.FieldPaths.{path_of};
 
@@ -144,15 +144,15 @@ fn number_size(marks: &[Mark]) -> usize
     let mut count = 0;
     for mark in marks {
         count += 1;
-        if is_last(*mark) {
+        if ends_number(*mark) {
             return count;
         }
     }
     count
 }
 
-fn is_last(mark: Mark) -> bool
-    ensures { result ≡ is_last mark }
+fn ends_number(mark: Mark) -> bool
+    ensures { result ≡ ends_number mark }
 {
     match mark {
         Mark::Octet(octet) => octet < 0x80,

@@ -6,11 +6,11 @@ ghost use Rattle.ber_leaf.specs.Profile.{is_graphic};
 ghost use Rattle.ill_schema.specs.declared.profile.Profile.{Profile as Named};
 ghost use Rattle.ill_grammar.specs.LeafTypes.{IsContentIn, module_leaf_is};
 ghost use Rattle.ill_read.specs.declared.mark.Mark.{Mark};
-ghost use Rattle.ill_schema.specs.Texts.{components, hexadecimal, oid_text, with_dots};
+ghost use Rattle.ill_schema.specs.Texts.{after_dot, hexadecimal, oid_components, oid_text, with_dots};
 ghost use Rattle.ill_text.specs.Shown.{content_text, leaf_text, line};
 ghost use Rattle.ill_read.specs.Marks.{leading_octets, octets_in};
 ghost use Rattle.ill_text.specs.code.Bits.{filled_text};
-ghost use Rattle.ill_text.specs.code.ObjectIdentifiers.{IsFirst, are_small, dotted, numbers_in};
+ghost use Rattle.ill_text.specs.code.ObjectIdentifiers.{IsFirst, are_small, numbers_in};
 ghost use Rattle.ill_text.specs.code.Sending.{Adds, sending};
 ghost use Rattle.ill_text.specs.code.FieldPaths.{path_of};
 
@@ -284,7 +284,7 @@ fn are_small(marks: &[Mark]) -> bool
 /// Puts the components, of which the first number stands for two.
 fn put_components<W: Sink>(marks: &[Mark], out: &mut TextSink, sink: &mut W)
     ensures adds { are_small (numbers_in marks.now) ≡ true
-        → Adds (with_dots (components (numbers_in marks.now)))
+        → Adds (with_dots (oid_components (numbers_in marks.now)))
         (sending (W.contents sink.old) (W.is_broken sink.old) out.old)
         (sending (W.contents sink.new) (W.is_broken sink.new) out.new) }
     ensures stays { IsTrue (W.is_broken sink.old) → IsTrue (W.is_broken sink.new) }
@@ -313,7 +313,7 @@ fn put_first_two<W: Sink>(number: u64, out: &mut TextSink, sink: &mut W)
 /// Puts each number after a dot.
 fn put_numbers<W: Sink>(marks: &[Mark], out: &mut TextSink, sink: &mut W)
     ensures adds { are_small (numbers_in marks.now) ≡ true
-        → Adds (flat_map dotted (numbers_in marks.now))
+        → Adds (flat_map after_dot (numbers_in marks.now))
         (sending (W.contents sink.old) (W.is_broken sink.old) out.old)
         (sending (W.contents sink.new) (W.is_broken sink.new) out.new) }
     ensures stays { IsTrue (W.is_broken sink.old) → IsTrue (W.is_broken sink.new) }
@@ -326,7 +326,7 @@ fn put_numbers<W: Sink>(marks: &[Mark], out: &mut TextSink, sink: &mut W)
 }
 
 fn put_dotted<W: Sink>(number: u64, out: &mut TextSink, sink: &mut W)
-    ensures adds { Adds (dotted number)
+    ensures adds { Adds (after_dot number)
         (sending (W.contents sink.old) (W.is_broken sink.old) out.old)
         (sending (W.contents sink.new) (W.is_broken sink.new) out.new) }
     ensures stays { IsTrue (W.is_broken sink.old) → IsTrue (W.is_broken sink.new) }

@@ -16,7 +16,7 @@ use Rattle.ill_schema.specs.Value.{content_of, entries_of, items_of}
 use Rattle.ill_schema.proofs.Contents.{content_of-Seq, content_of-List, content_of-Alt}
 use Rattle.ill_schema.proofs.RowFits.{entries_fit-length}
 use Rattle.std.specs.declared.alloc.AllocError.{AllocError}
-use Rattle.ill_typed.specs.Shape.{Is, EachItem, IsListOf, Single, ItemHolds, Holds, Must, May, PresenceHolds, RowsHold, record_of, list_of, option_of, entry_at, entries_seen, entries_from, AreBuilt, AreReady, AltAt, AltHolds}
+use Rattle.ill_typed.specs.Shape.{Is, EachItem, IsListOf, Single, ItemHolds, HasShape, Must, May, PresenceHolds, RowsHold, record_of, list_of, option_of, entry_at, entries_seen, entries_from, AreBuilt, AreReady, AltAt, AltHolds}
 
 enumerated-integer : (c : Content) → Fits profile_two c Enumerated → Fits profile_two c Integer
 enumerated-integer (simple (whole n)) h =
@@ -77,14 +77,14 @@ of_list_holds node _ e h = absurd h
 abbrev KindHolds : Kind → NodeId → Content → Type 0
 KindHolds k node = elim k as (λ _. Content → Type 0) [ Kind.SeqOf ↦ IsListOf (ItemHolds (rows_of node)) | _ ↦ Single node ]
 
-holds_of : (node : NodeId) (c : Content) → Fits profile_two c node → Holds node c
+holds_of : (node : NodeId) (c : Content) → Fits profile_two c node → HasShape node c
 holds_of node c h = go (kind_of node) refl
   where
     go : (k : Kind) → kind_of node ≡ k → KindHolds k node c
     go Kind.SeqOf e = list_holds node c e h
     go _ e = single_of node c h
 
-of_holds : (node : NodeId) (c : Content) → Holds node c → Fits profile_two c node
+of_holds : (node : NodeId) (c : Content) → HasShape node c → Fits profile_two c node
 of_holds node c h = go (kind_of node) refl h
   where
     go : (k : Kind) → kind_of node ≡ k → KindHolds k node c → Fits profile_two c node
@@ -124,16 +124,16 @@ rows_hold [] [] h = tt
 rows_hold [] (row ∷ rows) h = absurd h
 rows_hold (None ∷ os) [] h = absurd h
 rows_hold (Some c ∷ os) [] h = absurd h
-rows_hold (None ∷ os) (row ∷ rows) h = (absent_holds row.presence (Holds row.node) h.0, rows_hold os rows h.1)
-rows_hold (Some c ∷ os) (row ∷ rows) h = (present_holds row.presence (Holds row.node) c h.0 (holds_of row.node c h.1), rows_hold os rows h.2)
+rows_hold (None ∷ os) (row ∷ rows) h = (absent_holds row.presence (HasShape row.node) h.0, rows_hold os rows h.1)
+rows_hold (Some c ∷ os) (row ∷ rows) h = (present_holds row.presence (HasShape row.node) c h.0 (holds_of row.node c h.1), rows_hold os rows h.2)
 
 of_rows_hold : (os : List (Option Content)) (rows : List Row) → RowsHold rows os → FitRows profile_two (entries_of os) rows
 of_rows_hold [] [] h = tt
 of_rows_hold [] (row ∷ rows) h = absurd h
 of_rows_hold (o ∷ os) [] h = absurd h
-of_rows_hold (None ∷ os) (row ∷ rows) h = (of_absent_holds row.presence (Holds row.node) h.0, of_rows_hold os rows h.1)
+of_rows_hold (None ∷ os) (row ∷ rows) h = (of_absent_holds row.presence (HasShape row.node) h.0, of_rows_hold os rows h.1)
 of_rows_hold (Some c ∷ os) (row ∷ rows) h =
-    let k = of_present_holds row.presence (Holds row.node) c h.0 in
+    let k = of_present_holds row.presence (HasShape row.node) c h.0 in
     (k.0, of_holds row.node c k.1, of_rows_hold os rows h.1)
 
 entries_from-shift : (rows : List Row) (f : ℕ → Option Content) (k : ℕ) → entries_from rows (λ i. f (suc i)) k ≡ entries_from rows f (suc k)
@@ -198,7 +198,7 @@ of_alt_holds : (rows : List Row) (k m : ℕ) (c : Content) → AltHolds rows k m
 of_alt_holds [] k m c h = absurd h
 of_alt_holds (row ∷ rows) k m c h =
     let G : Type 0 = (n : ℕ) × ((m ≡ k + n) × Chosen (row ∷ rows) n c) in
-    alt_case row.presence ((m ≡ k) × Holds row.node c) (AltHolds rows (suc k) m c) G
+    alt_case row.presence ((m ≡ k) × HasShape row.node c) (AltHolds rows (suc k) m c) G
     (λ carried x. (0, (x.0 ∙ sym (add-zero k), (row, refl, carried, of_holds row.node c x.1))))
     (λ l. let x = of_alt_holds rows (suc k) m c l in (suc x.0, (omega (arith, x.1.0), x.1.1)))
     h

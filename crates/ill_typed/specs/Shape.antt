@@ -68,8 +68,8 @@ abbrev pub ItemHolds : List Row → Content → Type 0
 ItemHolds [] = λ _. ⊥
 ItemHolds (row ∷ _) = Single row.node
 
-abbrev pub Holds : NodeId → Content → Type 0
-Holds node = elim (kind_of node) as (λ _. Content → Type 0) [ Kind.SeqOf ↦ IsListOf (ItemHolds (rows_of node)) | _ ↦ Single node ]
+abbrev pub HasShape : NodeId → Content → Type 0
+HasShape node = elim (kind_of node) as (λ _. Content → Type 0) [ Kind.SeqOf ↦ IsListOf (ItemHolds (rows_of node)) | _ ↦ Single node ]
 
 -- an entry that is there, and one that may be
 unfoldable pub Must : (Content → Type 0) → Option Content → Type 0
@@ -87,7 +87,7 @@ PresenceHolds (Presence.Default _) P = Must P
 PresenceHolds Presence.LeftOut P = λ o. o ≡ None
 
 abbrev pub RowHolds : Row → Option Content → Type 0
-RowHolds row = PresenceHolds row.presence (Holds row.node)
+RowHolds row = PresenceHolds row.presence (HasShape row.node)
 
 -- each entry fits its row
 abbrev pub RowsHold : List Row → List (Option Content) → Type 0
@@ -139,4 +139,4 @@ AltAt _ here later = here ⊎ later
 -- alternative n of the rows, which are numbered from k on, with the content c
 abbrev pub AltHolds : List Row → ℕ → ℕ → Content → Type 0
 AltHolds [] k n c = ⊥
-AltHolds (row ∷ rows) k n c = AltAt row.presence ((n ≡ k) × Holds row.node c) (AltHolds rows (suc k) n c)
+AltHolds (row ∷ rows) k n c = AltAt row.presence ((n ≡ k) × HasShape row.node c) (AltHolds rows (suc k) n c)

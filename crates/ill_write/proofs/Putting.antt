@@ -1,7 +1,6 @@
 -- What is put one after another.
-use Rattle.std.proofs.Common.{◌≡◌, ℕ, ◌+◌, ◌-◌, ◌^◌, ◌<◌, ◌≤◌, List, [], ◌++◌, length, take, Option, Some, None, Result, Ok, Err, refl, sym, ap, subst, ◌∙◌, arith, append_assoc, append-nil, length-append, drop, IsOk, length-take}
+use Rattle.std.proofs.Common.{◌≡◌, ℕ, ◌+◌, ◌-◌, ◌^◌, ◌<◌, List, [], ◌++◌, length, take, Option, Result, Ok, Err, refl, sym, ap, subst, ◌∙◌, arith, append_assoc, append-nil, length-append, drop, IsOk, length-take}
 use Rattle.ill_write.specs.code.Puts.{Puts, Sends, Stands, Stopped, TakesPart, counted}
-use lib.Seq.{take-add, take-take}
 use Rattle.std.proofs.lemmas.List.{take-append-drop, take_at}
 use Rattle.std.specs.Prelude.{IsErr}
 use Rattle.std.specs.Prelude.{MatchResult}

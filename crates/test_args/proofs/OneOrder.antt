@@ -2,7 +2,7 @@
 use Rattle.std.proofs.Common.{◌≡◌, ℕ, IfOk, List, [], ◌∷◌, Option, Some, None, Result, Ok, Err, IfErr, unwrap_or, option_map, codes, length, slice_index, slice_index_or, ◌≢◌, ◌<◌, ◌^◌, arith, refl, sym, ap, ap₂, subst, ◌∙◌}
 use Rattle.std.specs.Str.Parse.{IsNumeral, digits_value, without_leading_plus}
 use Rattle.clap.specs.Walk.{Row, Text, first_of, one_of}
-use Rattle.ill_args.specs.Orders.{files_in, is_set, profile_name, HasFiles, HasSameWord, IsNumber, IsOrderOf, NamesProfile, verb, verb_name}
+use Rattle.ill_args.specs.Orders.{files_in, is_set, profile_name, HasFiles, HasSameWord, IsOptionNumber, IsOrderOf, NamesProfile, verb, verb_name}
 use Rattle.ill_args.specs.Refused.{IsFaultOf}
 use Rattle.ill_schema.specs.declared.profile.Profile.{Profile}
 use Rattle.ill_args.specs.declared.fault.LineFault.{LineFault}
@@ -62,7 +62,7 @@ one_profile rows more p q e h k =
     profile_is p q (ap (λ (o : Option Text). unwrap_or o []) (sym h ∙ ap (first_of (codes "profile")) e ∙ k))
 
 -- a word is of one number
-one_number : (word again : Option Text) (m n : Option ℕ) → word ≡ again → IsNumber word m → IsNumber again n → m ≡ n
+one_number : (word again : Option Text) (m n : Option ℕ) → word ≡ again → IsOptionNumber word m → IsOptionNumber again n → m ≡ n
 one_number None None m n e h k = h ∙ sym k
 one_number None (Some again) m n e h k = absurd cc
 one_number (Some word) None m n e h k = absurd cc
@@ -131,7 +131,7 @@ same_flags found one other h k =
       one_profile h.rows k.rows one.profile other.profile rows h.profile k.profile,
       h.hex ∙ flag (codes "hex") ∙ sym k.hex,
       h.lines ∙ flag (codes "lines") ∙ sym k.lines,
-      h.going ∙ flag (codes "keep-going") ∙ sym k.going,
+      h.keep_going ∙ flag (codes "keep-going") ∙ sym k.keep_going,
       h.summary ∙ flag (codes "summary") ∙ sym k.summary,
       h.json ∙ flag (codes "json") ∙ sym k.json,
       h.whole ∙ flag (codes "whole") ∙ sym k.whole,

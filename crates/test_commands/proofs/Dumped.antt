@@ -7,11 +7,11 @@ use Rattle.ill_schema.specs.Profiles.{profile_of}
 use Rattle.ill_schema.proofs.Streams.{parts_accept, spells_some, stream_fewer}
 use Rattle.ill_refusals.specs.Fault.{Fault, fault_of}
 use Rattle.ill_refusals.specs.Outcome.{OnlyRefuses}
-use Rattle.ill_normal.specs.Inputs.{IsFault}
+use Rattle.ill_normal.specs.Inputs.{IsResourceFault}
 use Rattle.ill_normal.specs.declared.run_fault.RunFault.{RunFault}
 use Rattle.std.specs.Prelude.{IfErr, IfOk}
 use Rattle.ill_dump.specs.declared.run.DumpOptions.{DumpOptions}
-use Rattle.ill_dump.specs.Dumped.{AreDumped, DumpDone, DumpFails, DumpsUpTo, IsLast, StopsIn}
+use Rattle.ill_dump.specs.Dumped.{AreDumped, DumpDone, DumpFails, DumpsUpTo, IsLastDumped, DumpStopsIn}
 
 front_none : (b t : List ℕ) → [] ≡ b ++ t → b ≡ []
 front_none [] t e = cc
@@ -38,7 +38,7 @@ none_refused p s rest xs ys f h k some only = elim (cases_lt (length xs) (length
 ]
 
 -- where no one message is asked for, the last one is at the end
-all_taken : (dump : DumpOptions) (n : ℕ) (t : List ℕ) → dump.only ≡ None → IsLast dump n (Some t) → t ≡ []
+all_taken : (dump : DumpOptions) (n : ℕ) (t : List ℕ) → dump.only ≡ None → IsLastDumped dump n (Some t) → t ≡ []
 all_taken dump n t e (inl h) = h
 all_taken dump n t e (inr h) = absurd (let no : None ≡ Some n = sym e ∙ h in cc)
 
@@ -47,7 +47,7 @@ whole dump s t held held' n all d =
     let e : s ≡ d.octets = d.taken ∙ ap (λ l. d.octets ++ l) (all_taken dump n t all d.last) ∙ append-nil d.octets in
     subst (λ l. IsStream (profile_of dump.profile) l d.apdus []) (sym e) d.stream
 
-pub ends : (dump : DumpOptions) (s t : List ℕ) (held held' : Option (List ℕ)) (n : ℕ) → dump.only ≡ None → AreDumped dump (Some s) (Some t) held held' n → (e : RunFault) → StopsIn (profile_of dump.profile) s e → IsFault e
+pub ends : (dump : DumpOptions) (s t : List ℕ) (held held' : Option (List ℕ)) (n : ℕ) → dump.only ≡ None → AreDumped dump (Some s) (Some t) held held' n → (e : RunFault) → DumpStopsIn (profile_of dump.profile) s e → IsResourceFault e
 ends dump s t held held' n all d (RunFault.Refused message refusal) h = absurd (none_refused (profile_of dump.profile) s h.1 d.apdus h.0 (fault_of refusal) (whole dump s t held held' n all d) h.2 h.4 h.5)
 ends dump s t held held' n all d RunFault.TooManyMessages h = absurd (no_more (profile_of dump.profile) s h.1 d.apdus h.0 (whole dump s t held held' n all d) h.2 h.4 (omega (arith, d.few, d.counted, h.3)))
 ends dump s t held held' n all d (RunFault.RefusedSide side refusal) h = h
@@ -63,7 +63,7 @@ module _ (dump : DumpOptions) (s t : List ℕ) (held held' : Option (List ℕ)) 
   done r n p e h = subst (λ b. DumpDone b dump (Some s) (Some t) held held' n) p (subst (λ r. IfOk r (DumpDone dump.hex dump (Some s) (Some t) held held')) e h)
 
   pub fails : (r : Result ℕ RunFault) (broken : Bool) (e : RunFault) → dump.hex ≡ false → r ≡ Err e → IfErr r (DumpFails dump.hex dump (Some s) (Some t) broken held held')
-      → StopsIn (profile_of dump.profile) s e × DumpsUpTo dump e held held'
+      → DumpStopsIn (profile_of dump.profile) s e × DumpsUpTo dump e held held'
   fails r broken e p f h = subst (λ b. DumpFails b dump (Some s) (Some t) broken held held' e) p (subst (λ r. IfErr r (DumpFails dump.hex dump (Some s) (Some t) broken held held')) f h)
 
 -- octets are one number of messages

@@ -11,8 +11,8 @@ use Rattle.ill_normal.specs.Messages.{AreSpelledIn, Spelling, first, output_from
 use Rattle.ill_normal.specs.declared.messages.MessagePlace.{MessagePlace}
 use Rattle.ill_normal.specs.Hexadecimal.{hex_octets}
 use Rattle.ill_commands.specs.Output.{message_output, message_text}
-use Rattle.ill_normal.specs.Inputs.{FailsText, IsFault, TextOf}
-use Rattle.ill_commands.specs.Runs.{Done, IsUnnamed, JobDone, JobFails, RunFails, StopsAfter, Writes}
+use Rattle.ill_normal.specs.Inputs.{FailsText, IsResourceFault, TextOf}
+use Rattle.ill_commands.specs.Runs.{Done, IsUnnamed, JobDone, JobFails, RunFails, JobStopsAfter, WritesMessages}
 use Rattle.ill_normal.specs.declared.run_fault.RunFault.{RunFault}
 use Rattle.ill_commands.specs.declared.job.Counts.{Counts}
 use Rattle.ill_commands.specs.declared.job.Job.{Job}
@@ -61,7 +61,7 @@ module _ (q : Named) (job : Job) (hex : Bool) (s held : List ℕ) where
   once new other ms ns x y e =
       x.written ∙ ap (λ ms. held ++ output_from text first ms) (same_front (profile_of q) s x.rest y.rest ms ns x.spelled y.spelled e) ∙ sym y.written
 
-  wrote : (work : JobOptions) → IsUnnamed q job hex work → (held' : List ℕ) (left' grown : Option (List ℕ)) (ms : List Spelling) → Writes work (Some s) left' (Some held) grown ms → Keeps grown (Some held')
+  wrote : (work : JobOptions) → IsUnnamed q job hex work → (held' : List ℕ) (left' grown : Option (List ℕ)) (ms : List Spelling) → WritesMessages work (Some s) left' (Some held) grown ms → Keeps grown (Some held')
       → Wrote (profile_of q) text s held held' ms
   wrote work u held' left' grown ms w k =
       let t = taken_of work s left' (Some held) grown ms w in
@@ -98,7 +98,7 @@ module _ (q : Named) (job : Job) (hex : Bool) (s held held' : List ℕ) (left' :
       let spelled = subst (λ (p : Named). AreSpelledIn (profile_of p) s d.messages t.0) u.profile t.2 in
       subst (AreSpelledIn (profile_of q) s d.messages) (subst IsAtEnd t.1 d.end) spelled
 
-  stop_wrote : (e : RunFault) → (IsFault e → ⊥) → (h : StopsAfter work (taking (Some s) left' x) (putting (Some held) (Some held') y) counts e)
+  stop_wrote : (e : RunFault) → (IsResourceFault e → ⊥) → (h : JobStopsAfter work (taking (Some s) left' x) (putting (Some held) (Some held') y) counts e)
       → Wrote (profile_of q) (message_text (profile_of q) job hex (codes "-") false) s held held' h.messages × Before e (length h.messages)
   stop_wrote (RunFault.Refused message refusal) sound h = (wrote q job hex s held work u held' h.rest h.grown h.messages h.writes h.stops.3, h.stops.0)
   stop_wrote RunFault.TooManyMessages sound h = (wrote q job hex s held work u held' h.rest h.grown h.messages h.writes h.stops.2, h.stops.0)
@@ -117,7 +117,7 @@ module _ (q : Named) (job : Job) (s held new other : List ℕ) (left left' : Opt
       once q job false s held new other d.done.messages f.done.messages (done_wrote q job false s held new left x y d.work d.unnamed d.counts v d.done) (done_wrote q job false s held other left' x' y' f.work f.unnamed f.counts w f.done)
       (ap length (one_reading (profile_of q) s d.done.messages f.done.messages (done_whole q job false s held new left x y d.work d.unnamed d.counts v d.done) (done_whole q job false s held other left' x' y' f.work f.unnamed f.counts w f.done)))
 
-  plain_fails : (e : RunFault) → (IsFault e → ⊥) → JobFails q job false (taking (Some s) left x) (putting (Some held) (Some new) y) e → JobFails q job false (taking (Some s) left' x') (putting (Some held) (Some other) y') e → new ≡ other
+  plain_fails : (e : RunFault) → (IsResourceFault e → ⊥) → JobFails q job false (taking (Some s) left x) (putting (Some held) (Some new) y) e → JobFails q job false (taking (Some s) left' x') (putting (Some held) (Some other) y') e → new ≡ other
   plain_fails e sound d f =
       let a = stop_wrote q job false s held new left x y d.work d.unnamed d.counts e sound d.fails in
       let b = stop_wrote q job false s held other left' x' y' f.work f.unnamed f.counts e sound f.fails in
@@ -137,11 +137,11 @@ module _ (q : Named) (job : Job) (s held new other : List ℕ) (left left' : Opt
       (ap length (one_reading (profile_of q) o a.messages b.messages (done_whole q job true o held new (Some d.done.2.0) x y d.work d.unnamed d.counts v a) (done_whole q job true o held other (Some f.done.2.0) x' y' f.work f.unnamed f.counts w b)))
 
   -- a text that stands for nothing
-  no_octets : (l : Option (List ℕ)) (z : Bool) (e : RunFault) → (IsFault e → ⊥) → FailsText (Some s) l z e → hex_octets s ≡ Err e
+  no_octets : (l : Option (List ℕ)) (z : Bool) (e : RunFault) → (IsResourceFault e → ⊥) → FailsText (Some s) l z e → hex_octets s ≡ Err e
   no_octets l z e sound (inl t) = same_octets s l t.text t.taken ∙ t.stands
   no_octets l z e sound (inr u) = absurd (sound (is_fault 4_194_305 (Some s) l z e u))
 
-  text_fails : (e : RunFault) → (IsFault e → ⊥) → JobFails q job true (taking (Some s) left x) (putting (Some held) (Some new) y) e → JobFails q job true (taking (Some s) left' x') (putting (Some held) (Some other) y') e → new ≡ other
+  text_fails : (e : RunFault) → (IsResourceFault e → ⊥) → JobFails q job true (taking (Some s) left x) (putting (Some held) (Some new) y) e → JobFails q job true (taking (Some s) left' x') (putting (Some held) (Some other) y') e → new ≡ other
   text_fails e sound d f = go d.fails f.fails
     where
       go : RunFails true d.work (taking (Some s) left x) (putting (Some held) (Some new) y) d.counts e → RunFails true f.work (taking (Some s) left' x') (putting (Some held) (Some other) y') f.counts e → new ≡ other
@@ -151,13 +151,13 @@ module _ (q : Named) (job : Job) (s held new other : List ℕ) (left left' : Opt
       go (inr h) (inr k) =
           let o = h.0 in
           let same : k.0 ≡ o = same_ok (hex_octets s) k.0 o (text_is left' k.0 k.1) (text_is left o h.1) in
-          let b = subst (λ l. StopsAfter f.work (taking (Some l) (Some k.2.0) false) (putting (Some held) (Some other) y') f.counts e) same k.2.1 in
+          let b = subst (λ l. JobStopsAfter f.work (taking (Some l) (Some k.2.0) false) (putting (Some held) (Some other) y') f.counts e) same k.2.1 in
           let one = stop_wrote q job true o held new (Some h.2.0) false y d.work d.unnamed d.counts e sound h.2.1 in
           let two = stop_wrote q job true o held other (Some k.2.0) false y' f.work f.unnamed f.counts e sound b in
           once q job true o held new other h.2.1.messages b.messages one.0 two.0 (before_once e _ _ one.1 two.1)
 
   -- one result, and no fault of memory, the source or the sink
-  pub one_output : (hex : Bool) (r : Result Verdict RunFault) → IfErr r (λ e. IsFault e → ⊥)
+  pub one_output : (hex : Bool) (r : Result Verdict RunFault) → IfErr r (λ e. IsResourceFault e → ⊥)
       → IfOk r (JobDone q job hex (taking (Some s) left x) (putting (Some held) (Some new) y)) → IfErr r (JobFails q job hex (taking (Some s) left x) (putting (Some held) (Some new) y))
       → IfOk r (JobDone q job hex (taking (Some s) left' x') (putting (Some held) (Some other) y')) → IfErr r (JobFails q job hex (taking (Some s) left' x') (putting (Some held) (Some other) y')) → new ≡ other
   one_output false (Ok v) sound d e d' e' = plain_done v v d d'

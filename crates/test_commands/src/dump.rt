@@ -1,7 +1,7 @@
 //! Dumps out of sources and into sinks that break, and without memory.
 
 mod contracts;
-mod going;
+mod skipping;
 
 use ber_core::{Pieces, Room, Unbuffered};
 use ill_commands::RunFault;

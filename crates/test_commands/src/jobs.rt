@@ -1,13 +1,13 @@
 //! The jobs, on rows of inputs and where sources and sinks break.
 mod breaks;
 mod contracts;
-mod going;
 mod json;
 mod profiles;
 mod refused;
 mod runs;
 mod sames;
 mod shows;
+mod skipping;
 
 use ber_core::{Pieces, ToWrite};
 use ill_commands::{JobOptions, RunFault, Verdict, run_with};

@@ -2,13 +2,13 @@
 mod check;
 mod compare;
 mod contracts;
-mod going;
 mod hostile;
 mod one;
 mod profiles;
 mod refused;
 mod rows;
 mod sips;
+mod skipping;
 mod stream;
 
 const LONG_FORM: &[u8] =

@@ -6,7 +6,7 @@ mod rows;
 
 use ber_core::{Broken, Pieces, Source};
 use ill_read::{Decoder, Failure, Progress, ReadFailure, decode, read_message};
-use ill_schema::{Cause, Message, PartId, Refusal, part_name};
+use ill_schema::{Cause, Message, Refusal};
 use rows::ROWS;
 use std::alloc::{AllocError, Global};
 use std::test::Fail;
@@ -15,17 +15,12 @@ use test_support::octets_of;
 const EXPIRED: &[u8] =
     b"\x74\x1f\x30\x1d\x80\x01\x02\xa1\x0a\xa1\x03\x1b\x01\x47\xa2\x03\x1b\x01\x51\xa2\x0c\xa0\x0a\x80\x0820240229";
 
-fn part_text(alloc: Global, cause: &str, part: PartId, at: u32) -> Result<String, AllocError> {
-    let (node, row) = part_name(part).unwrap_or(("?", "?"));
-    format!(in alloc; "{cause} {node}.{row} {at}")
-}
-
 fn refusal_text(alloc: Global, refusal: Refusal) -> Result<String, AllocError> {
     let Refusal { at, cause } = refusal;
-    match cause {
-        Cause::LeftOut(part) => part_text(alloc, "LeftOut", part, at),
-        Cause::Missing(part) => part_text(alloc, "Missing", part, at),
-        _ => format!(in alloc; "{cause:?} - {at}"),
+    let name = cause.name();
+    match cause.part_name() {
+        Some((node, row)) => format!(in alloc; "{name} {node}.{row} {at}"),
+        None => format!(in alloc; "{name} - {at}"),
     }
 }
 

@@ -7,11 +7,11 @@ use Rattle.ill_commands.specs.declared.job.Counts.{Counts}
 use Rattle.ill_commands.specs.declared.job.Job.{Job}
 use Rattle.ill_normal.specs.declared.verdict.Verdict.{Verdict}
 use Rattle.ill_normal.specs.Inputs.{verdict_if}
-use Rattle.ill_commands.specs.Runs.{fault_at}
+use Rattle.ill_commands.specs.Runs.{run_fault_at}
 
 -- after this many messages, and this many octets that were written
 abbrev pub fault_after : ℕ → ℕ → StreamErrorKind → RunFault
-fault_after whole written (StreamErrorKind.Read failure) = fault_at (whole + 1) failure
+fault_after whole written (StreamErrorKind.Read failure) = run_fault_at (whole + 1) failure
 fault_after whole written (StreamErrorKind.Write n) = RunFault.WriteFault written
 fault_after whole written StreamErrorKind.TooMany = RunFault.TooManyMessages
 

@@ -23,8 +23,8 @@ IsWritten (JobOutput.Octets v) octets = v.items ≡ octets
 IsWritten (JobOutput.Shown label text) octets = IsShown label.items text octets
 
 -- the octets spell an APDU of the work's profile, and the piece has what the job writes of it
-abbrev pub IsMade : Job → JobOptions → MessagePlace → RenderedMessage JobOutput → List ℕ → Type 0
-IsMade job work position = MakesIn (profile_of work.profile) IsWritten (text_by job work position) (good_by job work)
+abbrev pub IsPieceMade : Job → JobOptions → MessagePlace → RenderedMessage JobOutput → List ℕ → Type 0
+IsPieceMade job work position = MakesIn (profile_of work.profile) IsWritten (text_by job work position) (good_by job work)
 
 -- they spell an APDU of the profile, and the piece has its normal form
 abbrev pub IsMadeForm : Named → Bool → RenderedMessage (Vec ℕ Global) → List ℕ → Type 0

@@ -10,7 +10,7 @@ use Rattle.ill_normal.specs.code.SkippingEnds.{HasSkipped}
 use Rattle.ill_normal.specs.declared.messages.MessagePlace.{MessagePlace}
 use Rattle.ill_normal.specs.declared.run_fault.RunFault.{RunFault}
 use Rattle.ill_normal.specs.declared.visit.MessageCounts.{MessageCounts}
-use Rattle.ill_dump.specs.Dumped.{BreaksSink, BreaksSource, Dumps, DumpsUpTo, StopsIn}
+use Rattle.ill_dump.specs.Dumped.{BreaksSink, BreaksSource, WritesDump, DumpsUpTo, DumpStopsIn}
 use Rattle.ill_dump.specs.declared.skipping.DumpCounts.{DumpCounts}
 use Rattle.ill_dump.specs.declared.run.DumpOptions.{DumpOptions}
 
@@ -21,12 +21,12 @@ pub record HasDumped (dump : DumpOptions) (source : Taking) (sink : Putting) (co
   pub stream : IsStream (profile_of dump.profile) octets apdus []
   pub taken : Consumes source.left source.left' octets
   pub counted : length apdus ≡ counts.messages
-  pub dumps : Dumps dump counts.messages sink.held sink.held'
+  pub dumps : WritesDump dump counts.messages sink.held sink.held'
 
 -- why a dump stops, and how many messages were written by then
 abbrev pub StopsDump : DumpOptions → Taking → Putting → RunFault → Type 0
 StopsDump dump source sink fault =
-    IfSome source.left (λ s. StopsIn (profile_of dump.profile) s fault) × DumpsUpTo dump fault sink.held sink.held' × BreaksSource fault source.broken × BreaksSink fault sink.broken
+    IfSome source.left (λ s. DumpStopsIn (profile_of dump.profile) s fault) × DumpsUpTo dump fault sink.held sink.held' × BreaksSource fault source.broken × BreaksSink fault sink.broken
 
 -- nothing is written by the reading of messages itself
 abbrev pub nothing : MessagePlace → Spelling → List ℕ
@@ -39,7 +39,7 @@ every m = true
 -- these messages were read, refused ones included, and those that are chosen were written
 pub record HasDumpedOn (dump : DumpOptions) (source : Taking) (sink : Putting) (reports : Reporting) (counts : MessageCounts) : Type 0 where
   pub skipped : HasSkipped (profile_of dump.profile) nothing every source (putting None None false) reports 0 counts
-  pub dumps : Dumps dump counts.messages sink.held sink.held'
+  pub dumps : WritesDump dump counts.messages sink.held sink.held'
 
 abbrev pub dump_counts : MessageCounts → DumpCounts
 dump_counts counts = record { messages = counts.messages; refused = counts.refused }

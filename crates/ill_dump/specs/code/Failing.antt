@@ -3,13 +3,13 @@ use Rattle.std.specs.Prelude.{◌≡◌, ℕ}
 use Rattle.ill_normal.specs.declared.input_end.EndError.{EndError}
 use Rattle.ill_normal.specs.declared.next_message.TakeError.{TakeError}
 use Rattle.ill_read.specs.declared.failure.ReadFailure.{ReadFailure}
-use Rattle.ill_normal.specs.Inputs.{IsFault}
+use Rattle.ill_normal.specs.Inputs.{IsResourceFault}
 use Rattle.ill_normal.specs.declared.run_fault.RunFault.{RunFault}
 
 -- message i was refused, or memory, the source or the sink failed
 abbrev pub FollowsFrom : ℕ → ReadFailure → RunFault → Type 0
 FollowsFrom i failure (RunFault.Refused message refusal) = (message ≡ i) × (failure ≡ ReadFailure.Refused refusal)
-FollowsFrom i failure fault = IsFault fault
+FollowsFrom i failure fault = IsResourceFault fault
 
 abbrev pub fault_of_take : TakeError → RunFault
 fault_of_take TakeError.OutOfMemory = RunFault.OutOfMemory

@@ -25,6 +25,6 @@ is_enough None before = false
 is_enough (Some n) before = nat_eq n before
 
 -- a message that is refused was written
-abbrev pub IfRefused : RunFault → Type 0 → Type 0
-IfRefused (RunFault.Refused message refusal) P = P
-IfRefused _ P = Unit {0}
+abbrev pub IfRefusedMessage : RunFault → Type 0 → Type 0
+IfRefusedMessage (RunFault.Refused message refusal) P = P
+IfRefusedMessage _ P = Unit {0}

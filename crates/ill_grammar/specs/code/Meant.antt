@@ -12,7 +12,7 @@ use Rattle.ill_schema.specs.Table.{kind_of}
 use Rattle.ill_schema.specs.Tagging.{untagged}
 use Rattle.ill_refusals.specs.Element.{Component, components, component_starts, segment, Start, start, starts}
 use Rattle.ill_refusals.specs.Next.{first_mandatory}
-use Rattle.ill_grammar.specs.Cells.{wrapped, element_in, is_any, is_bits, is_leaf, is_list, is_sequence, is_strict, node_choice, presence_default, row_before, segments_in}
+use Rattle.ill_grammar.specs.Cells.{wrapped, element_in, is_any, has_bit_segments, is_leaf, is_list, is_sequence, is_strict, node_choice, presence_default, row_before, segments_in}
 use Rattle.ill_grammar.specs.declared.cell.Cell.{Cell}
 use Rattle.ill_grammar.specs.declared.cell.ElementType.{ElementType}
 use Rattle.ill_grammar.specs.declared.cell.ElementType.TheVariants as element_type
@@ -30,9 +30,9 @@ cell_start c = start (record { class = c.class; number = c.number }) (element_in
 abbrev pub cell_starts : Cell → List Start
 cell_starts c = if c.nested then node_starts c.node else cell_start c ∷ []
 
-abbrev pub is_empty : Kind → List Component → Bool
-is_empty Kind.Seq [] = true
-is_empty _ _ = false
+abbrev pub is_empty_sequence : Kind → List Component → Bool
+is_empty_sequence Kind.Seq [] = true
+is_empty_sequence _ _ = false
 
 -- an explicit tag that may not be bare is round a node of this kind
 abbrev pub is_wrapped : Bool → Kind → Bool
@@ -45,11 +45,11 @@ opens element_type.Sequence strict k cs = is_sequence k
 opens element_type.List strict k cs = is_list k
 opens element_type.Wrapper strict k cs = is_wrapped strict k
 opens element_type.LooseWrapper strict k cs = is_sequence k && not strict
-opens element_type.LeftOut strict k cs = is_empty k cs
+opens element_type.LeftOut strict k cs = is_empty_sequence k cs
 opens element_type.Foreign strict k cs = is_any k
-opens element_type.BitString strict k cs = is_bits k
-opens element_type.BitSegment strict k cs = is_bits k
-opens _ strict k cs = is_leaf k && not (is_bits k)
+opens element_type.BitString strict k cs = has_bit_segments k
+opens element_type.BitSegment strict k cs = has_bit_segments k
+opens _ strict k cs = is_leaf k && not (has_bit_segments k)
 
 -- a node of this kind begins by the tags of alternatives, by two of its own, or by none
 abbrev pub is_nested : Kind → Bool
@@ -58,14 +58,14 @@ is_nested Kind.Any = true
 is_nested Kind.IllString = true
 is_nested _ = false
 
-abbrev pub is_there : List Component → Bool
-is_there [] = false
-is_there (c ∷ cs) = true
+abbrev pub has_components : List Component → Bool
+has_components [] = false
+has_components (c ∷ cs) = true
 
 -- the component at a position is there
 abbrev pub row_there : EntryRole → ℕ → List Component → Bool
-row_there slot.Row position cs = is_there (drop (row_before position) cs)
-row_there slot.Item position cs = is_there cs
+row_there slot.Row position cs = has_components (drop (row_before position) cs)
+row_there slot.Item position cs = has_components cs
 row_there _ position cs = true
 
 abbrev pub default_first : List Component → Option ℤ

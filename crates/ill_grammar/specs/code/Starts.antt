@@ -4,14 +4,14 @@ use Rattle.ber_core.specs.Identifier.{Tag}
 use Rattle.ill_schema.specs.declared.node.NodeId.{NodeId}
 use Rattle.ill_refusals.specs.Element.{Element, Start}
 use Rattle.ill_grammar.specs.Elements.{element_with}
-use Rattle.ill_grammar.specs.Cells.{element_in, IsAlternative}
+use Rattle.ill_grammar.specs.Cells.{element_in, BeginsAlternative}
 use Rattle.ill_grammar.specs.code.Meant.{opens_in}
 use Rattle.ill_grammar.specs.declared.cell.Cell.{Cell}
 
 -- the element begins by an alternative of this number exactly where there is a choice
 abbrev pub BeginsIn : Tag → Option NodeId → Option ℕ → Element → Type 0
 BeginsIn t None None e = Unit {0}
-BeginsIn t (Some node) (Some n) e = IsAlternative t node n e
+BeginsIn t (Some node) (Some n) e = BeginsAlternative t node n e
 BeginsIn _ _ _ _ = ⊥
 
 -- the tag begins the element by one of these, or by an alternative

@@ -1,5 +1,5 @@
 -- The numbers of an OBJECT IDENTIFIER, one after another.
-use Rattle.std.specs.Prelude.{◌≡◌, ℕ, ◌+◌, ◌-◌, ◌*◌, min, Bool, false, nat_lt, List, ◌∷◌, ◌++◌, codes, decimal, if◌then◌else◌}
+use Rattle.std.specs.Prelude.{◌≡◌, ℕ, ◌+◌, ◌-◌, ◌*◌, min, Bool, false, nat_lt, List, ◌∷◌, if◌then◌else◌}
 use Rattle.ill_read.specs.declared.mark.Mark.{Mark}
 use Rattle.ill_read.specs.declared.mark.Mark.TheVariants as mark
 use Rattle.ill_schema.specs.Texts.{numbers_after}
@@ -19,9 +19,5 @@ ends_number (mark.Octet a) = nat_lt a 0x80
 ends_number _ = false
 
 -- the first number, as far as 64 bits hold it, and the octets after it
-abbrev pub IsNext : List ℕ → ℕ → List ℕ → Type 0
-IsNext octets number rest = (n : ℕ) × (numbers_after 0 octets ≡ n ∷ numbers_after 0 rest) × (number ≡ min n 18_446_744_073_709_551_615)
-
--- a number after a dot
-abbrev pub dotted : ℕ → List ℕ
-dotted n = codes "." ++ decimal n
+abbrev pub IsFirstNumber : List ℕ → ℕ → List ℕ → Type 0
+IsFirstNumber octets number rest = (n : ℕ) × (numbers_after 0 octets ≡ n ∷ numbers_after 0 rest) × (number ≡ min n 18_446_744_073_709_551_615)

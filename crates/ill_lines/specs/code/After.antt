@@ -2,7 +2,7 @@
 use Rattle.std.specs.Prelude.{◌≡◌, ◌++◌, ◌&&◌, ℕ, Bool, false, List, [], codes, map, take, Option}
 use Rattle.std.specs.Io.KnownBytes.{Appends}
 use Rattle.ill_normal.specs.Hexadecimal.{hex_octets}
-use Rattle.ill_lines.specs.Lines.{Answer, AreAnswers, IsResult, all_good, has_line_end, lines, output}
+use Rattle.ill_lines.specs.Lines.{Answer, AreAnswers, IsResult, all_results_good, has_line_end, lines, result_lines}
 use Rattle.ill_lines.specs.declared.job.LineOptions.{LineOptions}
 use Rattle.ill_lines.specs.declared.lines.LineReader.{LineReader}
 
@@ -14,8 +14,8 @@ pub record IsAfter (work : LineOptions) (octets kept made : List ℕ) (good : Bo
   pub unended : has_line_end rest ≡ false
   pub is_kept : kept ≡ take 4_194_305 rest
   pub are : AreAnswers work answers
-  pub is_made : made ≡ output answers
-  pub is_good : good ≡ all_good answers
+  pub is_made : made ≡ result_lines answers
+  pub is_good : good ≡ all_results_good answers
 
 -- the same, where `put` was written of the results
 abbrev pub StandsAfter : LineOptions → List ℕ → List ℕ → LineReader → Type 0

@@ -12,7 +12,7 @@ use Rattle.ill_normal.specs.declared.messages.MessagePlace.{MessagePlace}
 use Rattle.ill_normal.specs.declared.visit.MessageCounts.{MessageCounts}
 use Rattle.ill_normal.specs.Calls.{Taking, Putting}
 use Rattle.ill_normal.specs.Failures.{of_read}
-use Rattle.ill_normal.specs.Messages.{Spelling, WritesIn, position_after, first, position, output_from, good_of}
+use Rattle.ill_normal.specs.Messages.{Spelling, WritesMessagesIn, position_after, first, position, output_from, good_of}
 
 -- why no further message is written where an input goes on
 abbrev pub why_of_end : EndError → StreamErrorKind
@@ -36,7 +36,7 @@ all_passed counts = record { whole = counts.messages; good = counts.good; octets
 -- these messages were read and written, whose output has `written` octets
 pub record HasWritten (q : Profile) (text : MessagePlace → Spelling → List ℕ) (is_good : Spelling → Bool) (source : Taking) (sink : Putting) (written : ℕ) (counts : MessageCounts) : Type 0 where
   pub messages : List Spelling
-  pub writes : WritesIn q text source.left source.left' sink.held sink.held' messages
+  pub writes : WritesMessagesIn q text source.left source.left' sink.held sink.held' messages
   pub count : counts.messages ≡ length messages
   pub few : counts.messages ≤ 1_000_000
   pub input : counts.octets ≡ length writes.octets

@@ -11,7 +11,7 @@ use Rattle.ill_normal.specs.declared.visit.MessageCounts.{MessageCounts}
 use Rattle.ill_normal.specs.Calls.{Taking, Putting}
 use Rattle.ill_normal.specs.Items.{Item, good_in, position_past, reports_from, written_from}
 use Rattle.ill_normal.specs.Messages.{Spelling, counted, first, position}
-use Rattle.ill_normal.specs.Skipping.{Goes, Reporting, counts_before}
+use Rattle.ill_normal.specs.Skipping.{Skips, Reporting, counts_before}
 
 -- of messages that were read to the end of the input
 abbrev pub skipping_counts : MessageCounts → SkippingCounts
@@ -25,7 +25,7 @@ error_at counts written why =
 -- these messages were read, those that are refused were reported, and the others were written, in `written` octets
 pub record HasSkipped (q : Profile) (text : MessagePlace → Spelling → List ℕ) (is_good : Spelling → Bool) (source : Taking) (sink : Putting) (reports : Reporting) (written : ℕ) (counts : MessageCounts) : Type 0 where
   pub items : List Item
-  pub goes : Goes q text source.left source.left' sink.held sink.held' reports items
+  pub goes : Skips q text source.left source.left' sink.held sink.held' reports items
   pub count : counts.messages ≡ length items
   pub few : counts.messages ≤ 1_000_000
   pub bad_ones : counts.refused ≡ length (reports_from first items)

@@ -5,15 +5,15 @@ use Rattle.ill_normal.specs.Messages.{counted}
 use Rattle.ber_framing.specs.declared.framer.Framing.{Framing}
 use Rattle.ber_framing.specs.declared.framer.Framing.TheVariants as frame
 use Rattle.ber_framing.specs.declared.framer.Framer.{Framer}
-use Rattle.ber_framing.specs.Framed.{IsPart, IsUnframed}
-use Rattle.ber_framing.specs.Framer.{Judged, IsFed}
+use Rattle.ber_framing.specs.Framed.{IsPartOfFrame, IsUnframed}
+use Rattle.ber_framing.specs.Framer.{HasFraming, IsFed}
 
 -- a framer was fed the octets that were taken, and the first 1,048,576 of them were recorded
 pub record IsFraming (left left' : Option (List ℕ)) (framer : Framer) (recorded : List ℕ) (least size : ℕ) : Type 0 where
   pub octets : List ℕ
   pub taken : Consumes left left' octets
   pub fed : IsFed framer octets
-  pub within : (n : ℕ) → n < length octets → IsPart (take n octets)
+  pub within : (n : ℕ) → n < length octets → IsPartOfFrame (take n octets)
   pub keeps : recorded ≡ take 1_048_576 octets
   pub counts : least ≤ length octets
   pub size_is : size ≡ counted (length octets)
@@ -24,18 +24,18 @@ pub record Takes (left left' : Option (List ℕ)) (framer framer' : Framer) (rec
   pub size : n ≡ length octets
   pub taken : Consumes left left' octets
   pub fed : (b : List ℕ) → IsFed framer b → IsFed framer' (b ++ octets)
-  pub within : (b : List ℕ) (k : ℕ) → IsFed framer b → k < length octets → IsPart (b ++ take k octets)
-  pub none : (b : List ℕ) → n ≡ 0 → IsFed framer b → IsPart b → IsAtEnd left'
+  pub within : (b : List ℕ) (k : ℕ) → IsFed framer b → k < length octets → IsPartOfFrame (b ++ take k octets)
+  pub none : (b : List ℕ) → n ≡ 0 → IsFed framer b → IsPartOfFrame b → IsAtEnd left'
   pub keeps : recorded' ≡ recorded ++ take (1_048_576 - length recorded) octets
 
 -- an element of `size` octets was taken, as far as its end can be known, and its first 1,048,576 octets were recorded
 pub record TakesElement (left left' : Option (List ℕ)) (recorded : List ℕ) (size : ℕ) (frame : Framing) : Type 0 where
   pub octets : List ℕ
   pub taken : Consumes left left' octets
-  pub judged : Judged octets frame
-  pub within : (n : ℕ) → n < length octets → IsPart (take n octets)
+  pub judged : HasFraming octets frame
+  pub within : (n : ℕ) → n < length octets → IsPartOfFrame (take n octets)
   pub keeps : recorded ≡ take 1_048_576 octets
-  pub part : IsPart octets → IsAtEnd left' ⊎ (18_446_744_073_709_551_615 ≤ length octets)
+  pub part : IsPartOfFrame octets → IsAtEnd left' ⊎ (18_446_744_073_709_551_615 ≤ length octets)
   pub size_is : size ≡ counted (length octets)
 
 -- octets with which no element begins were taken, and then some that say more of why
@@ -44,7 +44,7 @@ pub record TakesUnframed (left left' : Option (List ℕ)) (recorded : List ℕ) 
   pub more : List ℕ
   pub taken : Consumes left left' (octets ++ more)
   pub unframed : IsUnframed octets
-  pub within : (n : ℕ) → n < length octets → IsPart (take n octets)
+  pub within : (n : ℕ) → n < length octets → IsPartOfFrame (take n octets)
   pub keeps : recorded ≡ take 1_048_576 (octets ++ more)
 
 -- one of the two

@@ -19,25 +19,25 @@ use Rattle.ill_read.specs.declared.value_draft.ValueDraft.{ValueDraft}
 use Rattle.ill_grammar.specs.Due.{shape, read_as}
 
 -- the entries of rows that have no element
-abbrev pub ArePassed : List (Option Value) → List Row → Type 0
-ArePassed entries rows = map (option_map content_of) entries ≡ map absent_content rows
+abbrev pub AreAbsentEntries : List (Option Value) → List Row → Type 0
+AreAbsentEntries entries rows = map (option_map content_of) entries ≡ map absent_content rows
 
 -- rows without an element were passed
-pub record HasPassed (rows : List Row) (old new : List (Option Value)) : Type 0 where
+pub record HasAddedAbsent (rows : List Row) (old new : List (Option Value)) : Type 0 where
   pub entries : List (Option Value)
   pub added : new ≡ old ++ entries
-  pub are : ArePassed entries rows
+  pub are : AreAbsentEntries entries rows
 
 -- a value was added, after the entries of the rows before it
 pub record HasAdded (rows : List Row) (v : Value) (old new : List (Option Value)) : Type 0 where
   pub entries : List (Option Value)
   pub added : new ≡ old ++ (entries ++ Some v ∷ [])
-  pub are : ArePassed entries rows
+  pub are : AreAbsentEntries entries rows
 
 -- the value is the sequence of the entries after the first `contents_start`, with those of the rows that are still to come
 pub record IsSequence (rows : List Row) (contents_start : ℕ) (v : Value) (old new : List (Option Value)) : Type 0 where
   pub entries : List (Option Value)
-  pub are : ArePassed entries rows
+  pub are : AreAbsentEntries entries rows
   pub is : (below held : List (Option Value)) → old ≡ below ++ held → length below ≡ contents_start → (new ≡ below) × (content_of v ≡ content.sequence (entries_content (held ++ entries)))
 
 -- the value is the list of the items after the first `contents_start`

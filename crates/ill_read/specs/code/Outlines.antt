@@ -8,13 +8,13 @@ use Rattle.ill_schema.specs.Table.{kind_of, rows_of}
 use Rattle.ill_schema.specs.Value.{entries_of}
 use Rattle.ill_read.specs.Outline.{AreEntries, IsMarked, octets_marks}
 use Rattle.ill_grammar.specs.Standing.{Level}
+use Rattle.ill_grammar.specs.Cells.{is_any}
 use Rattle.ill_grammar.specs.Due.{IsDueIn}
 use Rattle.ill_read.specs.code.Drafts.{rows_before, rows_left}
 use Rattle.ill_grammar.specs.Due.{due_with}
 use Rattle.ill_read.specs.code.OctetDrafts.{AreOctets, innermost}
 use Rattle.ill_read.specs.declared.normal_form_draft.NormalFormDraft.{NormalFormDraft}
 use Rattle.ill_schema.specs.Content.{Content}
-use Rattle.ill_schema.specs.declared.node.Kind.{Kind}
 use Rattle.ill_grammar.specs.declared.due.Next.{Next}
 use Rattle.ill_grammar.specs.declared.due.Next.TheVariants.{Rows, Inner, Items, Either, Segments, BitSegments, Foreigns, Nothing, Root}
 use Rattle.ill_grammar.specs.declared.due.Slot.{Slot}
@@ -26,21 +26,21 @@ use Rattle.ill_read.specs.declared.mark.Mark.TheVariants as mark
 use Rattle.ill_read.specs.declared.outline_draft.OutlineDraft.{OutlineDraft}
 
 -- the marks of rows that have no element
-abbrev pub ArePassed : List Row → List Mark → Type 0
-ArePassed [] ms = ms ≡ []
-ArePassed (row ∷ rows) ms = (part : PartId) × (rest : List Mark) × (ms ≡ mark.Absent part ∷ rest) × (slice_get (rows_of part.node) part.row ≡ Some row) × ArePassed rows rest
+abbrev pub AreAbsent : List Row → List Mark → Type 0
+AreAbsent [] ms = ms ≡ []
+AreAbsent (row ∷ rows) ms = (part : PartId) × (rest : List Mark) × (ms ≡ mark.Absent part ∷ rest) × (slice_get (rows_of part.node) part.row ≡ Some row) × AreAbsent rows rest
 
 -- rows without an element were passed, after these marks
-pub record HasPassed (before : List Mark) (rows : List Row) (old new : List Mark) : Type 0 where
+pub record HasAbsent (before : List Mark) (rows : List Row) (old new : List Mark) : Type 0 where
   pub marks : List Mark
   pub added : new ≡ old ++ (before ++ marks)
-  pub are : ArePassed rows marks
+  pub are : AreAbsent rows marks
 
 abbrev pub alternative_marks : Option ℕ → List Mark
 alternative_marks None = []
 alternative_marks (Some n) = mark.Alternative n ∷ []
 
--- the mark that an element begins with, where this may come next in it; a loose wrapper has one once a row came
+-- the mark that an element begins with, where this may come next in it; a loose wrapper has one at its first row
 abbrev pub first_marks : Next → CodeElement → List Mark
 first_marks (Rows node n) e = mark.Sequence ∷ []
 first_marks (Items node) e = mark.List ∷ []
@@ -54,7 +54,7 @@ abbrev pub start_marks : Next → Slot → List Mark
 start_marks (Either w) (AtRow r) = mark.Sequence ∷ []
 start_marks _ _ = []
 
--- the same where no row came
+-- the same, where there is no row
 abbrev pub late_marks : Next → List Mark
 late_marks (Either w) = mark.Sequence ∷ []
 late_marks _ = []
@@ -67,33 +67,29 @@ last_marks (Foreigns n) = []
 last_marks Nothing = []
 last_marks _ = mark.End ∷ []
 
--- the marks of an element came to their end
-pub record HasRear (n : Next) (old new : List Mark) : Type 0 where
+-- the marks of an element are complete
+pub record HasEnding (n : Next) (old new : List Mark) : Type 0 where
   pub rows : List Mark
   pub added : new ≡ old ++ (late_marks n ++ (rows ++ last_marks n))
-  pub are : ArePassed (rows_left n) rows
+  pub are : AreAbsent (rows_left n) rows
 
 -- what comes before an element was marked: the rows that it passes, and the alternative that it is
-pub record HasLed (next : Next) (slot : Slot) (alternative : Option ℕ) (old new : List Mark) : Type 0 where
+pub record HasPreceding (next : Next) (slot : Slot) (alternative : Option ℕ) (old new : List Mark) : Type 0 where
   pub rows : List Mark
   pub added : new ≡ old ++ (start_marks next slot ++ (rows ++ alternative_marks alternative))
-  pub are : ArePassed (rows_before next slot) rows
+  pub are : AreAbsent (rows_before next slot) rows
 
 -- the same of an open element, which is due in the element round it
-pub record IsLed (tag : Tag) (element : CodeElement) (next : Next) (old new : List Mark) : Type 0 where
+pub record IsPreceded (tag : Tag) (element : CodeElement) (next : Next) (old new : List Mark) : Type 0 where
   pub slot : Slot
   pub alternative : Option ℕ
   pub is_due : IsDueIn tag next (due_with slot alternative element)
-  pub led : HasLed next slot alternative old new
+  pub led : HasPreceding next slot alternative old new
 
 -- the outermost level has nothing before it
-abbrev pub AreLed : Tag → CodeElement → List Level → List Mark → List Mark → Type 0
-AreLed tag element [] old new = new ≡ old
-AreLed tag element (l ∷ below) old new = IsLed tag element l.next old new
-
-abbrev pub is_any : Kind → Bool
-is_any Kind.Any = true
-is_any _ = false
+abbrev pub ArePreceded : Tag → CodeElement → List Level → List Mark → List Mark → Type 0
+ArePreceded tag element [] old new = new ≡ old
+ArePreceded tag element (l ∷ below) old new = IsPreceded tag element l.next old new
 
 -- a wrapper of an open type, or an element of a foreign tree
 abbrev pub is_open_type : CodeElement → Bool
@@ -128,7 +124,7 @@ held_marks _ octets contents_start = []
 abbrev pub AreFronts : List Level → List Mark → Type 0
 AreFronts [] ms = ms ≡ []
 AreFronts (l ∷ below) ms = (before : List Mark) × (led : List Mark) × (own : List Mark)
-    × (ms ≡ led ++ (first_marks l.next l.element ++ own)) × AreLed l.tag l.element below before led × AreOwn l.element l.entries own × AreFronts below before
+    × (ms ≡ led ++ (first_marks l.next l.element ++ own)) × ArePreceded l.tag l.element below before led × AreOwn l.element l.entries own × AreFronts below before
 
 pub record AreOutlined (draft : OutlineDraft) (levels : List Level) (text : List ℕ) : Type 0 where
   pub octets : AreOctets draft.octets levels text

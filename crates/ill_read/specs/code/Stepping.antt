@@ -6,7 +6,7 @@ use Rattle.ber_core.specs.Id.{tag_of_id}
 use Rattle.ill_refusals.specs.Place.{Open}
 use Rattle.ill_refusals.specs.Fault.{element_fault}
 use Rattle.ill_refusals.specs.code.Judge.{Judgement, or_faulty, reads}
-use Rattle.ill_refusals.specs.code.Step.{moved, opened}
+use Rattle.ill_refusals.specs.code.Step.{step_after, opened}
 use Rattle.ill_grammar.specs.Due.{read_as}
 use Rattle.ill_grammar.specs.Elements.{element_is}
 use Rattle.ill_grammar.specs.declared.place.Place.{Place}
@@ -28,7 +28,7 @@ GoesOn after old new false = (old ≡ [] → ⊥)
 
 abbrev pub ClosesExactly : {D : Type 0} → (D → List Level → List ℕ → Type 0) → Path D → Path D → Result Bool Failure → Type 0
 ClosesExactly holds old new result = (p : Named) (place : List Open) (marks at : ℕ) (rest : List ℕ) (j : Judgement) → HoldsAt p holds old place → IsEnd p place marks j
-    → IsStep p holds new result (moved j place at rest)
+    → IsStep p holds new result (step_after j place at rest)
 
 abbrev pub OpensExactly : {D : Type 0} → (D → List Level → List ℕ → Type 0) → Path D → Opening → ℕ → Path D → Type 0
 OpensExactly holds old o start new = (p : Named) (place : List Open) → HoldsAt p holds old place → IsBegin old.frames place (tag_of_id o.id) o.found true
@@ -37,4 +37,4 @@ OpensExactly holds old o start new = (p : Named) (place : List Open) → HoldsAt
 abbrev pub ReadsExactly : {D : Type 0} → (D → List Level → List ℕ → Type 0) → Path D → Reading → ℕ → List ℕ → Path D → Result Bool Failure → Type 0
 ReadsExactly holds old r start octets new result = (p : Named) (place : List Open) (header at : ℕ) (rest : List ℕ) → HoldsAt p holds old place
     → IsBegin old.frames place (tag_of_id r.id) r.found false
-    → IsStep p holds new result (moved (or_faulty (element_fault (profile_of p) (element_is (read_as r.found)) octets) start (reads (tag_of_id r.id) header octets)) place at rest)
+    → IsStep p holds new result (step_after (or_faulty (element_fault (profile_of p) (element_is (read_as r.found)) octets) start (reads (tag_of_id r.id) header octets)) place at rest)

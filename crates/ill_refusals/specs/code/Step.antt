@@ -30,8 +30,8 @@ close (o ∷ path) k rest = with_tree path (constructed o.tag o.trees) k rest
 abbrev pub opened : Element → Tag → ℕ → Option ℕ → Open
 opened e tag k end = record { element = e; tag = tag; start = k; end = end; trees = none }
 
-abbrev pub moved : Judgement → List Open → ℕ → List ℕ → Step
-moved (faulty f) path k rest = refused f
-moved (closes m) path k rest = close path (k + m) (drop m rest)
-moved (opens tag e h end) path k rest = goes (opened e tag k end ∷ path) (k + h) (drop h rest)
-moved (reads tag h content) path k rest = with_tree path (primitive tag content) (k + h + length content) (drop (h + length content) rest)
+abbrev pub step_after : Judgement → List Open → ℕ → List ℕ → Step
+step_after (faulty f) path k rest = refused f
+step_after (closes m) path k rest = close path (k + m) (drop m rest)
+step_after (opens tag e h end) path k rest = goes (opened e tag k end ∷ path) (k + h) (drop h rest)
+step_after (reads tag h content) path k rest = with_tree path (primitive tag content) (k + h + length content) (drop (h + length content) rest)

@@ -4,14 +4,14 @@ use Rattle.ill_read.specs.declared.mark.Mark.{Mark}
 use Rattle.ill_read.specs.declared.mark.Mark.TheVariants as mark
 
 -- an octet that ends a number in base 128
-abbrev pub is_last : Mark → Bool
-is_last (mark.Octet octet) = nat_lt octet 0x80
-is_last _ = false
+abbrev pub ends_number : Mark → Bool
+ends_number (mark.Octet octet) = nat_lt octet 0x80
+ends_number _ = false
 
 -- how many marks there are up to the first such octet
 abbrev pub up_to_last : List Mark → ℕ
 up_to_last [] = 0
-up_to_last (m ∷ ms) = if is_last m then 1 else suc (up_to_last ms)
+up_to_last (m ∷ ms) = if ends_number m then 1 else suc (up_to_last ms)
 
 -- a blank, where any marks follow
 abbrev pub blank : List Mark → List ℕ

@@ -1,5 +1,5 @@
 -- The numbers of an OBJECT IDENTIFIER, one after another.
-use Rattle.std.specs.Prelude.{◌≡◌, ℕ, ◌-◌, ◌^◌, min, Bool, List, ◌∷◌, ◌++◌, codes, decimal, nat_lt}
+use Rattle.std.specs.Prelude.{◌≡◌, ℕ, ◌-◌, ◌^◌, min, Bool, List, ◌∷◌, nat_lt}
 use Rattle.std.specs.List.{list_all}
 use Rattle.ill_read.specs.declared.mark.Mark.{Mark}
 use Rattle.ill_read.specs.Marks.{octets_in}
@@ -16,6 +16,3 @@ pub record IsFirst (numbers : List ℕ) (held : ℕ) (others : List ℕ) : Type 
   pub number : ℕ
   pub are : numbers ≡ number ∷ others
   pub holds : held ≡ min number (2 ^ 64 - 1)
-
-abbrev pub dotted : ℕ → List ℕ
-dotted n = codes "." ++ decimal n

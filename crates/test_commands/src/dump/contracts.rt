@@ -3,8 +3,8 @@
 ghost use Rattle.std.specs.Prelude.{◌≡◌, ℕ, List, [], length, false, Ok, Err, Some, None};
 ghost use Rattle.ill_schema.specs.Apdu.{Apdu, IsStream};
 ghost use Rattle.ill_schema.specs.Profiles.{profile_of};
-ghost use Rattle.ill_dump.specs.Dumped.{Dumps};
-ghost use Rattle.ill_normal.specs.Inputs.{IsFault};
+ghost use Rattle.ill_dump.specs.Dumped.{WritesDump};
+ghost use Rattle.ill_normal.specs.Inputs.{IsResourceFault};
 ghost use Rattle.ill_normal.specs.declared.run_fault.RunFault.{RunFault};
 
 use ber_core::{Pieces, Room, Sink, Source, Unbuffered};
@@ -25,7 +25,7 @@ fn inputs_end_in_one_way(
     requires plain { dump.hex ≡ false }
     requires all { dump.only ≡ None }
     requires same { source.old.octets ≡ other.old.octets }
-    ensures { (n : ℕ) (e : RunFault) → result.0 ≡ Ok n → result.1 ≡ Err e → IsFault e }
+    ensures { (n : ℕ) (e : RunFault) → result.0 ≡ Ok n → result.1 ≡ Err e → IsResourceFault e }
 {
     (
         run_dump::<Pieces, Unbuffered, Room<64>>(alloc, dump, source, sink),
@@ -44,9 +44,9 @@ fn each_message_is_dumped(
     requires all { dump.only ≡ None }
     ensures whole { (n : ℕ) (as' : List Apdu)
         → IsStream (profile_of dump.entry.profile) source.old.octets as' [] → result ≡ Ok n
-        → Dumps dump.entry (length as') (Some sink.old.octets) (Some sink.new.octets) }
+        → WritesDump dump.entry (length as') (Some sink.old.octets) (Some sink.new.octets) }
     ensures refused { (i : ℕ) (refusal : Refusal) → result ≡ Err (RunFault.Refused i refusal)
-        → Dumps dump.entry i (Some sink.old.octets) (Some sink.new.octets) }
+        → WritesDump dump.entry i (Some sink.old.octets) (Some sink.new.octets) }
 {
     run_dump::<Pieces, Unbuffered, Room<64>>(alloc, dump, source, sink)
 }

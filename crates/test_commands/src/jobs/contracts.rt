@@ -3,7 +3,7 @@
 //! that may come besides.
 ghost use Rattle.std.specs.Prelude.{◌≡◌, ◌≤◌, ◌+◌, ℕ, Bool, List, [], Ok, Err, true, false, IfOk, IfErr, length};
 ghost use Rattle.ber_leaf.specs.Profile.{profile_two};
-ghost use Rattle.ill_normal.specs.Inputs.{IsFault};
+ghost use Rattle.ill_normal.specs.Inputs.{IsResourceFault};
 ghost use Rattle.ill_read.specs.Outline.{IsOutlineOf};
 ghost use Rattle.ill_schema.specs.Apdu.{Apdu, SpellsApdu, choice_of};
 ghost use Rattle.ill_schema.specs.Profiles.{profile_of};
@@ -107,7 +107,7 @@ fn inputs_have_one_verdict(
 ) -> (Result<Verdict, RunFault>, Result<Verdict, RunFault>)
     requires { source.old.octets ≡ other.old.octets }
     ensures verdict { (v w : Verdict) → result.0 ≡ Ok v → result.1 ≡ Ok w → v ≡ w }
-    ensures fault { (v : Verdict) (e : RunFault) → result.0 ≡ Ok v → result.1 ≡ Err e → IsFault e }
+    ensures fault { (v : Verdict) (e : RunFault) → result.0 ≡ Ok v → result.1 ≡ Err e → IsResourceFault e }
 {
     (
         run_as(alloc, profile, job, hex, source, sink),
@@ -128,7 +128,7 @@ fn inputs_have_one_output(
 ) -> (Result<Verdict, RunFault>, Result<Verdict, RunFault>)
     requires source { source.old.octets ≡ other.old.octets }
     requires sink { sink.old.octets ≡ other_sink.old.octets }
-    ensures { result.0 ≡ result.1 → IfErr result.0 (λ e. IsFault e → ⊥)
+    ensures { result.0 ≡ result.1 → IfErr result.0 (λ e. IsResourceFault e → ⊥)
         → sink.new.octets ≡ other_sink.new.octets }
 {
     (
@@ -278,7 +278,7 @@ fn pairs_have_one_verdict(
     ensures verdict { (v w : Verdict) → result.0 ≡ Ok v → result.1 ≡ Ok w → v ≡ w }
     ensures line { (v w : Verdict) → result.0 ≡ Ok v → result.1 ≡ Ok w
         → sink.new.octets ≡ other_sink.new.octets }
-    ensures fault { (v : Verdict) (e : RunFault) → result.0 ≡ Ok v → result.1 ≡ Err e → IsFault e }
+    ensures fault { (v : Verdict) (e : RunFault) → result.0 ≡ Ok v → result.1 ≡ Err e → IsResourceFault e }
 {
     (
         run_same_as(alloc, profile, hex, first, second, sink),

@@ -250,7 +250,7 @@ fn a_sink_that_breaks_has_the_front_of_the_lines(rt: HostRuntime) -> Result<(), 
     Ok(())
 }
 
-const MOST_HEX: usize = 4_194_304;
+const MAX_HEX_TEXT: usize = 4_194_304;
 
 /// Tells whether hexadecimal text of this many blanks has this result, and nothing is written.
 fn answers(
@@ -274,11 +274,11 @@ fn answers(
 #[test]
 fn hexadecimal_text_has_a_limit(rt: HostRuntime) -> Result<(), Fail> {
     assert!(rt;
-        answers(rt.alloc(), MOST_HEX, Ok(Verdict::Good))?,
+        answers(rt.alloc(), MAX_HEX_TEXT, Ok(Verdict::Good))?,
         "hex-text-of-blanks"
     );
     assert!(rt;
-        answers(rt.alloc(), MOST_HEX + 1, Err(RunFault::HexTooLong))?,
+        answers(rt.alloc(), MAX_HEX_TEXT + 1, Err(RunFault::HexTooLong))?,
         "hex-text-too-long"
     );
     Ok(())

@@ -280,7 +280,7 @@ fn streams_are_taken_to_their_end(
 
 /// The messages of an input are read to its end. Where that stops before, it is reported how many messages there were and how many
 /// octets they had, and at most 1,048,576 octets were taken after them.
-fn messages_are_gone_through_to_their_end(
+fn messages_are_visited_to_their_end(
     source: &mut Pieces,
     sink: &mut Room<64>,
     alloc: Global,

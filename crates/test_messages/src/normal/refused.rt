@@ -1,5 +1,5 @@
 //! Contracts that leave one refusal, and one result of a stream: what the calls return is proved of their contracts and the laws alone.
-//! That memory was refused, and that the source or the sink broke, are the results that may come besides.
+//! Out of memory, and a source or a sink that broke, are the results that may come besides.
 ghost use Rattle.std.specs.Prelude.{◌≡◌, ◌<◌, ◌≤◌, ℕ, List, [], ◌++◌, Err, Ok, IfOk, flat_map, length};
 ghost use Rattle.ber_leaf.specs.Profile.{profile_two};
 ghost use Rattle.ill_schema.specs.Apdu.{Apdu, IsStream, normal_form};

@@ -1,7 +1,7 @@
 use Rattle.std.proofs.Common.{◌≡◌, ◌∙◌, ap, ap₂, true, codes}
 use Rattle.std.proofs.lemmas.Result.{IfOk-weaker}
 use Rattle.clap.specs.Simple.{App, app_of, app_of_fields, new_app, with_subcommand}
-use Rattle.ill_args.specs.CommandLine.{top}
+use Rattle.ill_args.specs.CommandLine.{bare_program}
 use Rattle.ill_args.proofs.commands.program.Goals as goal
 
 abbrev with_version : App → App
@@ -21,7 +21,7 @@ returns c =
     let help : app_of c.after_help.result ≡ with_version (new_app (codes "illcanon")) = ap app_of_fields c.after_help.ensures ∙ about in
     let required : app_of c.subcommand_required.result ≡ needs_command (with_version (new_app (codes "illcanon"))) =
     ap app_of_fields c.subcommand_required.ensures ∙ ap needs_command help in
-    let top_is : app_of c.arg_required_else_help.result ≡ top = ap app_of_fields c.arg_required_else_help.ensures ∙ ap helps_if_empty required in
+    let top_is : app_of c.arg_required_else_help.result ≡ bare_program = ap app_of_fields c.arg_required_else_help.ensures ∙ ap helps_if_empty required in
     let shape : (a b : App) → a ≡ b → a.top ≡ b.top = λ a b e. ap (λ (x : App). x.top) e in
     let one = c.in_ok-subcommand.ensures.shape c.in_ok-show.ensures.1 ∙ ap₂ with_subcommand top_is (shape _ _ c.in_ok-show.ensures.0) in
     let two = c.in_ok-subcommand-2.ensures.shape c.in_ok-check.ensures.1 ∙ ap₂ with_subcommand one (shape _ _ c.in_ok-check.ensures.0) in

@@ -27,4 +27,4 @@ returns-clause-fails g c =
     (taking (g.R.Source.left c.args.source.now) (g.R.Source.left c.read_hex.new.source) (g.R.Source.is_broken c.read_hex.new.source))
     (putting (g.W.Sink.contents c.args.sink.now) (g.W.Sink.contents c.skip_messages-2.new.sink) (g.W.Sink.is_broken c.skip_messages-2.new.sink))
     (reporting (g.T.ReportRefusals.reported c.args.reports.now) (g.T.ReportRefusals.reported c.skip_messages-2.new.reports)))) (sym digits)
-    (IfErr-weaker c.skip_messages-2.result _ _ (λ error h. inr (_, text, (c.skip_messages-2.new.source, h))) c.skip_messages-2.ensures.halts)
+    (IfErr-weaker c.skip_messages-2.result _ _ (λ error h. inr (_, text, (c.skip_messages-2.new.source, h))) c.skip_messages-2.ensures.stops)

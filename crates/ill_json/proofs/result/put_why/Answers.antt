@@ -1,8 +1,5 @@
-use Rattle.std.proofs.Common.{[], ◌∷◌, ℕ, List, Option, ap, codes}
+use Rattle.std.proofs.Common.{[], ◌∷◌, ℕ, List, ap, codes}
 use Rattle.json.specs.Token.{string}
-use Rattle.ill_schema.specs.declared.part.PartId.{PartId}
-use Rattle.ill_json.specs.Results.{part_text}
-use Rattle.ill_json.specs.code.Adding.{text_tokens}
 use Rattle.ill_json.proofs.Added.{adds_as, adds_then}
 use Rattle.ill_json.proofs.Results.{place_member, text_member}
 use Rattle.ill_json.proofs.result.put_why.Goals as goal
@@ -11,6 +8,5 @@ pub returns : goal.returns
 returns c =
     let cause = adds_as _ _ _ _ (ap (λ (t : List ℕ). string t ∷ []) c.name.ensures) c.put-3.ensures in
     let kind = adds_as _ _ _ _ (ap (λ (t : List ℕ). string t ∷ []) c.name-2.ensures) c.put-6.ensures in
-    let part = adds_as _ _ _ _ (ap (λ (p : Option PartId). text_tokens (codes "part") (part_text p)) c.part_of_cause.ensures) c.put_part.ensures in
     adds_then _ _ _ _ _ c.put.ensures (adds_then _ _ _ _ _ c.put-2.ensures (adds_then _ _ _ _ _ cause (adds_then _ _ _ _ _ c.put-4.ensures (adds_then _ _ _ _ _ c.count.ensures
-    (adds_then _ _ _ _ _ c.put-5.ensures (adds_then _ _ _ _ _ kind (adds_as _ _ _ _ (text_member (codes "part") _ _) (adds_then _ _ _ _ _ part (adds_as _ _ _ _ (place_member c.args.place.now) (adds_then _ _ _ _ _ c.put_place.ensures c.put-7.ensures))))))))))
+    (adds_then _ _ _ _ _ c.put-5.ensures (adds_then _ _ _ _ _ kind (adds_as _ _ _ _ (text_member (codes "part") _ _) (adds_then _ _ _ _ _ c.put_part_name.ensures (adds_as _ _ _ _ (place_member c.args.place.now) (adds_then _ _ _ _ _ c.put_place.ensures c.put-7.ensures))))))))))

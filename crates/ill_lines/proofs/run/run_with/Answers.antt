@@ -34,13 +34,13 @@ returns-in-Err-clause-fails g c =
       ends_read c.args.work now.0 now.2.2.rest c.loop.lines.is_good (g.R.Source.is_broken c.take.new.self) _ first held now.2.0 made now.2.1 now.2.2.unended (c.in-Err.ensures.breaks.0 refl),
     )
 
-pub returns-in_err-pass-clause-fails : goal.returns-in_err-pass-clause-fails
-returns-in_err-pass-clause-fails g c =
+pub returns-in_err-feed_and_put-clause-fails : goal.returns-in_err-feed_and_put-clause-fails
+returns-in_err-feed_and_put-clause-fails g c =
     let now = c.loop.invariant.taken in
     let p = err_from_is_err_and c.from_residual.result c.from_residual.ensures.1 in
     let more = take c.in-Ok.count c.take.new.buffer in
     let taken = Consumes-trans (g.R.Source.left c.args.source.now) (g.R.Source.left c.loop.source) (g.R.Source.left c.take.new.self) now.0 more now.1 c.in-Ok.ensures.octets.0 in
-    rw (p.1, p.2) (now.0 ++ more, taken, c.in_err-pass.ensures.fails now.0 (g.W.Sink.contents c.args.sink.now) (g.R.Source.is_broken c.take.new.self) now.2)
+    rw (p.1, p.2) (now.0 ++ more, taken, c.in_err-feed_and_put.ensures.fails now.0 (g.W.Sink.contents c.args.sink.now) (g.R.Source.is_broken c.take.new.self) now.2)
 
 pub loop-preserved : goal.loop-preserved
 loop-preserved g c =
@@ -48,9 +48,9 @@ loop-preserved g c =
     let more = take c.in-Ok.count c.take.new.buffer in
     let taken = Consumes-trans (g.R.Source.left c.args.source.now) (g.R.Source.left c.loop.source) (g.R.Source.left c.take.new.self) now.0 more now.1 c.in-Ok.ensures.octets.0 in
     record {
-      taken = (now.0 ++ more, taken, c.in_ok-pass.ensures.done now.0 (g.W.Sink.contents c.args.sink.now) now.2);
+      taken = (now.0 ++ more, taken, c.in_ok-feed_and_put.ensures.done now.0 (g.W.Sink.contents c.args.sink.now) now.2);
       source_stays = λ t. c.take.ensures.stays (c.loop.invariant.source_stays t);
-      sink_stays = λ t. c.pass.ensures.stays (c.loop.invariant.sink_stays t);
+      sink_stays = λ t. c.feed_and_put.ensures.stays (c.loop.invariant.sink_stays t);
     }
 
 pub returns-clause-fails : goal.returns-clause-fails

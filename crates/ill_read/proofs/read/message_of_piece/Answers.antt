@@ -13,8 +13,8 @@ pub returns-in-Ok-true : goal.returns-in-Ok-true
 returns-in-Ok-true c =
     let w = c.args.octets.now in
     let ok : IsTrue (are_octets w) = octets_fit w (λ k. let small : get_or w k 0 < 256 = omega (arith, c.type_inv.octets k) in small) in
-    let came = c.outcome.ensures Two w (drop c.read_elements.result w) (c.read_elements.ensures.stopped Two w (runs Two AreValues (λ p values a n. AreMessage values a n) c.new-reader.result w ok (c.new-reader.ensures.«open» c.new.ensures))) in
-    let read = subst (λ (e : Result Bool Failure). HasOutcome Two (λ p values a n. AreMessage values a n) c.read_elements.new.self w e) (c.in-Ok-true.is ∙ ap Ok c.in-Ok-true.field-0-test) came in
+    let outcome = c.outcome.ensures Two w (drop c.read_elements.result w) (c.read_elements.ensures.stopped Two w (runs Two AreValues (λ p values a n. AreMessage values a n) c.new-reader.result w ok (c.new-reader.ensures.«open» c.new.ensures))) in
+    let read = subst (λ (e : Result Bool Failure). HasOutcome Two (λ p values a n. AreMessage values a n) c.read_elements.new.self w e) (c.in-Ok-true.is ∙ ap Ok c.in-Ok-true.field-0-test) outcome in
     let m = message_is c.read_elements.new.self w read in
     subst (λ x. HasBegun w (Ok x)) (sym (c.into_message.ensures ∙ ap (λ (v : ValueDraft). v.message) c.into_draft.ensures ∙ m.1)) m.2
 
@@ -22,12 +22,12 @@ pub returns-in-Ok-false : goal.returns-in-Ok-false
 returns-in-Ok-false c =
     let w = c.args.octets.now in
     let ok : IsTrue (are_octets w) = octets_fit w (λ k. let small : get_or w k 0 < 256 = omega (arith, c.type_inv.octets k) in small) in
-    let came = c.outcome.ensures Two w (drop c.read_elements.result w) (c.read_elements.ensures.stopped Two w (runs Two AreValues (λ p values a n. AreMessage values a n) c.new-reader.result w ok (c.new-reader.ensures.«open» c.new.ensures))) in
-    subst (λ (e : Result Bool Failure). HasOutcome Two (λ p values a n. AreMessage values a n) c.read_elements.new.self w e) (c.in-Ok-false.is ∙ ap Ok c.in-Ok-false.field-0-test) came
+    let outcome = c.outcome.ensures Two w (drop c.read_elements.result w) (c.read_elements.ensures.stopped Two w (runs Two AreValues (λ p values a n. AreMessage values a n) c.new-reader.result w ok (c.new-reader.ensures.«open» c.new.ensures))) in
+    subst (λ (e : Result Bool Failure). HasOutcome Two (λ p values a n. AreMessage values a n) c.read_elements.new.self w e) (c.in-Ok-false.is ∙ ap Ok c.in-Ok-false.field-0-test) outcome
 
 pub returns-in-Err : goal.returns-in-Err
 returns-in-Err c =
     let w = c.args.octets.now in
     let ok : IsTrue (are_octets w) = octets_fit w (λ k. let small : get_or w k 0 < 256 = omega (arith, c.type_inv.octets k) in small) in
-    let came = c.outcome.ensures Two w (drop c.read_elements.result w) (c.read_elements.ensures.stopped Two w (runs Two AreValues (λ p values a n. AreMessage values a n) c.new-reader.result w ok (c.new-reader.ensures.«open» c.new.ensures))) in
-    subst (λ (e : Result Bool Failure). HasOutcome Two (λ p values a n. AreMessage values a n) c.read_elements.new.self w e) c.in-Err.is came
+    let outcome = c.outcome.ensures Two w (drop c.read_elements.result w) (c.read_elements.ensures.stopped Two w (runs Two AreValues (λ p values a n. AreMessage values a n) c.new-reader.result w ok (c.new-reader.ensures.«open» c.new.ensures))) in
+    subst (λ (e : Result Bool Failure). HasOutcome Two (λ p values a n. AreMessage values a n) c.read_elements.new.self w e) c.in-Err.is outcome

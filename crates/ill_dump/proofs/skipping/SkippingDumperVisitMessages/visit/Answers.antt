@@ -10,7 +10,7 @@ use Rattle.ill_normal.specs.declared.visit.MessageCounts.{MessageCounts}
 use Rattle.ill_normal.proofs.Visits.{on_last, on_next}
 use Rattle.ill_dump.specs.Skipping.{DumpsOn}
 use Rattle.ill_dump.specs.code.Dumping.{HasDumpedOn, dump_counts}
-use Rattle.ill_dump.proofs.SkippedMessages.{halts_unread, over_bad, over_good, over_halts, over_lost}
+use Rattle.ill_dump.proofs.SkippedMessages.{stops_unread, over_bad, over_good, over_stops, over_lost}
 use Rattle.ill_dump.proofs.skipping.SkippingDumperVisitMessages.visit.Goals as goal
 
 pub returns-in-Err-clause-visits : goal.returns-in-Err-clause-visits
@@ -18,7 +18,7 @@ returns-in-Err-clause-visits g c = λ start. record {
   next = λ from h. tt;
   last = λ from h. tt;
   stops = λ from h. rw (sym h.0, c.fault_of_take.ensures)
-      (over_halts _ from.left _ _ from.held _ None from.reported _ None _ _ _ _ c.args.counts h.1 _ _ (halts_unread c.args.self.now.dump _ _ _ None _ _ _ c.in-Err.unread c.requires.few c.in-Err.ensures.broken));
+      (over_stops _ from.left _ _ from.held _ None from.reported _ None _ _ _ _ c.args.counts h.1 _ _ (stops_unread c.args.self.now.dump _ _ _ None _ _ _ c.in-Err.unread c.requires.few c.in-Err.ensures.broken));
 }
 
 pub returns-in_ok-put_message-in-Read-clause-visits : goal.returns-in_ok-put_message-in-Read-clause-visits

@@ -10,7 +10,7 @@ use Rattle.ill_grammar.specs.Begun as begun
 use Rattle.ill_grammar.specs.Cells.{levels_in}
 use Rattle.ill_grammar.specs.Due.{element_as, found_as, read_as}
 use Rattle.ill_grammar.specs.Elements.{element_is}
-use Rattle.ill_grammar.specs.Places.{IsDue, next_at, node_in, node_of, part_in, part_of, type_of}
+use Rattle.ill_grammar.specs.Places.{IsDueWithTag, next_at, node_at, node_of, part_in, part_of, type_of}
 use Rattle.ill_grammar.specs.Two.{is_found_of}
 use Rattle.ill_grammar.specs.code.ByTag.{due_by_tag}
 use Rattle.ill_grammar.specs.code.Judging.{IsBegin, IsFormed, WhereItStands}
@@ -32,12 +32,12 @@ foreign_formed f constructed is = (
 pub returns-clause-begun : goal.returns-clause-begun
 returns-clause-begun c id = go c.find_any.result (c.find_any.ensures.due (tag_of_id id)) c.find_any.ensures.open c.find_any.ensures.foreign
   where
-    go : (o : Option Found) → (due_by_tag (tag_of_id id) (next_at c.place.result) ≡ None → MatchOption o (due profile_two (tag_of_id id) (next_at c.place.result) ≡ None) (λ f. IsDue (tag_of_id id) c.place.result f))
-        → IfSome o (λ _. kind_of (node_in c.place.result) ≡ Kind.Any) → IfSome o (λ f. type_of f ≡ ElementType.Foreign)
+    go : (o : Option Found) → (due_by_tag (tag_of_id id) (next_at c.place.result) ≡ None → MatchOption o (due profile_two (tag_of_id id) (next_at c.place.result) ≡ None) (λ f. IsDueWithTag (tag_of_id id) c.place.result f))
+        → IfSome o (λ _. kind_of (node_at c.place.result) ≡ Kind.Any) → IfSome o (λ f. type_of f ≡ ElementType.Foreign)
         → IfSome o (λ f. WhereItStands c.args.self.now (λ place. IsBegin c.args.self.now place (tag_of_id id) f (form_of_id id)))
     go None is_due any is = tt
     go (Some f) is_due any is = λ place h.
-        let here = is_due (any-by-tag (tag_of_id id) (part_in c.place.result) (node_in c.place.result) c.place.result.position any) in
+        let here = is_due (any-by-tag (tag_of_id id) (part_in c.place.result) (node_at c.place.result) c.place.result.position any) in
         let shallow : length place < 32 = omega (arith, c.depth.ensures, frames_open c.args.self.now.profile place _ _ h.1, c.args.self.now.few, c.if-depth-eq-MAX_DEPTH.false) in
         formed_judged c.args.self.now place c.place.result id f h shallow c.place.ensures.shape (is-coming (tag_of_id id) c.place.result f here) (foreign_formed f (form_of_id id) is)
 
@@ -51,6 +51,6 @@ returns-clause-foreign c = go c.find_any.result c.find_any.ensures.foreign
 pub returns-clause-is_of : goal.returns-clause-is_of
 returns-clause-is_of c = go c.find_any.result c.find_any.ensures.open
   where
-    go : (o : Option Found) → IfSome o (λ _. kind_of (node_in c.place.result) ≡ Kind.Any) → IfSome o (λ f. IsTrue (is_found_of c.args.self.now.profile f))
+    go : (o : Option Found) → IfSome o (λ _. kind_of (node_at c.place.result) ≡ Kind.Any) → IfSome o (λ f. IsTrue (is_found_of c.args.self.now.profile f))
     go None any = tt
-    go (Some f) any = found_of c.args.self.now.profile c.place.result f c.place.ensures.is_of (λ two. absurd (two_not_any (node_in c.place.result) two any))
+    go (Some f) any = found_of c.args.self.now.profile c.place.result f c.place.ensures.is_of (λ two. absurd (two_not_any (node_at c.place.result) two any))

@@ -5,7 +5,7 @@ use Rattle.ill_grammar.specs.Cells.{due_at, is_placed, next_from}
 use Rattle.ill_grammar.specs.Places.{PlaceView, due_of, element_found, place_after, slot_of}
 use Rattle.ill_grammar.specs.declared.place.Found.{Found}
 use Rattle.ill_grammar.specs.declared.cell.EntryRole.{EntryRole}
-use Rattle.ill_grammar.proofs.Going.{after-foreign, after-item, after-root, after-row, after-segment}
+use Rattle.ill_grammar.proofs.FirstAndAfter.{after-foreign, after-item, after-root, after-row, after-segment}
 use Rattle.ill_grammar.proofs.place.Found.after.Goals as goal
 
 -- the next of the place after what was found is what comes after it

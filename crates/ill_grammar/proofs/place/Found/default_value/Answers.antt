@@ -1,6 +1,6 @@
 use Rattle.std.proofs.Common.{rules, ◌≡◌, Some, option_map, pos, to_z, w64, sym, ap, ◌∙◌}
 use Rattle.ill_grammar.specs.Places.{element_found}
-use Rattle.ill_grammar.proofs.Going.{default-due}
+use Rattle.ill_grammar.proofs.FirstAndAfter.{default-due}
 use Rattle.ill_grammar.proofs.place.Found.default_value.Goals as goal
 
 pub returns-in-Some : goal.returns-in-Some

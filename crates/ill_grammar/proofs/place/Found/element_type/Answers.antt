@@ -1,5 +1,5 @@
 use Rattle.ill_grammar.specs.Places.{element_found}
-use Rattle.ill_grammar.proofs.Going.{element-due}
+use Rattle.ill_grammar.proofs.FirstAndAfter.{element-due}
 use Rattle.ill_grammar.proofs.place.Found.element_type.Goals as goal
 
 pub returns-clause-element : goal.returns-clause-element

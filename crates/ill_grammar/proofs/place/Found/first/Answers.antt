@@ -3,7 +3,7 @@ use Rattle.ber_leaf.specs.Profile.{profile_two}
 use Rattle.ill_refusals.specs.Next.{opening}
 use Rattle.ill_grammar.specs.Cells.{next_from}
 use Rattle.ill_grammar.specs.Places.{PlaceView, element_found}
-use Rattle.ill_grammar.proofs.Going.{element-due, first-opens}
+use Rattle.ill_grammar.proofs.FirstAndAfter.{element-due, first-opens}
 use Rattle.ill_grammar.proofs.place.Found.first.Goals as goal
 
 pub returns-clause-place : goal.returns-clause-place

@@ -5,7 +5,7 @@ use Rattle.ill_normal.specs.Skipping.{SkipsToEnd, reporting}
 use Rattle.ill_normal.specs.Visiting.{Streams}
 use Rattle.ill_normal.specs.code.SkippingEnds.{HasSkipped, skipping_counts}
 use Rattle.ill_normal.specs.declared.visit.MessageCounts.{MessageCounts}
-use Rattle.ill_normal.proofs.SkippedMessages.{halts_unread, halts_writing, skipped_bad, skipped_good, through_end, through_lost}
+use Rattle.ill_normal.proofs.SkippedMessages.{stops_unread, stops_writing, skipped_bad, skipped_good, through_end, through_lost}
 use Rattle.ill_normal.proofs.Visits.{on_last, on_next}
 use Rattle.ill_normal.proofs.skipping.AcceptedWriterVisitMessages.visit.Goals as goal
 
@@ -22,7 +22,7 @@ pub returns-in-Err-clause-visits : goal.returns-in-Err-clause-visits
 returns-in-Err-clause-visits g c = λ start. record {
   next = λ from h. tt;
   last = λ from h. tt;
-  stops = λ from h. rw (sym h.0, c.stopped.ensures, c.why.ensures) (halts_unread _ _ _ from.left _ _ from.held _ None from.reported _ None _ _ _ _ _ _ h.1 c.in-Err.unread c.requires.few c.in-Err.ensures.broken);
+  stops = λ from h. rw (sym h.0, c.stopped.ensures, c.why.ensures) (stops_unread _ _ _ from.left _ _ from.held _ None from.reported _ None _ _ _ _ _ _ h.1 c.in-Err.unread c.requires.few c.in-Err.ensures.broken);
 }
 
 pub returns-in-Ok-clause-visits : goal.returns-in-Ok-clause-visits
@@ -48,7 +48,7 @@ returns-in-Err-put-clause-visits g c = λ start.
     record {
       next = λ from h. tt;
       last = λ from h. tt;
-      stops = λ from h. rw (sym h.0, c.stopped-in-Err-put.ensures) (halts_writing _ _ _ from.left _ _ from.held _ _ from.reported _ None _ _ _ _ _ _ h.1 _ c.in-Read.piece c.in-Err-put.count c.requires.few made some fewer broken);
+      stops = λ from h. rw (sym h.0, c.stopped-in-Err-put.ensures) (stops_writing _ _ _ from.left _ _ from.held _ _ from.reported _ None _ _ _ _ _ _ h.1 _ c.in-Read.piece c.in-Err-put.count c.requires.few made some fewer broken);
     }
 
 pub returns-in-Refused-clause-visits : goal.returns-in-Refused-clause-visits

@@ -32,7 +32,7 @@ returns c =
     let found = c.args.reading.found in
     let octets = c.args.content.now in
     let new : OutlineDraft = record { octets = c.module_element.new.self; marks = c.push.new.self } in
-    let joined = octets_joined octets c.lead.new.marks.items _ c.begin.new.marks.items c.put_octets.new.marks.items c.push.new.self.items c.in_ok-begin.ensures c.in_ok-put_octets.ensures c.in_ok-push.ensures.items in
-    outline_element c.args.profile c.args.self.now new (shape c.args.place) c.args.reading octets c.lead.new.marks.items c.requires.other c.requires.content c.in_ok-module_element.ensures c.in_ok-lead.ensures
-    (joined ∙ ap (λ e. c.lead.new.marks.items ++ (first_marks (first_of e) e ++ (map mark.Octet octets ++ mark.End ∷ []))) c.of-element.ensures.element
-    ∙ ap (λ ms. c.lead.new.marks.items ++ ms) (sym (element_marks (read_as found) octets (λ m s. c.in_default.not-Foreign m (c.of-element.ensures.element ∙ s)))))
+    let joined = octets_joined octets c.mark_preceding.new.marks.items _ c.mark_start.new.marks.items c.mark_octets.new.marks.items c.push.new.self.items c.in_ok-mark_start.ensures c.in_ok-mark_octets.ensures c.in_ok-push.ensures.items in
+    outline_element c.args.profile c.args.self.now new (shape c.args.place) c.args.reading octets c.mark_preceding.new.marks.items c.requires.other c.requires.content c.in_ok-module_element.ensures c.in_ok-mark_preceding.ensures
+    (joined ∙ ap (λ e. c.mark_preceding.new.marks.items ++ (first_marks (first_of e) e ++ (map mark.Octet octets ++ mark.End ∷ []))) c.of-element.ensures.element
+    ∙ ap (λ ms. c.mark_preceding.new.marks.items ++ ms) (sym (element_marks (read_as found) octets (λ m s. c.in_default.not-Foreign m (c.of-element.ensures.element ∙ s)))))

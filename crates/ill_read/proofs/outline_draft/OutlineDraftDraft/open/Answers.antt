@@ -7,7 +7,7 @@ use Rattle.ill_read.specs.code.Outlines.{first_marks}
 use Rattle.ill_read.specs.declared.outline_draft.OutlineDraft.{OutlineDraft}
 use Rattle.ill_read.proofs.Outlines.{outline_opened, outline_segment}
 use Rattle.ill_read.proofs.outline_draft.OutlineDraftDraft.open.Goals as goal
-use Rattle.ill_read.proofs.outline_draft.OutlineDraftDraft.open.Goals.{in-Segment, in_default+in_ok-lead-in_default+in_ok-begin-in_default}
+use Rattle.ill_read.proofs.outline_draft.OutlineDraftDraft.open.Goals.{in-Segment, in_default+in_ok-mark_preceding-in_default+in_ok-mark_start-in_default}
 
 pub returns : goal.returns
 returns c =
@@ -21,11 +21,11 @@ returns c =
           (elim w.in-Segment.is [ inl x ↦ inl (sym c.of-element.ensures.element ∙ x) | inr x ↦ inr (sym c.of-element.ensures.element ∙ x) ])
           (subst (λ (d : OutlineDraft). HasOpened AreOctets d.octets next c.args.opening contents_start c.open.new.self) w.self-is h) (ap (λ (d : OutlineDraft). d.marks) w.self-is))
           c.open.ensures
-      | in_default+in_ok-lead-in_default+in_ok-begin-in_default w ↦
-          let e = ap (λ (d : OutlineDraft). d.marks.items) w.self-is ∙ w.in_ok-begin-in_default.ensures ∙ ap (λ x. w.lead.new.marks.items ++ first_marks (first_of x) x) c.of-element.ensures.element in
+      | in_default+in_ok-mark_preceding-in_default+in_ok-mark_start-in_default w ↦
+          let e = ap (λ (d : OutlineDraft). d.marks.items) w.self-is ∙ w.in_ok-mark_start-in_default.ensures ∙ ap (λ x. w.mark_preceding.new.marks.items ++ first_marks (first_of x) x) c.of-element.ensures.element in
           IfOk-weaker c.open.result _ _
-          (λ contents_start h. outline_opened old new next c.args.opening contents_start w.lead.new.marks.items
+          (λ contents_start h. outline_opened old new next c.args.opening contents_start w.mark_preceding.new.marks.items
           (λ s. w.in_default.not-Segment (c.of-element.ensures.element ∙ s), λ s. w.in_default.not-BitSegment (c.of-element.ensures.element ∙ s))
-          (subst (λ (d : OutlineDraft). HasOpened AreOctets d.octets next c.args.opening contents_start c.open.new.self) w.self-is h) w.in_ok-lead-in_default.ensures e)
+          (subst (λ (d : OutlineDraft). HasOpened AreOctets d.octets next c.args.opening contents_start c.open.new.self) w.self-is h) w.in_ok-mark_preceding-in_default.ensures e)
           c.open.ensures
     ]

@@ -4,5 +4,5 @@ use Rattle.ill_read.proofs.outline_draft.OutlineDraftDraft.text.Goals as goal
 
 pub returns : goal.returns
 returns c =
-    IfOk-weaker c.put_octets.result _ _
-    (λ x h. outline_text c.args.self.now (record { octets = c.text.new.self; marks = c.put_octets.new.marks }) c.args.octets.now c.in_ok-text.ensures h) c.put_octets.ensures
+    IfOk-weaker c.mark_octets.result _ _
+    (λ x h. outline_text c.args.self.now (record { octets = c.text.new.self; marks = c.mark_octets.new.marks }) c.args.octets.now c.in_ok-text.ensures h) c.mark_octets.ensures

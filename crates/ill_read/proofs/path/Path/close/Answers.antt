@@ -1,6 +1,6 @@
 use Rattle.std.proofs.Common.{◌≡◌, ◌⊎◌, Ok, Err, inl, inr, ◌∙◌, refl, sym, subst}
 use Rattle.std.specs.Prelude.{⊤}
-use Rattle.ill_refusals.specs.code.Step.{moved}
+use Rattle.ill_refusals.specs.code.Step.{step_after}
 use Rattle.ill_grammar.specs.Due.{read_as}
 use Rattle.ill_grammar.specs.Two.{is_found_of}
 use Rattle.ill_grammar.specs.declared.element.Element.TheVariants.{BitSegment, Segment}
@@ -21,7 +21,7 @@ pub returns-in_err-close-clause-exact : goal.returns-in_err-close-clause-exact
 returns-in_err-close-clause-exact g c p place marks at rest j stands end =
     let new : Path _ = record { frames = c.pop-frame.new.self; draft = c.close.new.self } in
     let checks = subst (λ q. ChecksText q g.D.Draft.holds c.args.self.now.draft c.pop-frame.result (Err c.in_err-close.field-0.0)) (c.pop-frame.ensures.profile ∙ stands.3) c.in_err-close.ensures.text in
-    handed_on (λ r. IsStep p g.D.Draft.holds new r (moved j place at rest)) c.from_residual.result c.in_err-close.field-0.0 c.from_residual.ensures.1
+    handed_on (λ r. IsStep p g.D.Draft.holds new r (step_after j place at rest)) c.from_residual.result c.in_err-close.field-0.0 c.from_residual.ensures.1
     (element_refused p g.D.Draft.holds c.args.self.now c.pop-frame.new.self.open.items c.pop-frame.result new place marks at rest j c.in_err-close.field-0.0 stands end c.pop-frame.ensures.rest
     c.pop-frame.ensures.last (λ s. c.in_default.not-Segment (c.of.ensures.element ∙ s), λ s. c.in_default.not-BitSegment (c.of.ensures.element ∙ s)) checks)
 
@@ -31,12 +31,12 @@ returns-clause-exact g c p place marks at rest j stands end =
     let checks = λ (x : ⊤). subst (λ q. ChecksText q g.D.Draft.holds c.args.self.now.draft c.pop-frame.result (Ok x)) profile c.in_ok-close.ensures.text in
     let closed = subst (λ q. HasClosed q g.D.Draft.holds c.args.self.now.draft c.pop-frame.result (next_at q c.pop-frame.new.self.open.items) c.close.new.self) profile
     (subst (λ n. HasClosed c.pop-frame.new.self.profile g.D.Draft.holds c.args.self.now.draft c.pop-frame.result n c.close.new.self) c.place.ensures.shape c.in_ok-close.ensures.closed) in
-    element_closed p g.D.Draft.holds c.args.self.now c.pop-frame.new.self.open.items c.pop-frame.result c.close.new.self c.pass.new.self place marks at rest j c.pass.result stands end c.pop-frame.ensures.rest
+    element_closed p g.D.Draft.holds c.args.self.now c.pop-frame.new.self.open.items c.pop-frame.result c.close.new.self c.move_to.new.self place marks at rest j c.move_to.result stands end c.pop-frame.ensures.rest
     c.pop-frame.ensures.last (λ s. c.in_default.not-Segment (c.of.ensures.element ∙ s), λ s. c.in_default.not-BitSegment (c.of.ensures.element ∙ s)) checks closed
-    c.after.result c.after.ensures.place c.pass.ensures.passed (c.pass.ensures.profile ∙ c.pop-frame.ensures.profile) c.pass.ensures.draft
+    c.after.result c.after.ensures.place c.move_to.ensures.passed (c.move_to.ensures.profile ∙ c.pop-frame.ensures.profile) c.move_to.ensures.draft
 
-pub pass-requires : goal.pass-requires
-pass-requires g c =
+pub move_to-requires : goal.move_to-requires
+move_to-requires g c =
     let found = c.pop-frame.result.found in
     let is_of = closed_of c.args.self.now.frames.profile c.pop-frame.result c.pop-frame.ensures.is_of in
     record { is_of = after_of c.pop-frame.new.self.profile found c.after.result (subst (λ q. is_found_of q found ≡ _) (sym c.pop-frame.ensures.profile) is_of) c.after.ensures.place }

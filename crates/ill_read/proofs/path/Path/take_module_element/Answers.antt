@@ -24,8 +24,8 @@ returns-clause-exact g c p place header at rest stands begin =
     let ok : IsTrue (are_octets content) = octets_fit content (λ k. let small : get_or content k 0 < 256 = omega (arith, c.type_inv.content k) in small) in
     let sound = sym (c.in_default.ensures ∙ ap (λ e. element_fault (profile_of old.frames.profile) (element_is e) content) c.of.ensures.element) in
     let right = subst (λ q. IsRightContent q e content) stands.3 (ok, sound) in
-    let has = subst (λ d. HasModuleElement old.frames.profile g.D.Draft.holds old.draft (shape c.place.result) c.args.reading content d) (sym c.pass.ensures.draft) c.in_ok-module_element.ensures in
-    module_element_read p g.D.Draft.holds old c.pass.new.self place c.args.reading c.args.start content c.pass.result header at rest stands begin c.requires.other right
-    (subst (λ q. HasModuleElement q g.D.Draft.holds old.draft (next_at q old.frames.open.items) c.args.reading content c.pass.new.self.draft) stands.3
-    (subst (λ n. HasModuleElement old.frames.profile g.D.Draft.holds old.draft n c.args.reading content c.pass.new.self.draft) c.place.ensures.shape has))
-    c.pass.ensures.profile c.after.result c.after.ensures.place c.pass.ensures.passed
+    let has = subst (λ d. HasModuleElement old.frames.profile g.D.Draft.holds old.draft (shape c.place.result) c.args.reading content d) (sym c.move_to.ensures.draft) c.in_ok-module_element.ensures in
+    module_element_read p g.D.Draft.holds old c.move_to.new.self place c.args.reading c.args.start content c.move_to.result header at rest stands begin c.requires.other right
+    (subst (λ q. HasModuleElement q g.D.Draft.holds old.draft (next_at q old.frames.open.items) c.args.reading content c.move_to.new.self.draft) stands.3
+    (subst (λ n. HasModuleElement old.frames.profile g.D.Draft.holds old.draft n c.args.reading content c.move_to.new.self.draft) c.place.ensures.shape has))
+    c.move_to.ensures.profile c.after.result c.after.ensures.place c.move_to.ensures.passed

@@ -1,6 +1,6 @@
 use Rattle.ill_schema.specs.Profiles.{profile_of}
 use Rattle.std.proofs.Common.{refl, sym, subst, Ok, false}
-use Rattle.ill_refusals.specs.code.Step.{moved}
+use Rattle.ill_refusals.specs.code.Step.{step_after}
 use Rattle.ill_read.specs.code.Judged.{IsStep}
 use Rattle.ill_read.specs.code.Progress.{Opens}
 use Rattle.ill_read.specs.Answers.{IsRefusedIn}
@@ -9,7 +9,7 @@ use Rattle.ill_read.proofs.reader.Reader.open.Goals as goal
 pub returns-in-Ok-clause-goes : goal.returns-in-Ok-clause-goes
 returns-in-Ok-clause-goes g c p s rest can progress =
     let d = c.args.self.now in let b = can.0 in
-    let made = subst (λ x. IsStep p g.D.Draft.holds c.open.new.self (Ok false) (moved x b.place d.at rest)) (sym can.1.1) (c.in-Ok.ensures.exact p b.place b.stands can.1.0) in
+    let made = subst (λ x. IsStep p g.D.Draft.holds c.open.new.self (Ok false) (step_after x b.place d.at rest)) (sym can.1.1) (c.in-Ok.ensures.exact p b.place b.stands can.1.0) in
     c.move_on.ensures.goes p (subst g.D.Draft.takes b.stands.3 c.requires.takes) d.path s rest (Opens c.args.opening) b progress can.1 refl made
 
 pub returns-in-Err-clause-goes : goal.returns-in-Err-clause-goes

@@ -5,7 +5,7 @@ use Rattle.ill_refusals.specs.Fault.{element_fault}
 use Rattle.ill_refusals.specs.code.Judge.{judge, or_faulty, reads}
 use Rattle.ill_grammar.specs.Due.{read_as}
 use Rattle.ill_grammar.specs.Elements.{element_is}
-use Rattle.ill_refusals.specs.code.Step.{moved}
+use Rattle.ill_refusals.specs.code.Step.{step_after}
 use Rattle.ill_read.specs.code.Judged.{IsJudgement, IsStep}
 use Rattle.ill_grammar.specs.code.Judging.{content_in}
 use Rattle.ill_read.specs.code.Progress.{Reads}
@@ -27,7 +27,7 @@ returns-in-Ok-clause-goes g c p s rest more b joined judged =
     (judged.0, judged.1 ∙ ap (λ x. or_faulty (element_fault (profile_of p) (element_is (read_as r.found)) x) d.at (reads (tag_of_id r.id) r.header x)) further) in
     let made = reads_judged p g.D.Draft.holds d.path c.take.new.self b.place r d.at rest (judge (profile_of p) b.place d.at rest) c.take.result b.stands at_rest
     (subst (λ x. ReadsExactly g.D.Draft.holds d.path r d.at x c.take.new.self c.take.result) (taken r.header r.size octets ∙ further) c.take.ensures.exact) in
-    c.move_on.ensures.goes p (subst g.D.Draft.takes b.stands.3 c.requires.takes) d.path s rest (Reads r) b (c.requires.header.0, omega (arith, c.requires.header.1, ap length joined, length-append octets more)) at_rest refl (subst (λ x. IsStep p g.D.Draft.holds c.take.new.self x (moved (judge (profile_of p) b.place d.at rest) b.place d.at rest)) c.in-Ok.is made)
+    c.move_on.ensures.goes p (subst g.D.Draft.takes b.stands.3 c.requires.takes) d.path s rest (Reads r) b (c.requires.header.0, omega (arith, c.requires.header.1, ap length joined, length-append octets more)) at_rest refl (subst (λ x. IsStep p g.D.Draft.holds c.take.new.self x (step_after (judge (profile_of p) b.place d.at rest) b.place d.at rest)) c.in-Ok.is made)
 
 pub returns-in-Err-clause-goes : goal.returns-in-Err-clause-goes
 returns-in-Err-clause-goes g c p s rest more b joined judged =
@@ -40,4 +40,4 @@ returns-in-Err-clause-goes g c p s rest more b joined judged =
     (subst (λ x. ReadsExactly g.D.Draft.holds d.path r d.at x c.take.new.self c.take.result) (taken r.header r.size octets ∙ further) c.take.ensures.exact) in
     c.fail.ensures.goes p s rest (is_refused p g.D.Draft.holds d.path c.take.new.self d.at s rest (Reads r) c.in-Err.failure b
     (c.requires.header.0, omega (arith, c.requires.header.1, ap length joined, length-append octets more)) at_rest
-    (subst (λ x. IsStep p g.D.Draft.holds c.take.new.self x (moved (judge (profile_of p) b.place d.at rest) b.place d.at rest)) c.in-Err.is made))
+    (subst (λ x. IsStep p g.D.Draft.holds c.take.new.self x (step_after (judge (profile_of p) b.place d.at rest) b.place d.at rest)) c.in-Err.is made))

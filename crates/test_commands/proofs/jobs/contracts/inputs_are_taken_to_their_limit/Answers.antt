@@ -1,8 +1,8 @@
-use Rattle.std.proofs.Common.{◌≡◌, ◌+◌, ◌<◌, ◌≤◌, ℕ, Bool, false, List, [], ◌∷◌, ◌++◌, length, Option, Some, None, Result, Ok, Err, ap, subst, arith, length-append}
+use Rattle.std.proofs.Common.{◌≡◌, ◌+◌, ◌≤◌, ℕ, Bool, List, [], ◌∷◌, length, Option, Some, None, Result, Ok, Err, ap, subst, arith, length-append}
 use Rattle.std.specs.Prelude.{IfOk, IfErr}
 use Rattle.std.specs.Io.KnownBytes.{Consumes, Keeps}
 use Rattle.ill_normal.specs.Calls.{taking, putting}
-use Rattle.ill_commands.specs.Runs.{Done, RunDone, RunFails, StopsAfter}
+use Rattle.ill_commands.specs.Runs.{Done, RunDone, RunFails, JobStopsAfter}
 use Rattle.ill_normal.specs.declared.run_fault.RunFault.{RunFault}
 use Rattle.ill_commands.specs.declared.job.Counts.{Counts}
 use Rattle.ill_normal.specs.declared.verdict.Verdict.{Verdict}
@@ -30,13 +30,13 @@ module _ (work : JobOptions) (s t : List ℕ) (x y : Bool) (held held' : Option 
   done : (v : Verdict) → Done work (Some s) (Some t) held held' counts v → length s ≤ counts.octets + 1 + length t
   done v d = omega (arith, ap (λ (c : Counts). c.octets) d.counted, ap length d.writes.taken, length-append d.writes.octets t)
 
-  stops : (e : RunFault) → (h : StopsAfter work (taking (Some s) (Some t) x) (putting held held' y) counts e) → length s ≤ counts.octets + 1 + length t
+  stops : (e : RunFault) → (h : JobStopsAfter work (taking (Some s) (Some t) x) (putting held held' y) counts e) → length s ≤ counts.octets + 1 + length t
   stops e h =
       let all : length h.messages ≡ 1_000_000 = omega (arith, full, ap (λ (c : Counts). c.messages) h.counted) in
       let size = ap (λ (c : Counts). c.octets) h.counted in
       omega (arith, size, taken s h.rest t h.writes.octets h.writes.taken (one e h all))
     where
-      one : (e : RunFault) → (h : StopsAfter work (taking (Some s) (Some t) x) (putting held held' y) counts e) → length h.messages ≡ 1_000_000 → TakesOne h.rest t
+      one : (e : RunFault) → (h : JobStopsAfter work (taking (Some s) (Some t) x) (putting held held' y) counts e) → length h.messages ≡ 1_000_000 → TakesOne h.rest t
       one (RunFault.Refused message refusal) h all = absurd (omega (arith, all, h.stops.1))
       one RunFault.TooManyMessages h all = took_one h.rest t h.stops.1.0 s h.writes.octets h.writes.taken h.stops.1.1
       one RunFault.OutOfMemory h all = absurd (omega (arith, all, h.stops.0))
@@ -47,7 +47,7 @@ module _ (work : JobOptions) (s t : List ℕ) (x y : Bool) (held held' : Option 
       one (RunFault.BadHex i) h all = absurd h.stops
       one RunFault.HexTooLong h all = absurd h.stops
 
-  either : (r : Result Verdict RunFault) → IfOk r (Done work (Some s) (Some t) held held' counts) → IfErr r (StopsAfter work (taking (Some s) (Some t) x) (putting held held' y) counts)
+  either : (r : Result Verdict RunFault) → IfOk r (Done work (Some s) (Some t) held held' counts) → IfErr r (JobStopsAfter work (taking (Some s) (Some t) x) (putting held held' y) counts)
       → length s ≤ counts.octets + 1 + length t
   either (Ok v) d h = done v d
   either (Err e) d h = stops e h

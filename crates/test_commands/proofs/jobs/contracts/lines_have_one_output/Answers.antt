@@ -4,7 +4,7 @@ use Rattle.ill_schema.specs.Profiles.{profile_of}
 use Rattle.ill_normal.specs.Messages.{spelling}
 use Rattle.ill_normal.specs.Hexadecimal.{hex_octets}
 use Rattle.ill_normal.specs.declared.run_fault.RunFault.{RunFault}
-use Rattle.ill_lines.specs.Lines.{Answer, AreAnswers, IsResult, LinesDone, all_good, is_good_message, line_options, lines, message_words, output}
+use Rattle.ill_lines.specs.Lines.{Answer, AreAnswers, IsResult, LinesDone, all_results_good, is_good_message, line_options, lines, message_words, result_lines}
 use Rattle.ill_lines.specs.Words.{refusal_words}
 use Rattle.ill_lines.specs.declared.job.LineOptions.{LineOptions}
 use Rattle.ill_lines.specs.declared.job.LinesFault.{LinesFault}
@@ -23,7 +23,7 @@ one_result work (Ok octets) r q g h (inr a) (inl b) = absurd (refuses_whole octe
 one_result work (Ok octets) r q g h (inr a) (inr b) =
     let e : a.0 ≡ b.0 = refuses_once octets a.0 b.0 a.1 b.1 in (a.2 ∙ ap refusal_words e ∙ sym b.2, a.3 ∙ sym b.3)
 
-one_output : (work : LineOptions) (xs ys : List Answer) → AreAnswers work xs → AreAnswers work ys → map (λ a. a.text) xs ≡ map (λ a. a.text) ys → (output xs ≡ output ys) × (all_good xs ≡ all_good ys)
+one_output : (work : LineOptions) (xs ys : List Answer) → AreAnswers work xs → AreAnswers work ys → map (λ a. a.text) xs ≡ map (λ a. a.text) ys → (result_lines xs ≡ result_lines ys) × (all_results_good xs ≡ all_results_good ys)
 one_output work [] [] h k e = (refl, refl)
 one_output work [] (y ∷ ys) h k e = absurd cc
 one_output work (x ∷ xs) [] h k e = absurd cc

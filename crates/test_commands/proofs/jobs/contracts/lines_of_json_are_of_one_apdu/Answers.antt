@@ -1,5 +1,4 @@
 use Rattle.std.proofs.Common.{◌∙◌, sym, arith}
-use Rattle.ber_leaf.specs.Profile.{profile_two}
 use Rattle.ill_json.proofs.OneToOne.{line_once}
 use Rattle.test_commands.proofs.jobs.contracts.lines_of_json_are_of_one_apdu.Goals as goal
 

@@ -2,7 +2,7 @@ use Rattle.std.proofs.Common.{◌≡◌, ◌↔◌, ◌++◌, ◌∙◌, ℕ, Bo
 use Rattle.ber_leaf.specs.Profile.{Profile}
 use Rattle.ill_schema.specs.Profiles.{profile_of}
 use Rattle.ill_commands.specs.Compared.{ComparesBoth, SameDone, SaysSame, verdict_line}
-use Rattle.ill_normal.specs.Inputs.{IsFault}
+use Rattle.ill_normal.specs.Inputs.{IsResourceFault}
 use Rattle.ill_normal.specs.declared.run_fault.RunFault.{RunFault}
 use Rattle.ill_normal.specs.declared.verdict.Verdict.{Verdict}
 use Rattle.ill_commands.proofs.PairAnswers.{side_is}
@@ -11,7 +11,7 @@ use Rattle.test_commands.proofs.jobs.contracts.pairs_have_one_verdict.Goals as g
 -- what a verdict leaves to another result
 abbrev Follows : Verdict → Result Verdict RunFault → Type 0
 Follows v (Ok w) = v ≡ w
-Follows v (Err e) = IsFault e
+Follows v (Err e) = IsResourceFault e
 
 same_verdict : (v w : Verdict) (P : Type 0) → (v ≡ Verdict.Good) ↔ P → (w ≡ Verdict.Good) ↔ P → v ≡ w
 same_verdict Verdict.Good w P p q = sym (q.1 (p.0 refl))

@@ -3,7 +3,7 @@ use Rattle.ber_leaf.specs.Profile.{Profile}
 use Rattle.ill_schema.specs.Profiles.{profile_of}
 use Rattle.ill_normal.specs.Calls.{taking, putting}
 use Rattle.ill_commands.specs.Compared.{RefusesTexts, SameFails, SameStops}
-use Rattle.ill_normal.specs.Inputs.{IsFault}
+use Rattle.ill_normal.specs.Inputs.{IsResourceFault}
 use Rattle.ill_commands.specs.Runs.{AnswersFault}
 use Rattle.ill_normal.specs.declared.run_fault.RunFault.{RunFault}
 use Rattle.ill_normal.specs.declared.verdict.Verdict.{Verdict}
@@ -22,7 +22,7 @@ odd n s t a b held held' u w z r (inr (inl (o, reads, inl h, k))) texts =
 odd n s t a b held held' u w z r (inr (inl (o, reads, inr h, k))) texts = absurd h
 odd n s t a b held held' u w z r (inr (inr h)) texts = absurd (stopped n (Some s) (Some t) (Some a) (Some b) held held' u w z h)
 
-apart : (i : ℕ) → (RunFault.BadHex i ≡ RunFault.OddHex) ⊎ IsFault (RunFault.BadHex i) → ⊥
+apart : (i : ℕ) → (RunFault.BadHex i ≡ RunFault.OddHex) ⊎ IsResourceFault (RunFault.BadHex i) → ⊥
 apart i (inl e) = absurd cc
 apart i (inr e) = e
 

@@ -1,6 +1,4 @@
-use Rattle.std.proofs.Common.{◌≡◌, ◌≢◌, ℕ, List, ◌++◌, length, Result, Ok, Err, refl, sym, ap, ap₂}
-use Rattle.ill_schema.specs.declared.refusal.Cause.{Cause}
-use Rattle.ill_schema.specs.declared.refusal.Refusal.{Refusal}
+use Rattle.std.proofs.Common.{◌≡◌, ◌≢◌, ℕ, List, ◌++◌, length, Result, Ok, Err, refl, sym, ap}
 use Rattle.ill_schema.specs.Message.{apdu_of}
 use Rattle.ill_refusals.specs.Fault.{fault_of}
 use Rattle.ill_refusals.proofs.Refusals.{same_refusal}

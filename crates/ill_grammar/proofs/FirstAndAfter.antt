@@ -16,8 +16,8 @@ use Rattle.ill_schema.specs.Table.{kind_of}
 use Rattle.ill_schema.specs.Tagging.{same_tag}
 use Rattle.ill_refusals.specs.Element.{Component, components, Element, leaf, sequence, list, wrapper, loose_wrapper, segment, foreign, left_out}
 use Rattle.ill_refusals.specs.Next.{Next, rows, items, either, segments, anything, foreigns, part, octets, element_of, next_of, opening}
-use Rattle.ill_grammar.specs.Cells.{around, default_due, due_at, due_foreign, due_item, due_row, due_segment, element_in, first_position, is_any, is_bits, is_leaf, is_list, is_placed, is_sequence, is_strict, levels_in, next_from, next_of_kind, presence_default, segments_in, wrapped}
-use Rattle.ill_grammar.specs.code.Meant.{default_at, default_first, is_empty, is_wrapped, opens, opens_in}
+use Rattle.ill_grammar.specs.Cells.{around, default_due, due_at, due_foreign, due_item, due_row, due_segment, element_in, first_position, is_any, has_bit_segments, is_leaf, is_list, is_placed, is_sequence, is_strict, levels_in, next_from, next_of_kind, presence_default, segments_in, wrapped}
+use Rattle.ill_grammar.specs.code.Meant.{default_at, default_first, is_empty_sequence, is_wrapped, opens, opens_in}
 use Rattle.ill_grammar.specs.declared.cell.ElementType.{ElementType}
 use Rattle.ill_grammar.specs.declared.cell.ElementType.TheVariants as element_type
 use Rattle.ill_grammar.specs.declared.cell.EntryRole.{EntryRole}
@@ -140,18 +140,18 @@ strings-first p node Kind.SeqOf h = absurd cc
 strings-first p node Kind.Choice h = absurd cc
 strings-first p node Kind.Any h = absurd cc
 
-octets-in : (k : Kind) → not (is_bits k) ≡ true → segments_in k ≡ octet_string
+octets-in : (k : Kind) → not (has_bit_segments k) ≡ true → segments_in k ≡ octet_string
 octets-in (Kind.Leaf LeafKind.BitString) h = absurd cc
 octets-in _ h = refl
 
-bits-in : (k : Kind) → is_bits k ≡ true → (is_leaf k ≡ true) × (segments_in k ≡ segment_tag bit_string)
+bits-in : (k : Kind) → has_bit_segments k ≡ true → (is_leaf k ≡ true) × (segments_in k ≡ segment_tag bit_string)
 bits-in (Kind.Leaf LeafKind.BitString) h = (refl, refl)
 bits-in _ h = absurd cc
 
-leaf-first : (p : PartId) (node : NodeId) (k : Kind) → (is_leaf k && not (is_bits k)) ≡ true → next_of_kind k p node 1 ≡ segments octet_string
+leaf-first : (p : PartId) (node : NodeId) (k : Kind) → (is_leaf k && not (has_bit_segments k)) ≡ true → next_of_kind k p node 1 ≡ segments octet_string
 leaf-first p node k h = let both = and_parts (is_leaf k) _ h in strings-first p node k both.0 ∙ ap segments (octets-in k both.1)
 
-bits-first : (p : PartId) (node : NodeId) (k : Kind) → is_bits k ≡ true → next_of_kind k p node 1 ≡ segments (segment_tag bit_string)
+bits-first : (p : PartId) (node : NodeId) (k : Kind) → has_bit_segments k ≡ true → next_of_kind k p node 1 ≡ segments (segment_tag bit_string)
 bits-first p node k h = let b = bits-in k h in strings-first p node k b.0 ∙ ap segments b.1
 
 any-first : (p : PartId) (node : NodeId) (k : Kind) → is_any k ≡ true → next_of_kind k p node 1 ≡ foreigns (levels_in p)
@@ -204,7 +204,7 @@ wrapper-first p node k e h = opened k h ∙ sym (ap parent e)
     opened Kind.Choice h = refl
     opened Kind.Any h = refl
 
-empty-first : (p : PartId) (node : NodeId) (k : Kind) (cs : List Component) → components profile_two node ≡ cs → is_empty k cs ≡ true → next_of_kind k p node 1 ≡ rows []
+empty-first : (p : PartId) (node : NodeId) (k : Kind) (cs : List Component) → components profile_two node ≡ cs → is_empty_sequence k cs ≡ true → next_of_kind k p node 1 ≡ rows []
 empty-first p node Kind.Seq [] e h = ap rows e
 empty-first p node Kind.Seq (c ∷ cs) e h = absurd cc
 empty-first p node (Kind.Leaf l) cs e h = absurd cc

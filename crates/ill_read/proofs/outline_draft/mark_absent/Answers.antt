@@ -1,7 +1,7 @@
 use Rattle.std.proofs.Common.{◌<◌, arith, length, min}
 use Rattle.ill_schema.specs.Table.{rows_of}
 use Rattle.ill_read.proofs.Outlines.{passed_more}
-use Rattle.ill_read.proofs.outline_draft.pass.Goals as goal
+use Rattle.ill_read.proofs.outline_draft.mark_absent.Goals as goal
 
 pub loop-row-preserved : goal.loop-row-preserved
 loop-row-preserved c =

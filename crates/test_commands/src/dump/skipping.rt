@@ -155,7 +155,7 @@ fn each_message_has_its_lines(rt: HostRuntime) -> Result<(), Fail> {
 }
 
 #[test]
-fn hexadecimal_text_is_gone_through(rt: HostRuntime) -> Result<(), Fail> {
+fn hexadecimal_text_is_dumped(rt: HostRuntime) -> Result<(), Fail> {
     let octets = octets_of(rt.alloc(), MIXED)?;
     let dump = DumpOptions { hex: true, ..PLAIN };
     let found = dump_of(rt.alloc(), dump, MIXED.as_bytes())?;

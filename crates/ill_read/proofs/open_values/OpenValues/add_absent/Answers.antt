@@ -1,10 +1,10 @@
 use Rattle.std.proofs.Common.{take, drop, arith, sym, ap, ◌∙◌, subst}
 use Rattle.ill_schema.specs.Table.{rows_of}
-use Rattle.ill_read.specs.code.OpenValues.{HasPassed}
+use Rattle.ill_read.specs.code.OpenValues.{HasAddedAbsent}
 use Rattle.ill_read.specs.declared.open_values.OpenValues.{OpenValues}
 use Rattle.ill_read.proofs.HeldEntries.{passed-more, passed-past}
-use Rattle.ill_read.proofs.open_values.OpenValues.pass.Goals as goal
-use Rattle.ill_read.proofs.open_values.OpenValues.pass.Goals.{in-Some+in_ok-push, in_default}
+use Rattle.ill_read.proofs.open_values.OpenValues.add_absent.Goals as goal
+use Rattle.ill_read.proofs.open_values.OpenValues.add_absent.Goals.{in-Some+in_ok-push, in_default}
 
 pub loop-number-preserved : goal.loop-number-preserved
 loop-number-preserved c = record {
@@ -16,6 +16,6 @@ loop-number-preserved c = record {
         (sym c.row.ensures ∙ w.in-Some.is) c.loop-number.invariant.passed w.absent.ensures (ap (λ (v : OpenValues). v.entries.items) w.self-is ∙ w.in_ok-push.ensures.items)
     | in_default w ↦
         passed-past (rows_of c.args.node) c.args.from c.loop-number.number c.args.self.now.entries.items _ (sym c.row.ensures ∙ w.in_default.is)
-        (subst (λ (v : OpenValues). HasPassed (drop c.args.from (take c.loop-number.number (rows_of c.args.node))) c.args.self.now.entries.items v.entries.items) (sym w.self-is) c.loop-number.invariant.passed)
+        (subst (λ (v : OpenValues). HasAddedAbsent (drop c.args.from (take c.loop-number.number (rows_of c.args.node))) c.args.self.now.entries.items v.entries.items) (sym w.self-is) c.loop-number.invariant.passed)
   ];
 }

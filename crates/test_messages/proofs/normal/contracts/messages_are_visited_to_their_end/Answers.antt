@@ -7,7 +7,7 @@ use Rattle.ill_normal.specs.Messages.{AreSpelled, Spelling, EndsAfter, PassesAll
 use Rattle.ill_normal.specs.declared.messages.MessagePlace.{MessagePlace}
 use Rattle.ill_normal.specs.declared.messages.StreamCounts.{StreamCounts}
 use Rattle.ill_normal.specs.declared.messages.StreamError.{StreamError}
-use Rattle.test_messages.proofs.normal.contracts.messages_are_gone_through_to_their_end.Goals as goal
+use Rattle.test_messages.proofs.normal.contracts.messages_are_visited_to_their_end.Goals as goal
 
 in_front : (s b : List ℕ) (rest : Option (List ℕ)) (n : ℕ) → Consumes (Some s) rest b → n ≡ length b → b ≡ take n s
 in_front s b None n h e = absurd h

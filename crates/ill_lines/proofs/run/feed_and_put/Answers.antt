@@ -1,7 +1,7 @@
 use Rattle.std.proofs.Common.{◌++◌, ◌∙◌, subst, ap, take, append-nil}
 use Rattle.std.proofs.lemmas.Result.{err_from_is_err_and}
 use Rattle.ill_lines.proofs.MadeResults.{Made, ends_memory, ends_write, has_written, made_of_fed, made_some}
-use Rattle.ill_lines.proofs.run.pass.Goals as goal
+use Rattle.ill_lines.proofs.run.feed_and_put.Goals as goal
 
 pub returns-in_err-put_ready-clause-fails : goal.returns-in_err-put_ready-clause-fails
 returns-in_err-put_ready-clause-fails g c s first x h =
