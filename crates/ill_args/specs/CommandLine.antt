@@ -118,10 +118,14 @@ module _ (names : ProfileNames) where
   abbrev pub into_one : Text → App
   into_one name = with_files (with_output name)
 
+  -- the commands that print what they make of each file
+  abbrev pub with_printing : App → App
+  with_printing a = with_subcommand (with_subcommand (with_subcommand (with_subcommand a
+      (each_json (codes "show")).top) (each_line (codes "check")).top) (each_line (codes "digest")).top) (each_dumped (codes "dump")).top
+
   -- the program with its six commands, and two topics
   abbrev pub program_of : App
-  program_of = with_subcommand (with_subcommand (with_subcommand (with_subcommand (with_subcommand (with_subcommand (with_subcommand (with_subcommand bare_program
-      (each_json (codes "show")).top) (each_line (codes "check")).top) (each_line (codes "digest")).top) (each_dumped (codes "dump")).top)
+  program_of = with_subcommand (with_subcommand (with_subcommand (with_subcommand (with_printing bare_program)
       (two_files (codes "same")).top) (into_one (codes "canonicalise")).top) (topic (codes "causes")).top) (topic (codes "profile")).top
 
 -- a reference, where the place in memory makes no difference

@@ -1,8 +1,9 @@
 //! The commands and their flags, as clap takes them.
 ghost use Rattle.std.specs.Prelude.{◌≡◌, codes, false, IfOk};
 ghost use Rattle.clap.specs.Words.{app_of, rule_of};
+ghost use Rattle.clap.specs.Simple.{App, with_subcommand};
 ghost use Rattle.clap.specs.declared.builder.command.Command.TheViews.{out-Command as fields_of};
-ghost use Rattle.ill_args.specs.CommandLine.{each_counted, each_dumped, each_file, each_json, each_line, each_numbered, file_rule, filename_rule, files_rule, flag_rule, into_one, list_rule, message_rule, output_rule, profile_rule, program_of, refused_rule, topic, two_files, with_files, with_summary, with_hex, with_lines, with_names, with_output, with_skipping, with_whole};
+ghost use Rattle.ill_args.specs.CommandLine.{bare_program, each_counted, each_dumped, each_file, each_json, each_line, each_numbered, file_rule, filename_rule, files_rule, flag_rule, into_one, list_rule, message_rule, output_rule, profile_rule, program_of, refused_rule, topic, two_files, with_files, with_summary, with_hex, with_lines, with_names, with_output, with_printing, with_skipping, with_whole};
 ghost use Rattle.ill_args.specs.code.Commands.{AreAllNames};
 
 use crate::{help, topics};
@@ -426,24 +427,56 @@ fn topic<'a>(alloc: Global, name: &'a str, text: &'a str) -> Command<'a>
         .arg_required_else_help(true)
 }
 
+/// The program without its commands.
+fn bare_program<'a>(alloc: Global) -> Result<Command<'a>, AllocError>
+    ensures { IfOk result (λ c. app_of c ≡ bare_program) }
+{
+    let program = Command::new(alloc, "illcanon").bin_name("illcanon")?;
+    Ok(
+        program
+            .version("0.2.0")
+            .about(
+                "The canonical form of ISO interlibrary loan messages (ILL APDUs of ISO 10161-1 in BER)",
+            )
+            .after_help(help::PROGRAM)
+            .subcommand_required(true)
+            .arg_required_else_help(true),
+    )
+}
+
+/// The program with one command more.
+fn with_command<'a>(
+    program: Command<'a>,
+    command: Result<Command<'a>, AllocError>,
+) -> Result<Command<'a>, AllocError>
+    ensures { IfOk result (λ c. (a : App) → IfOk command.entry (λ command.
+        (app_of command ≡ a) × ((fields_of command).has_globals ≡ false))
+        → app_of c ≡ with_subcommand (app_of program.entry) a.top) }
+{
+    program.subcommand(command?)
+}
+
+/// The program with the commands that print what they make of each file.
+fn with_printing<'a>(
+    alloc: Global,
+    program: Command<'a>,
+    profiles: &'a [&'a str],
+) -> Result<Command<'a>, AllocError>
+    ensures { IfOk result (λ c. app_of c ≡ with_printing profiles.entry (app_of program.entry)) }
+{
+    let program = with_command(program, show(alloc, profiles))?;
+    let program = with_command(program, check(alloc, profiles))?;
+    let program = with_command(program, digest(alloc, profiles))?;
+    with_command(program, dump(alloc, profiles))
+}
+
 pub fn program<'a>(alloc: Global, profiles: &'a [&'a str]) -> Result<Command<'a>, AllocError>
     ensures { IfOk result (λ c. app_of c ≡ program_of profiles.entry) }
 {
-    Command::new(alloc, "illcanon")
-        .bin_name("illcanon")?
-        .version("0.2.0")
-        .about(
-            "The canonical form of ISO interlibrary loan messages (ILL APDUs of ISO 10161-1 in BER)",
-        )
-        .after_help(help::PROGRAM)
-        .subcommand_required(true)
-        .arg_required_else_help(true)
-        .subcommand(show(alloc, profiles)?)?
-        .subcommand(check(alloc, profiles)?)?
-        .subcommand(digest(alloc, profiles)?)?
-        .subcommand(dump(alloc, profiles)?)?
-        .subcommand(same(alloc, profiles)?)?
-        .subcommand(canonicalise(alloc, profiles)?)?
+    let program = with_printing(alloc, bare_program(alloc)?, profiles)?;
+    let program = with_command(program, same(alloc, profiles))?;
+    let program = with_command(program, canonicalise(alloc, profiles))?;
+    program
         .subcommand(topic(alloc, "causes", topics::CAUSES))?
         .subcommand(topic(alloc, "profile", topics::PROFILE))
 }

@@ -1,10 +1,10 @@
 //! Output of several files, in one file.
-use crate::each::{combined_status, list_of, names_of, names_standard_input_twice, text_of};
+use crate::each::{combined_status, input_names, list_of, text_of};
 use crate::input::{put_all, write_input};
 use crate::plan::{Action, InputAction};
 use crate::refused::{OtherFiles, close_refused, is_one_of, open_refused};
 use crate::tally::Tally;
-use ill_args::{Inputs, LineFault};
+use ill_args::Inputs;
 use ill_commands::Verdict;
 use ill_files::{
     FileId, Host, Output, OutputDestination, OutputOf, ProgramError, close_output, is_output_lost,
@@ -23,42 +23,68 @@ pub fn collect<R: Print + Eprint + Input + Files + AllocGlobal + Host>(
     refused: Option<&str>,
     tally: &mut Tally<'_>,
 ) -> u8 {
-    let alloc = rt.alloc();
+    match collect_inputs(rt, action, inputs, output, whole, refused, tally) {
+        Ok(status) => status,
+        Err(error) => tally.end(rt, &Err(error)),
+    }
+}
+
+fn collect_inputs<R: Print + Eprint + Input + Files + AllocGlobal + Host>(
+    rt: &R,
+    action: Action,
+    inputs: &Inputs<'_>,
+    output: &str,
+    whole: bool,
+    refused: Option<&str>,
+    tally: &mut Tally<'_>,
+) -> Result<u8, ProgramError> {
     let written = FileId::of_output(rt, output);
-    let (list, read) = match list_of(rt, inputs.list) {
-        Ok(found) => found,
-        Err(error) => return tally.end(rt, &Err(error)),
-    };
-    let Ok(names) = names_of(alloc, &inputs.files, &list) else {
-        return tally.end(rt, &Err(ProgramError::out_of_memory()));
-    };
-    if names_standard_input_twice(&names, inputs.list) {
-        return tally.end(rt, &Err(ProgramError::from(LineFault::InputTwice)));
-    }
+    let (list, read) = list_of(rt, inputs.list)?;
+    let names = input_names(rt.alloc(), &inputs.files, inputs.list, &list)?;
     if written.is_some() && (read == written || is_one_of(rt, &names, written)) {
-        return tally.end(rt, &Err(ProgramError::SameFile));
+        return Err(ProgramError::SameFile);
     }
-    let others = OtherFiles {
+    let files = OtherFiles {
         inputs: &names,
         list: read,
         output,
     };
-    let refused_output = Output::new();
-    let file = match open_refused(rt, refused, others, &refused_output) {
-        Ok(file) => file,
-        Err(error) => return tally.end(rt, &Err(error)),
-    };
-    let kept = file.is_some().then_some(&refused_output);
-    tally.progress.expect(rt, &names);
-    let status = match names.as_slice() {
+    collect_names(rt, action, files, whole, refused, tally)
+}
+
+fn collect_names<R: Print + Eprint + Input + Files + AllocGlobal + Host>(
+    rt: &R,
+    action: Action,
+    files: OtherFiles<'_>,
+    whole: bool,
+    refused: Option<&str>,
+    tally: &mut Tally<'_>,
+) -> Result<u8, ProgramError> {
+    let output = Output::new();
+    let file = open_refused(rt, refused, files, &output)?;
+    let kept = file.is_some().then_some(&output);
+    tally.progress.expect(rt, files.inputs);
+    let status = collect_files(rt, action, files, whole, kept, tally);
+    Ok(close_refused(rt, file, &output, tally, status))
+}
+
+/// Writes what is made of the files, prints the line of each error, and returns the exit status.
+fn collect_files<R: Print + Eprint + Input + Files + AllocGlobal + Host>(
+    rt: &R,
+    action: Action,
+    files: OtherFiles<'_>,
+    whole: bool,
+    kept: Option<&OutputOf<'_, R>>,
+    tally: &mut Tally<'_>,
+) -> u8 {
+    match files.inputs {
         [name] => {
-            let done = canonicalise_one(rt, action, name, output, whole, kept, tally);
+            let done = canonicalise_one(rt, action, name, files.output, whole, kept, tally);
             tally.add_end(rt, name, &done);
             tally.end(rt, &done)
         }
-        names => canonicalise_all(rt, action, names, output, whole, kept, tally),
-    };
-    close_refused(rt, file, &refused_output, tally, status)
+        names => canonicalise_all(rt, action, names, files.output, whole, kept, tally),
+    }
 }
 
 /// Writes what is made of the one file that is named.

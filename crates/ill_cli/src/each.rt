@@ -27,38 +27,60 @@ pub fn print_each<R: Print + Eprint + Input + Files + AllocGlobal + Host>(
     refused: Option<&str>,
     tally: &mut Tally<'_>,
 ) -> u8 {
-    let alloc = rt.alloc();
-    let (list, read) = match list_of(rt, inputs.list) {
-        Ok(found) => found,
-        Err(error) => return tally.end(rt, &Err(error)),
-    };
-    let Ok(names) = names_of(alloc, &inputs.files, &list) else {
-        return tally.end(rt, &Err(ProgramError::out_of_memory()));
-    };
-    if names_standard_input_twice(&names, inputs.list) {
-        return tally.end(rt, &Err(ProgramError::from(LineFault::InputTwice)));
+    match print_inputs(rt, action, inputs, refused, tally) {
+        Ok(status) => status,
+        Err(error) => tally.end(rt, &Err(error)),
     }
-    let output = Output::new();
-    let others = OtherFiles {
+}
+
+fn print_inputs<R: Print + Eprint + Input + Files + AllocGlobal + Host>(
+    rt: &R,
+    action: Action,
+    inputs: &Inputs<'_>,
+    refused: Option<&str>,
+    tally: &mut Tally<'_>,
+) -> Result<u8, ProgramError> {
+    let (list, read) = list_of(rt, inputs.list)?;
+    let names = input_names(rt.alloc(), &inputs.files, inputs.list, &list)?;
+    let files = OtherFiles {
         inputs: &names,
         list: read,
         output: "-",
     };
-    let file = match open_refused(rt, refused, others, &output) {
-        Ok(file) => file,
-        Err(error) => return tally.end(rt, &Err(error)),
-    };
+    print_names(rt, action, files, refused, tally)
+}
+
+fn print_names<R: Print + Eprint + Input + Files + AllocGlobal + Host>(
+    rt: &R,
+    action: Action,
+    files: OtherFiles<'_>,
+    refused: Option<&str>,
+    tally: &mut Tally<'_>,
+) -> Result<u8, ProgramError> {
+    let output = Output::new();
+    let file = open_refused(rt, refused, files, &output)?;
     let kept = file.is_some().then_some(&output);
-    tally.progress.expect(rt, &names);
-    let status = match names.as_slice() {
+    tally.progress.expect(rt, files.inputs);
+    let status = print_files(rt, action, files.inputs, kept, tally);
+    Ok(close_refused(rt, file, &output, tally, status))
+}
+
+/// Prints what is made of the files of these names, and the line of each error, and returns the exit status.
+fn print_files<R: Print + Eprint + Input + Files + AllocGlobal + Host>(
+    rt: &R,
+    action: Action,
+    names: &[&[u8]],
+    kept: Option<&OutputOf<'_, R>>,
+    tally: &mut Tally<'_>,
+) -> u8 {
+    match names {
         [name] if !action.names_inputs() => {
             let done = one_file(rt, action, name, 1, kept, tally);
             tally.end(rt, &done)
         }
         names if action.is_document() => document(rt, action, names, kept, tally),
         names => each_file(rt, action, names, kept, tally),
-    };
-    close_refused(rt, file, &output, tally, status)
+    }
 }
 
 /// Prints what is made of each file as one HTML document, and the line of each error, and returns the exit status.
@@ -92,8 +114,28 @@ pub fn list_of<R: Input + Files + AllocGlobal>(
     }
 }
 
+/// The names of the inputs of a command: its words FILE, and then the names of its list, which has these octets.
+///
+/// # Errors
+///
+/// Standard input is named twice, or memory ran out.
+pub fn input_names<'a>(
+    alloc: Global,
+    files: &[&'a str],
+    name_of_list: Option<&str>,
+    list: &'a [u8],
+) -> Result<Vec<&'a [u8]>, ProgramError> {
+    let Ok(names) = names_of(alloc, files, list) else {
+        return Err(ProgramError::out_of_memory());
+    };
+    if names_standard_input_twice(&names, name_of_list) {
+        return Err(ProgramError::from(LineFault::InputTwice));
+    }
+    Ok(names)
+}
+
 /// The words FILE, and then the names of the list.
-pub fn names_of<'a>(
+fn names_of<'a>(
     alloc: Global,
     files: &[&'a str],
     list: &'a [u8],
@@ -131,7 +173,7 @@ fn split_name(list: &[u8]) -> Option<(&[u8], &[u8])>
 }
 
 /// Tells whether standard input is to be read more than once.
-pub fn names_standard_input_twice(names: &[&[u8]], list: Option<&str>) -> bool {
+fn names_standard_input_twice(names: &[&[u8]], list: Option<&str>) -> bool {
     let mut found = list == Some("-");
     for name in names {
         if *name == b"-".as_slice() {

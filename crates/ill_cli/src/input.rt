@@ -23,8 +23,8 @@ use ber_core::{Buffered, BufferedSource, Sink, ToWrite};
 use ill_commands::{JobOptions, RunFault, Verdict, run_counting, run_skipping_peeking, verdict_of};
 use ill_dump::{DumpOptions, run_dump, run_dump_skipping};
 use ill_files::{
-    FileId, Host, MissingMessage, Output, OutputOf, ProgramError, Shared, ToOutput, close_output,
-    keeps_output, open_and_identify, open_output, open_standard_output,
+    FileId, Host, InputSource, MissingMessage, Output, OutputOf, ProgramError, Shared, ToOutput,
+    close_output, keeps_output, open_and_identify, open_output, open_standard_output,
 };
 use ill_lines::{LineOptions, LinesFault, run_lines_as};
 use std::alloc::Global;
@@ -82,10 +82,24 @@ pub(crate) fn write_input<R: Print + Eprint + Input + Files + AllocGlobal + Host
     if read.is_some() && read == written {
         return Err(ProgramError::SameFile);
     }
-    let destination = open_output(rt, &output, name, whole)?;
-    let done = put_all(rt, task, &mut source, &output, kept, tally);
+    replace_output(rt, task, &mut source, &output, name, whole, kept, tally)
+}
+
+/// Opens an output, writes what is made of an input, and closes it.
+fn replace_output<'o, 'r: 'o, R: Print + Eprint + Input + Files + AllocGlobal + Host>(
+    rt: &'r R,
+    task: InputAction<'_>,
+    source: &mut InputSource<'o, 'r, R>,
+    output: &'o OutputOf<'r, R>,
+    name: &str,
+    whole: bool,
+    kept: Option<&OutputOf<'_, R>>,
+    tally: &mut Tally<'_>,
+) -> Result<Verdict, ProgramError> {
+    let destination = open_output(rt, output, name, whole)?;
+    let done = put_all(rt, task, source, output, kept, tally);
     let keep = keeps_output(whole, &done);
-    close_output(rt, &output, destination, name, keep, done)
+    close_output(rt, output, destination, name, keep, done)
 }
 
 /// Writes what is made of an input, and counts its messages. The octets of those that are refused go to `kept`, if there is such an output.
@@ -103,36 +117,99 @@ where
     Q: Write + Drop,
 {
     tally.add_file();
-    let kept = KeepRefused::to(kept);
-    let mut sink = ToWrite::new(ToOutput {
-        output,
-        // The results of lines are there before more input is waited for.
-        is_direct: matches!(task, InputAction::Lines(_)),
-    });
+    put_source(rt, task, source, output, KeepRefused::to(kept), tally)
+}
+
+/// Writes what is made of a source.
+fn put_source<R: Eprint + AllocGlobal, B: BufferedSource, S: Write + Drop, F: Write + Drop, P, Q>(
+    rt: &R,
+    task: InputAction<'_>,
+    source: &mut B,
+    output: &Output<S, F>,
+    kept: KeepRefused<'_, P, Q>,
+    tally: &mut Tally<'_>,
+) -> Result<Verdict, ProgramError>
+where
+    P: Write + Drop,
+    Q: Write + Drop,
+{
     match task {
-        InputAction::Messages(work) if has_json_result(work.job) => {
-            let refused = ToWrite::new(ToOutput {
-                output,
-                is_direct: false,
-            });
-            put_first_results(rt.alloc(), work, source, &mut sink, refused, kept, tally)
+        InputAction::Messages(work) => put_to_first(rt.alloc(), work, source, output, kept, tally),
+        InputAction::AcceptedMessages(work) => put_each(rt, work, source, output, kept, tally),
+        InputAction::Elements(dump) => {
+            put_elements(rt.alloc(), dump, source, &mut sink_to(output))
         }
-        InputAction::Messages(work) => put_messages(rt.alloc(), work, source, &mut sink, tally),
-        InputAction::AcceptedMessages(work) if has_json_result(work.job) => {
-            let refused = ToWrite::new(ToOutput {
-                output,
-                is_direct: false,
-            });
-            put_results(rt.alloc(), work, source, &mut sink, refused, kept, tally)
+        InputAction::AllElements(dump) => {
+            put_all_elements(rt, dump, source, &mut sink_to(output), kept, tally)
         }
-        InputAction::AcceptedMessages(work) => put_accepted_messages(
-            rt, work, source, &mut sink, kept, tally,
-        ),
-        InputAction::Elements(dump) => put_elements(rt.alloc(), dump, source, &mut sink),
-        InputAction::AllElements(dump) => put_all_elements(
-            rt, dump, source, &mut sink, kept, tally,
-        ),
-        InputAction::Lines(work) => put_lines(rt.alloc(), work, source, &mut sink),
+        InputAction::Lines(work) => {
+            // The results of lines are there before more input is waited for.
+            let mut sink = ToWrite::new(ToOutput {
+                output,
+                is_direct: true,
+            });
+            put_lines(rt.alloc(), work, source, &mut sink)
+        }
+    }
+}
+
+/// A sink to the output.
+fn sink_to<'o, S: Write + Drop, F: Write + Drop>(
+    output: &'o Output<S, F>,
+) -> ToWrite<ToOutput<'o, S, F>> {
+    ToWrite::new(ToOutput {
+        output,
+        is_direct: false,
+    })
+}
+
+/// Does a job with one message after another, up to one that is refused. Of that one, too, there is a line, where lines are JSON.
+fn put_to_first<B: BufferedSource, S: Write + Drop, F: Write + Drop, P, Q>(
+    alloc: Global,
+    work: JobOptions<'_>,
+    source: &mut B,
+    output: &Output<S, F>,
+    kept: KeepRefused<'_, P, Q>,
+    tally: &mut Tally<'_>,
+) -> Result<Verdict, ProgramError>
+where
+    P: Write + Drop,
+    Q: Write + Drop,
+{
+    let mut sink = sink_to(output);
+    if has_json_result(work.job) {
+        put_first_results(alloc, work, source, &mut sink, sink_to(output), kept, tally)
+    } else {
+        put_messages(alloc, work, source, &mut sink, tally)
+    }
+}
+
+/// Does a job with each message. Of a refused one there is a line on standard error, or in the output, where lines are JSON.
+fn put_each<R: Eprint + AllocGlobal, B: BufferedSource, S: Write + Drop, F: Write + Drop, P, Q>(
+    rt: &R,
+    work: JobOptions<'_>,
+    source: &mut B,
+    output: &Output<S, F>,
+    kept: KeepRefused<'_, P, Q>,
+    tally: &mut Tally<'_>,
+) -> Result<Verdict, ProgramError>
+where
+    P: Write + Drop,
+    Q: Write + Drop,
+{
+    let mut sink = sink_to(output);
+    if has_json_result(work.job) {
+        put_results(
+            rt.alloc(),
+            work,
+            source,
+            &mut sink,
+            sink_to(output),
+            kept,
+            tally,
+        )
+    } else {
+        put_accepted_messages(rt, work, source, &mut sink, kept, tally)
     }
 }
 

@@ -59,6 +59,39 @@ second_unread hex x (Some s) left' None other' o e r h = tt
 second_unread hex x (Some s) left' (Some t) other' o e r h =
     (λ fault k. absurd (not_both (side_octets hex s) o fault (side_is hex s left' o r) k), λ o' fault k l. unread_fault hex x t other' e fault h l)
 
+-- a side that was not read is compared with nothing, and refuses nothing
+refuses_nothing : (e : RunFault) (side : Side) (f : Fault) → IsResourceFault e → IsRefusedSide e side f
+refuses_nothing (RunFault.RefusedSide which refusal) side f h = absurd h
+refuses_nothing RunFault.OutOfMemory side f h = h
+refuses_nothing RunFault.ReadFault side f h = h
+refuses_nothing (RunFault.WriteFault i) side f h = h
+refuses_nothing (RunFault.Refused message refusal) side f h = absurd h
+refuses_nothing RunFault.OddHex side f h = absurd h
+refuses_nothing (RunFault.BadHex i) side f h = absurd h
+refuses_nothing RunFault.HexTooLong side f h = absurd h
+refuses_nothing RunFault.TooManyMessages side f h = absurd h
+
+module _ (p : Profile) (hex x : Bool) (e : RunFault) where
+  pub first_compares : (left left' other : Option (List ℕ)) → SideFails hex left left' x e → IfSome left (λ s. IfSome other (λ t. ComparesBoth p hex s t (Err e)))
+  first_compares None left' other h = tt
+  first_compares (Some s) left' None h = tt
+  first_compares (Some s) left' (Some t) h = λ o u a b k l sa sb. unread_octets hex x s left' e o h k
+
+  pub first_refuses : (left left' other : Option (List ℕ)) → SideFails hex left left' x e → IfSome left (λ s. IfSome other (λ t. RefusesOne p hex s t (Err e)))
+  first_refuses None left' other h = tt
+  first_refuses (Some s) left' None h = tt
+  first_refuses (Some s) left' (Some t) h = λ o u side f k l r. refuses_nothing e side f (unread_octets hex x s left' e o h k)
+
+  pub second_compares : (left other other' : Option (List ℕ)) → SideFails hex other other' x e → IfSome left (λ s. IfSome other (λ t. ComparesBoth p hex s t (Err e)))
+  second_compares None other other' h = tt
+  second_compares (Some s) None other' h = tt
+  second_compares (Some s) (Some t) other' h = λ o u a b k l sa sb. unread_octets hex x t other' e u h l
+
+  pub second_refuses : (left other other' : Option (List ℕ)) → SideFails hex other other' x e → IfSome left (λ s. IfSome other (λ t. RefusesOne p hex s t (Err e)))
+  second_refuses None other other' h = tt
+  second_refuses (Some s) None other' h = tt
+  second_refuses (Some s) (Some t) other' h = λ o u side f k l r. refuses_nothing e side f (unread_octets hex x t other' e u h l)
+
 module _ (p : Profile) (x y : List ℕ) where
   refused_apart : (side : Side) (f : Fault) (a b : Apdu) → SpellsApdu p a x → SpellsApdu p b y → RefusesSideIn p x y side f → ⊥
   refused_apart Side.First f a b h k r = refuses_whole x f a r h
@@ -99,7 +132,7 @@ module _ (p : Profile) (x y : List ℕ) where
   not_refused (RunFault.WriteFault i) n side f r = absurd n
 
 -- what is said of the octets that were read is said of the inputs
-pub both_same : (p : Profile) (hex : Bool) (left left' other other' : Option (List ℕ)) (x y : List ℕ) → ReadsSide hex left left' x → ReadsSide hex other other' y → (answer : Result Verdict RunFault)
+both_same : (p : Profile) (hex : Bool) (left left' other other' : Option (List ℕ)) (x y : List ℕ) → ReadsSide hex left left' x → ReadsSide hex other other' y → (answer : Result Verdict RunFault)
     → ((a b : Apdu) → SpellsApdu p a x → SpellsApdu p b y → SaysSame answer (a ≡ b))
     → IfSome left (λ s. IfSome other (λ t. ComparesBoth p hex s t answer))
 both_same p hex None left' other other' x y rx ry answer h = tt
@@ -109,7 +142,7 @@ both_same p hex (Some s) left' (Some t) other' x y rx ry answer h = λ x' y' a b
     let f = same_ok (side_octets hex t) y' y ey (side_is hex t other' y ry) in
     h a b (subst (SpellsApdu p a) e ha) (subst (SpellsApdu p b) f hb)
 
-pub one_refused : (p : Profile) (hex : Bool) (left left' other other' : Option (List ℕ)) (x y : List ℕ) → ReadsSide hex left left' x → ReadsSide hex other other' y → (answer : Result Verdict RunFault)
+one_refused : (p : Profile) (hex : Bool) (left left' other other' : Option (List ℕ)) (x y : List ℕ) → ReadsSide hex left left' x → ReadsSide hex other other' y → (answer : Result Verdict RunFault)
     → ((side : Side) (f : Fault) → RefusesSideIn p x y side f → AnswersSide answer side f)
     → IfSome left (λ s. IfSome other (λ t. RefusesOne p hex s t answer))
 one_refused p hex None left' other other' x y rx ry answer h = tt
@@ -141,6 +174,12 @@ module _ (p : Profile) (hex : Bool) (left left' other other' : Option (List ℕ)
 
   pub err_refuses : (e : RunFault) → NotCompared p x y e → IfSome left (λ s. IfSome other (λ t. RefusesOne p hex s t (Err e)))
   err_refuses e n = one_refused p hex left left' other other' x y rx ry (Err e) (λ side f r. not_refused p x y e n side f r)
+
+  pub write_compares : (n : ℕ) → IfSome left (λ s. IfSome other (λ t. ComparesBoth p hex s t (Err (RunFault.WriteFault n))))
+  write_compares n = both_same p hex left left' other other' x y rx ry (Err (RunFault.WriteFault n)) (λ a b h k. tt)
+
+  pub write_refuses : (n : ℕ) → IfSome left (λ s. IfSome other (λ t. RefusesOne p hex s t (Err (RunFault.WriteFault n))))
+  write_refuses n = one_refused p hex left left' other other' x y rx ry (Err (RunFault.WriteFault n)) (λ side f r. tt)
 
   pub texts_read : (answer : Result Verdict RunFault) → IfSome left (λ s. IfSome other (λ t. RefusesTexts hex s t answer))
   texts_read answer = both_read hex left left' other other' x y rx ry answer

@@ -43,15 +43,19 @@ fn put_value(
         return Ok(false);
     }
     let value = leaf.value(content.to_vec(alloc)?);
-    match &value {
-        Value::Flag(true) => lines.text("TRUE")?,
-        Value::Flag(false) => lines.text("FALSE")?,
-        Value::Whole(number) => lines.number(*number)?,
-        _ => {}
-    }
+    put_value_text(lines, &value)?;
     match row(part) {
         Some(row) => Ok(is_default(row, &value)),
         None => Ok(false),
+    }
+}
+
+fn put_value_text(lines: &mut LineBuffer, value: &Value) -> Result<(), AllocError> {
+    match value {
+        Value::Flag(true) => lines.text("TRUE"),
+        Value::Flag(false) => lines.text("FALSE"),
+        Value::Whole(number) => lines.number(*number),
+        _ => Ok(()),
     }
 }
 

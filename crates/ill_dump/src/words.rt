@@ -28,28 +28,60 @@ pub fn place_of_refusal(
     octets: &[u8],
     refusal: Refusal,
 ) -> Result<RefusalPlace, AllocError> {
-    let mut words = RefusalPlace {
-        path: String::new(alloc),
-        found: String::new(alloc),
-        due: Vec::new(alloc),
-    };
     if refusal.cause == Cause::NormalTooLong {
-        return Ok(words);
+        return Ok(RefusalPlace {
+            path: String::new(alloc),
+            found: String::new(alloc),
+            due: Vec::new(alloc),
+        });
     }
     let mut lines = LineBuffer::new(alloc, DumpFormat::Text);
     let mut walk = ElementWalk::new(alloc, profile, refusal.at as usize);
     walk_all(&mut walk, octets, &mut lines)?;
-    let place = RefusedPlace::new(&walk, octets, refusal);
-    let _ = place.put_path(&mut lines)?;
-    words.path = take_text(alloc, &mut lines)?;
-    place.put_found(&mut lines)?;
-    words.found = take_text(alloc, &mut lines)?;
-    words.due = texts_of(alloc, &place.due(alloc)?, &mut lines)?;
-    if refusal.cause == Cause::WrongForm {
-        place.put_other_form(&mut lines)?;
-        words.due.push(take_text(alloc, &mut lines)?)?;
+    words_of(
+        alloc,
+        &RefusedPlace::new(&walk, octets, refusal),
+        refusal.cause,
+        &mut lines,
+    )
+}
+
+fn words_of(
+    alloc: Global,
+    place: &RefusedPlace<'_>,
+    cause: Cause,
+    lines: &mut LineBuffer,
+) -> Result<RefusalPlace, AllocError> {
+    let _ = place.put_path(lines)?;
+    let path = take_text(alloc, lines)?;
+    let found = text_found(alloc, place, lines)?;
+    let due = texts_due(alloc, place, cause, lines)?;
+    Ok(RefusalPlace { path, found, due })
+}
+
+/// The words for the element that was found.
+fn text_found(
+    alloc: Global,
+    place: &RefusedPlace<'_>,
+    lines: &mut LineBuffer,
+) -> Result<String, AllocError> {
+    place.put_found(lines)?;
+    take_text(alloc, lines)
+}
+
+/// The text of each thing that was due, and of the element with its other form, where the form is wrong.
+fn texts_due(
+    alloc: Global,
+    place: &RefusedPlace<'_>,
+    cause: Cause,
+    lines: &mut LineBuffer,
+) -> Result<Vec<String>, AllocError> {
+    let mut texts = texts_of(alloc, &place.due(alloc)?, lines)?;
+    if cause == Cause::WrongForm {
+        place.put_other_form(lines)?;
+        texts.push(take_text(alloc, lines)?)?;
     }
-    Ok(words)
+    Ok(texts)
 }
 
 /// Walks through the elements, and forgets their lines.

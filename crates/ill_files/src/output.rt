@@ -330,21 +330,35 @@ pub fn close_output<'r, R: Print + Host + AllocGlobal>(
         let _ = fs::remove_file(rt, part.as_str());
         return done;
     }
+    match take_name(rt, output, part.as_str(), name) {
+        Ok(()) => done,
+        Err(error) => Err(error),
+    }
+}
+
+/// Gives the new file `part`, which is the output, the name of the output. Where that fails, the new file is removed.
+fn take_name<'r, R: Print + Host + AllocGlobal>(
+    rt: &'r R,
+    output: &OutputOf<'r, R>,
+    part: &str,
+    name: &str,
+) -> Result<(), ProgramError> {
     if output.sync().is_err() {
-        let _ = fs::remove_file(rt, part.as_str());
+        let _ = fs::remove_file(rt, part);
         return Err(ProgramError::Flush);
     }
-    match is_still_named(rt, output, part.as_str()) {
+    match is_still_named(rt, output, part) {
         // Another file has this name by now, which is not ours to remove.
-        Some(false) => return Err(ProgramError::cannot_replace(rt.alloc(), name)),
-        Some(true) if fs::rename(rt, part.as_str(), name).is_ok() => {}
+        Some(false) => Err(ProgramError::cannot_replace(rt.alloc(), name)),
+        Some(true) if fs::rename(rt, part, name).is_ok() => {
+            sync_folder(rt, name);
+            Ok(())
+        }
         _ => {
-            let _ = fs::remove_file(rt, part.as_str());
-            return Err(ProgramError::cannot_replace(rt.alloc(), name));
+            let _ = fs::remove_file(rt, part);
+            Err(ProgramError::cannot_replace(rt.alloc(), name))
         }
     }
-    sync_folder(rt, name);
-    done
 }
 
 /// Tells whether this is still the name of the file that the output is. None where that can't be known.

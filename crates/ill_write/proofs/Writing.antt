@@ -1,20 +1,24 @@
 -- Elements as they are written.
-use Rattle.std.proofs.Common.{◌≡◌, ℕ, ◌+◌, ◌≤◌, true, List, [], ◌∷◌, ◌++◌, length, get_or, Option, Some, refl, sym, ap, ap₂, subst, ◌∙◌, arith, append_assoc, append-nil, length-append, Result, Ok, Err}
+use Rattle.std.proofs.Common.{◌≡◌, ℕ, ◌+◌, ◌≤◌, true, List, [], ◌∷◌, ◌++◌, length, get_or, Option, Some, refl, sym, ap, ap₂, subst, ◌∙◌, arith, append_assoc, append-nil, length-append, Result, Ok, Err, IfOk}
 use Rattle.ber_core.proofs.Encodings.{length-encodings}
 use Rattle.ill_write.specs.code.Puts.{Puts}
 use Rattle.ill_write.proofs.Putting.{puts_then, puts_failed, puts_nothing, as_failed}
 use Rattle.ber_core.specs.Identifier.{Tag, identifier}
 use Rattle.ber_core.specs.Length.{shortest_length}
-use Rattle.ber_core.specs.Tree.{Tree, Trees, constructed, none, more}
+use Rattle.ber_core.specs.Tree.{Tree, Trees, constructed, none, more, primitive}
 use Rattle.ber_core.specs.Der.{encoding, encodings, sizes}
 use Rattle.ill_write.specs.code.NextAre.{NextAre}
 use Rattle.ill_schema.specs.Elements.{joined, place_trees, trees_unless, row_tree}
-use Rattle.ill_write.specs.ContentSizes.{all_content_sizes}
+use Rattle.ill_write.specs.ContentSizes.{all_content_sizes, content_sizes}
 use Rattle.ill_schema.specs.Value.{content_of}
 use Rattle.ill_schema.specs.Presence.{is_default}
 use Rattle.ill_schema.proofs.Trees.{sizes-joined}
 use Rattle.ill_write.proofs.Joined.{encodings-joined, content_sizes-joined}
+use Rattle.ber_leaf.specs.Leaf.{normal_content}
 use Rattle.ber_leaf.specs.Profile.{profile_two}
+use Rattle.ber_leaf.specs.Strings.{string_octets, string_value}
+use Rattle.ber_leaf.specs.declared.text.ill_string.IllString.{IllString}
+use Rattle.ber_leaf.specs.declared.text.ill_string.IllString.TheVariants.{General, Visible}
 use Rattle.std.specs.Prelude.{IsErr}
 use Rattle.ber_core.specs.declared.source.Broken.{Broken}
 use Rattle.ill_write.specs.declared.buffered_sink.BufferedSink.{BufferedSink}
@@ -120,3 +124,13 @@ empty_element r a b p q T tag n e f h = subst (λ z. Puts r z a p b q) (sym (app
 
 pub default_trees : (o : Option Row) (row : Row) (v : Value) → o ≡ Some row → is_default row (content_of v) ≡ true → place_trees o (Some v) ≡ none
 default_trees o row v e f = ap (λ x. place_trees x (Some v)) e ∙ ap (λ b. trees_unless b (row_tree row (content_of v))) f
+
+-- a leaf has no content size
+pub leaf_next : (answer : Result (Unit {0}) Broken) (old new : ℕ) (T : Tree) (tag : Tag) (octets : List ℕ) → T ≡ primitive tag octets → new ≡ old
+    → IfOk answer (λ _. new ≡ old + length (content_sizes T))
+leaf_next (Ok x) old new T tag octets e f = let s = ap (λ z. length (content_sizes z)) e in omega (arith, f, s)
+leaf_next (Err x) old new T tag octets e f = tt
+
+pub string_normal : (string : IllString) → string_octets string ≡ normal_content (string_value string)
+string_normal (General text) = refl
+string_normal (Visible text) = refl

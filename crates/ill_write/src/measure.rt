@@ -5,6 +5,7 @@ ghost use Rattle.ber_core.specs.Identifier.{HasIdentifier};
 ghost use Rattle.ber_core.specs.Tree.{primitive};
 ghost use Rattle.ber_leaf.specs.Leaf.{normal_content};
 ghost use Rattle.ber_leaf.specs.Profile.{profile_two};
+ghost use Rattle.ber_leaf.specs.Strings.{string_value};
 ghost use Rattle.ill_schema.specs.Elements.{tag_at, row_tree, element_tree, place_trees, item_trees};
 ghost use Rattle.ill_schema.specs.Normal.{normal_trees, normal_items};
 ghost use Rattle.ill_schema.specs.Table.{rows_of};
@@ -61,8 +62,7 @@ fn measure_value(
         Value::Date(text) => Ok(leaf_size::<DateText>(tag, text)),
         Value::Time(text) => Ok(leaf_size::<TimeText>(tag, text)),
         Value::Print(text) => Ok(leaf_size::<PrintableText>(tag, text)),
-        Value::Str(IllString::General(text)) => Ok(leaf_size::<GeneralText>(tag, text)),
-        Value::Str(IllString::Visible(text)) => Ok(leaf_size::<VisibleText>(tag, text)),
+        Value::Str(text) => Ok(string_size(tag, text)),
         Value::Seq(entries) => {
             let place = out.len();
             out.push(0)?;
@@ -95,6 +95,19 @@ fn leaf_size<L: Leaf>(tag: (Class, u32), value: &L::Out) -> u32
     ensures { result ≡ size (primitive (tag_at tag) (normal_content (L.simple value.now))) }
 {
     element_size(tag, false, L::normal_size(value) as u32)
+}
+
+/// The size of a string's element.
+fn string_size(tag: (Class, u32), string: &IllString) -> u32
+    requires id { HasIdentifier (tag_at tag) false }
+    requires small { size (primitive (tag_at tag) (normal_content (string_value string.now)))
+        ≤ profile_two.limit }
+    ensures { result ≡ size (primitive (tag_at tag) (normal_content (string_value string.now))) }
+{
+    match string {
+        IllString::General(text) => leaf_size::<GeneralText>(tag, text),
+        IllString::Visible(text) => leaf_size::<VisibleText>(tag, text),
+    }
 }
 
 /// The size of the elements of a sequence.

@@ -52,23 +52,15 @@ fn add_all(alloc: Global, parts: &mut Vec<Option<Value>>, words: &str) -> Result
 /// Adds what a word says to the parts.
 fn add(alloc: Global, parts: &mut Vec<Option<Value>>, word: &str) -> Result<(), Fail> {
     let (kind, count) = word.split_once(':').unwrap_or((word, ""));
-    match kind {
-        "-" => Ok(parts.push(None)?),
-        "none" => Ok(skip(parts, count.parse::<usize>()?)?),
-        "seq" => {
-            let entries = last(parts, count.parse::<usize>()?)?;
-            Ok(parts.push(Some(Value::Seq(entries)))?)
-        }
-        "list" => {
-            let items = last(parts, count.parse::<usize>()?)?;
-            Ok(parts.push(Some(list(alloc, items)?))?)
-        }
-        "alt" => {
-            let value = chosen(alloc, parts, count.parse::<u8>()?)?;
-            Ok(parts.push(Some(value))?)
-        }
-        _ => Ok(parts.push(Some(leaf(alloc, word)?))?),
-    }
+    let part = match kind {
+        "-" => None,
+        "none" => return Ok(skip(parts, count.parse::<usize>()?)?),
+        "seq" => Some(Value::Seq(last(parts, count.parse::<usize>()?)?)),
+        "list" => Some(list(alloc, last(parts, count.parse::<usize>()?)?)?),
+        "alt" => Some(chosen(alloc, parts, count.parse::<u8>()?)?),
+        _ => Some(leaf(alloc, word)?),
+    };
+    Ok(parts.push(part)?)
 }
 
 fn leaf(alloc: Global, word: &str) -> Result<Value, Fail> {
@@ -76,15 +68,24 @@ fn leaf(alloc: Global, word: &str) -> Result<Value, Fail> {
     match kind {
         "false" => Ok(Value::Flag(false)),
         "true" => Ok(Value::Flag(true)),
-        "general" => general(Vec::from_slice(alloc, text.as_bytes())?),
         "hex" => general(octets_of(alloc, text)?),
         "letters" => general(vec![in alloc; b'A'; text.parse::<usize>()?]?),
-        "visible" => visible(Vec::from_slice(alloc, text.as_bytes())?),
-        "print" => printable(Vec::from_slice(alloc, text.as_bytes())?),
-        "date" => date(Vec::from_slice(alloc, text.as_bytes())?),
-        "time" => time(Vec::from_slice(alloc, text.as_bytes())?),
         "empties" => empties(alloc, text.parse::<u32>()?),
+        "general" | "visible" | "print" | "date" | "time" => {
+            string(kind, Vec::from_slice(alloc, text.as_bytes())?)
+        }
         _ => Ok(Value::Whole(word.parse::<i64>()?)),
+    }
+}
+
+/// The string of a kind that has these octets.
+fn string(kind: &str, octets: Vec<u8>) -> Result<Value, Fail> {
+    match kind {
+        "general" => general(octets),
+        "visible" => visible(octets),
+        "print" => printable(octets),
+        "date" => date(octets),
+        _ => time(octets),
     }
 }
 

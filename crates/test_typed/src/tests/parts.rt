@@ -101,19 +101,31 @@ pub fn head(alloc: Global) -> Result<Head, Fail> {
     })
 }
 
+/// Tells whether an EXPIRED begins with its head.
+fn begins_with_its_head(alloc: Global) -> Result<bool, Fail> {
+    let expired = Expired { head: head(alloc)? };
+    is_written(alloc, &expired, "head - seq:6")
+}
+
 #[test]
 fn heads_are_at_the_front_of_their_apdus(rt: HostRuntime) -> Result<(), Fail> {
-    let expired = Expired {
-        head: head(rt.alloc())?,
-    };
-    assert!(rt; is_written(rt.alloc(), &expired, "head - seq:6")?);
+    assert!(rt; begins_with_its_head(rt.alloc())?);
     Ok(())
+}
+
+/// The text that `Debug` writes of a head.
+fn text_of(alloc: Global, head: &Head) -> Result<String, Fail> {
+    Ok(format!(in alloc; "{head:?}")?)
+}
+
+fn debug_text_of_head(alloc: Global) -> Result<String, Fail> {
+    let head = head(alloc)?;
+    text_of(alloc, &head)
 }
 
 #[test]
 fn debug_text(rt: HostRuntime) -> Result<(), Fail> {
-    let head = head(rt.alloc())?;
-    let text = format!(in rt.alloc(); "{head:?}")?;
+    let text = debug_text_of_head(rt.alloc())?;
     assert!(rt;
         text.as_str().starts_with(
             "Head { protocol_version_num: 2, transaction_id: TransactionId { initial_requester_id: None, transaction_group_qualifier: General("

@@ -2,13 +2,14 @@ use Rattle.std.proofs.Common.{rules, ◌≡◌, ◌+◌, ◌≤◌, length, [], 
 use Rattle.ber_core.specs.Der.{size, sizes}
 use Rattle.ber_core.specs.Tree.{constructed, more, none}
 use Rattle.ber_leaf.specs.Profile.{profile_two}
-use Rattle.ber_leaf.specs.Simple.{whole}
+use Rattle.ber_leaf.specs.Simple.{date, flag, printable, time, whole}
+use Rattle.ber_leaf.specs.Strings.{string_value}
 use Rattle.ill_schema.specs.declared.value.Value.{the_lemmas}
 use Rattle.ill_schema.specs.Elements.{tag_at, element_tree, element_tag, row_tree, place_trees}
 use Rattle.ill_schema.specs.Normal.{normal_trees, normal_items}
 use Rattle.ill_schema.specs.Table.{kind_of, rows_of}
 use Rattle.ill_schema.specs.Value.{content_of, entries_content, items_content}
-use Rattle.ill_schema.proofs.Contents.{content_of-Whole, content_of-Seq, content_of-List, content_of-Alt}
+use Rattle.ill_schema.proofs.Contents.{content_of-Flag, content_of-Whole, content_of-Date, content_of-Time, content_of-Print, content_of-Str, content_of-Seq, content_of-List, content_of-Alt}
 use Rattle.ill_schema.proofs.Trees.{wrapped, sequence_tree, list_tree, chosen_tree, no_row_tree, entry_step, absent_step, item_step}
 use Rattle.ill_write.specs.ContentSizes.{content_sizes, all_content_sizes}
 use Rattle.ill_write.proofs.Measured.{leaf_tree, inside_small, closed, closed_empty, only, step_sum, step_pushed, step_small}
@@ -155,3 +156,33 @@ measure_items-loop-item-preserved t c =
       so_far = step_sum c.loop-item.out.items c.measure_item.new.out.items _ _ _ c.loop-item.sum c.in_ok-sum.field-0 _ e m c.loop-item.invariant.so_far;
       pushed = step_pushed c.loop-item.out.items c.measure_item.new.out.items _ _ _ _ c.in_ok-sum.field-0 e m c.loop-item.invariant.pushed;
     }
+
+pub measure_value-returns-in-Flag : goal.measure_value-returns-in-Flag
+measure_value-returns-in-Flag t c =
+    let e = leaf_tree c.args.replaced c.args.node _ (flag c.in-Flag.flag) _ (ap content_of c.in-Flag.is ∙ content_of-Flag c.in-Flag.flag) c.element_tag-tag.ensures in
+    (c.leaf_size.ensures ∙ ap size (sym e), sym (ap (λ T. c.args.out.now.items ++ content_sizes T) e ∙ append-nil c.args.out.now.items))
+
+pub measure_value-returns-in-Date : goal.measure_value-returns-in-Date
+measure_value-returns-in-Date t c =
+    let e = leaf_tree c.args.replaced c.args.node _ (date c.in-Date.text) _ (ap content_of c.in-Date.is ∙ content_of-Date c.in-Date.text) c.element_tag-tag.ensures in
+    (c.leaf_size-in-Date.ensures ∙ ap size (sym e), sym (ap (λ T. c.args.out.now.items ++ content_sizes T) e ∙ append-nil c.args.out.now.items))
+
+pub measure_value-returns-in-Time : goal.measure_value-returns-in-Time
+measure_value-returns-in-Time t c =
+    let e = leaf_tree c.args.replaced c.args.node _ (time c.in-Time.text) _ (ap content_of c.in-Time.is ∙ content_of-Time c.in-Time.text) c.element_tag-tag.ensures in
+    (c.leaf_size-in-Time.ensures ∙ ap size (sym e), sym (ap (λ T. c.args.out.now.items ++ content_sizes T) e ∙ append-nil c.args.out.now.items))
+
+pub measure_value-returns-in-Print : goal.measure_value-returns-in-Print
+measure_value-returns-in-Print t c =
+    let e = leaf_tree c.args.replaced c.args.node _ (printable c.in-Print.text) _ (ap content_of c.in-Print.is ∙ content_of-Print c.in-Print.text) c.element_tag-tag.ensures in
+    (c.leaf_size-in-Print.ensures ∙ ap size (sym e), sym (ap (λ T. c.args.out.now.items ++ content_sizes T) e ∙ append-nil c.args.out.now.items))
+
+pub measure_value-returns-in-Str : goal.measure_value-returns-in-Str
+measure_value-returns-in-Str t c =
+    let e = leaf_tree c.args.replaced c.args.node _ (string_value c.in-Str.text) _ (ap content_of c.in-Str.is ∙ content_of-Str c.in-Str.text) c.element_tag-tag.ensures in
+    (c.string_size.ensures ∙ ap size (sym e), sym (ap (λ T. c.args.out.now.items ++ content_sizes T) e ∙ append-nil c.args.out.now.items))
+
+pub measure_value-string_size-requires-clause-small : goal.measure_value-string_size-requires-clause-small
+measure_value-string_size-requires-clause-small t c =
+    let e = leaf_tree c.args.replaced c.args.node _ (string_value c.in-Str.text) _ (ap content_of c.in-Str.is ∙ content_of-Str c.in-Str.text) c.element_tag-tag.ensures in
+    subst (λ T. size T ≤ profile_two.limit) e c.requires.small

@@ -1,11 +1,12 @@
 use Rattle.std.proofs.Common.{rules, ◌≡◌, ◌+◌, ◌≤◌, ◌++◌, length, slice_get, IfOk, Ok, Some, None, [], refl, sym, ap, subst, ◌∙◌, arith, drop}
 use Rattle.ber_core.specs.Tree.{constructed, more, none}
-use Rattle.ber_leaf.specs.Simple.{flag, whole}
+use Rattle.ber_leaf.specs.Simple.{date, flag, printable, time, whole}
+use Rattle.ber_leaf.specs.Strings.{string_value}
 use Rattle.ill_schema.specs.Value.{content_of, entries_content, items_content}
 use Rattle.ill_schema.specs.Normal.{normal_trees, normal_items}
 use Rattle.ber_core.specs.Der.{encoding, encodings, size, sizes}
 use Rattle.ill_schema.specs.Table.{kind_of, rows_of}
-use Rattle.ill_schema.proofs.Contents.{content_of-Flag, content_of-Whole, content_of-Seq, content_of-List, content_of-Alt}
+use Rattle.ill_schema.proofs.Contents.{content_of-Flag, content_of-Whole, content_of-Date, content_of-Time, content_of-Print, content_of-Str, content_of-Seq, content_of-List, content_of-Alt}
 use Rattle.ill_schema.specs.Elements.{tag_at, row_tree, element_tree, element_tag, place_trees, item_trees}
 use Rattle.ill_write.specs.ContentSizes.{content_sizes, all_content_sizes}
 use Rattle.ill_write.specs.code.Puts.{Puts}
@@ -14,7 +15,7 @@ use Rattle.ill_schema.proofs.Trees.{wrapped, sequence_tree, list_tree, chosen_tr
 use Rattle.ill_write.proofs.Tags.{place_valid, row_valid}
 use Rattle.ill_write.proofs.Measured.{leaf_tree, inside_small}
 use Rattle.ill_write.proofs.Putting.{puts_nothing}
-use Rattle.ill_write.proofs.Writing.{next_first, next_after, next_nothing, composed, not_opened, only_one, empty_element, default_trees, reached_none, reached_same, reached_next, reached_small, reached_more, reached_failed}
+use Rattle.ill_write.proofs.Writing.{next_first, next_after, next_nothing, composed, not_opened, only_one, empty_element, default_trees, leaf_next, string_normal, reached_none, reached_same, reached_next, reached_small, reached_more, reached_failed}
 use Rattle.ber_leaf.specs.Profile.{profile_two}
 use Rattle.ill_schema.specs.declared.value.Value.{the_lemmas}
 use Rattle.ill_write.proofs.write.+write.Goals as goal
@@ -250,3 +251,57 @@ write_value-returns-in-None-clause-puts g t c =
     let e = ap (λ x. element_tree c.args.replaced c.args.node x) is ∙ no_row_tree c.args.replaced c.args.node c.in-Alt.number _ (sym c.row.ensures ∙ c.in-None.is) ∙ ap (λ x. constructed x none) tag in
     let coming = subst (λ z. NextAre c.args.contents.now c.args.progress.now.next (content_sizes z)) e c.requires.coming in
     empty_element c.open_element-in-None.result _ _ c.args.progress.now c.open_element-in-None.new.progress _ (tag_at c.element_tag-tag.result) _ e (next_first _ _ 0 [] coming) c.open_element-in-None.ensures.puts
+
+pub write_value-returns-in-Flag-clause-next : goal.write_value-returns-in-Flag-clause-next
+write_value-returns-in-Flag-clause-next g t c =
+    let e = leaf_tree c.args.replaced c.args.node _ (flag c.in-Flag.flag) _ (ap content_of c.in-Flag.is ∙ content_of-Flag c.in-Flag.flag) c.element_tag-tag.ensures in
+    leaf_next c.write_short_contents.result _ _ _ _ _ e c.write_short_contents.ensures.next
+
+pub write_value-returns-in-Whole-clause-next : goal.write_value-returns-in-Whole-clause-next
+write_value-returns-in-Whole-clause-next g t c =
+    let e = leaf_tree c.args.replaced c.args.node _ (whole c.in-Whole.number) _ (ap content_of c.in-Whole.is ∙ content_of-Whole c.in-Whole.number) c.element_tag-tag.ensures in
+    leaf_next c.write_short_contents-in-Whole.result _ _ _ _ _ e c.write_short_contents-in-Whole.ensures.next
+
+pub write_value-returns-in-Date-clause-next : goal.write_value-returns-in-Date-clause-next
+write_value-returns-in-Date-clause-next g t c =
+    let e = leaf_tree c.args.replaced c.args.node _ (date c.in-Date.text) _ (ap content_of c.in-Date.is ∙ content_of-Date c.in-Date.text) c.element_tag-tag.ensures in
+    leaf_next c.write_primitive.result _ _ _ _ _ e c.write_primitive.ensures.next
+
+pub write_value-returns-in-Date-clause-puts : goal.write_value-returns-in-Date-clause-puts
+write_value-returns-in-Date-clause-puts g t c =
+    let e = leaf_tree c.args.replaced c.args.node _ (date c.in-Date.text) _ (ap content_of c.in-Date.is ∙ content_of-Date c.in-Date.text) c.element_tag-tag.ensures in
+    let puts = rw c.octets.ensures.value at c.write_primitive.ensures.puts in
+    subst (λ T. Puts c.write_primitive.result (encoding T) (g.W.Sink.contents c.args.sink.now) c.args.progress.now (g.W.Sink.contents c.write_primitive.new.sink) c.write_primitive.new.progress) (sym e) puts
+
+pub write_value-returns-in-Time-clause-next : goal.write_value-returns-in-Time-clause-next
+write_value-returns-in-Time-clause-next g t c =
+    let e = leaf_tree c.args.replaced c.args.node _ (time c.in-Time.text) _ (ap content_of c.in-Time.is ∙ content_of-Time c.in-Time.text) c.element_tag-tag.ensures in
+    leaf_next c.write_primitive-in-Time.result _ _ _ _ _ e c.write_primitive-in-Time.ensures.next
+
+pub write_value-returns-in-Time-clause-puts : goal.write_value-returns-in-Time-clause-puts
+write_value-returns-in-Time-clause-puts g t c =
+    let e = leaf_tree c.args.replaced c.args.node _ (time c.in-Time.text) _ (ap content_of c.in-Time.is ∙ content_of-Time c.in-Time.text) c.element_tag-tag.ensures in
+    let puts = rw c.octets-in-Time.ensures.value at c.write_primitive-in-Time.ensures.puts in
+    subst (λ T. Puts c.write_primitive-in-Time.result (encoding T) (g.W.Sink.contents c.args.sink.now) c.args.progress.now (g.W.Sink.contents c.write_primitive-in-Time.new.sink) c.write_primitive-in-Time.new.progress) (sym e) puts
+
+pub write_value-returns-in-Print-clause-next : goal.write_value-returns-in-Print-clause-next
+write_value-returns-in-Print-clause-next g t c =
+    let e = leaf_tree c.args.replaced c.args.node _ (printable c.in-Print.text) _ (ap content_of c.in-Print.is ∙ content_of-Print c.in-Print.text) c.element_tag-tag.ensures in
+    leaf_next c.write_primitive-in-Print.result _ _ _ _ _ e c.write_primitive-in-Print.ensures.next
+
+pub write_value-returns-in-Print-clause-puts : goal.write_value-returns-in-Print-clause-puts
+write_value-returns-in-Print-clause-puts g t c =
+    let e = leaf_tree c.args.replaced c.args.node _ (printable c.in-Print.text) _ (ap content_of c.in-Print.is ∙ content_of-Print c.in-Print.text) c.element_tag-tag.ensures in
+    let puts = rw c.octets-in-Print.ensures.value at c.write_primitive-in-Print.ensures.puts in
+    subst (λ T. Puts c.write_primitive-in-Print.result (encoding T) (g.W.Sink.contents c.args.sink.now) c.args.progress.now (g.W.Sink.contents c.write_primitive-in-Print.new.sink) c.write_primitive-in-Print.new.progress) (sym e) puts
+
+pub write_value-returns-in-Str-clause-next : goal.write_value-returns-in-Str-clause-next
+write_value-returns-in-Str-clause-next g t c =
+    let e = leaf_tree c.args.replaced c.args.node _ (string_value c.in-Str.text) _ (ap content_of c.in-Str.is ∙ content_of-Str c.in-Str.text) c.element_tag-tag.ensures in
+    leaf_next c.write_primitive-in-Str.result _ _ _ _ _ e c.write_primitive-in-Str.ensures.next
+
+pub write_value-returns-in-Str-clause-puts : goal.write_value-returns-in-Str-clause-puts
+write_value-returns-in-Str-clause-puts g t c =
+    let e = leaf_tree c.args.replaced c.args.node _ (string_value c.in-Str.text) _ (ap content_of c.in-Str.is ∙ content_of-Str c.in-Str.text) c.element_tag-tag.ensures in
+    let puts = rw (c.octets-in-Str.ensures.value, string_normal c.in-Str.text) at c.write_primitive-in-Str.ensures.puts in
+    subst (λ T. Puts c.write_primitive-in-Str.result (encoding T) (g.W.Sink.contents c.args.sink.now) c.args.progress.now (g.W.Sink.contents c.write_primitive-in-Str.new.sink) c.write_primitive-in-Str.new.progress) (sym e) puts
