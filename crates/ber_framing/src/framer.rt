@@ -120,8 +120,7 @@ impl Framer {
         }
     }
 
-    /// The number of octets that a length still has that is too great to be framed; 0 in every other case. No octet after them says more of
-    /// that length.
+    /// The number of octets still to come of a length that is too large to be framed; 0 in every other case.
     pub fn oversized_length_rest(&self) -> u8
         ensures { (b : List ℕ) → IsFed self.now b → (IsUnframed b → ⊥) → result ≡ 0 }
     {

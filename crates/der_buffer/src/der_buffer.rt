@@ -290,7 +290,7 @@ fn set_length(octets: &mut Vec<u8>, contents_start: usize) -> Result<(), AllocEr
     set_long_length(octets, contents_start)
 }
 
-// The same where the length may take more than one octet.
+// Sets a length that takes more than one octet.
 #[inline(never)]
 fn set_long_length(octets: &mut Vec<u8>, contents_start: usize) -> Result<(), AllocError>
     requires opened { 0 < contents_start }

@@ -209,7 +209,7 @@ fn each_file<R: Print + Eprint + Input + Files + AllocGlobal + Host>(
     status
 }
 
-/// The status of files of which those before have one, and the next has the other.
+/// Combines the exit status of the files before with that of the next file: 3 comes before 1, and 1 before 0.
 pub fn combined_status(before: u8, next: u8) -> u8
     ensures { result ≡ worst (before ∷ next ∷ []) }
 {

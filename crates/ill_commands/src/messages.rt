@@ -139,7 +139,7 @@ pub fn run_with<R: Source, W: Sink>(
     run_counting::<R, Unbuffered, W>(alloc, work, source, sink).result
 }
 
-/// Does a job as [`run`] does, by a way to look at the source, and counts the messages that it was done with. Those that `work` doesn't
+/// Does a job as [`run`] does, with the lookahead `L`, and counts the messages that it was done with. Those that `work` doesn't
 /// compare with their normal forms all count as good.
 ///
 /// # Errors

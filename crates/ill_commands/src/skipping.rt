@@ -27,8 +27,8 @@ pub fn verdict_of(job: Job, counts: SkippingCounts) -> Verdict
 
 /// Does a job as [`run`](crate::run) does, and where a message is refused, reports it and goes on with the next one. It ends where its
 /// outermost element does, as its length or its end marks say; where that can't be known, the report says so, and the input is read no
-/// further. Numbers count refused messages, too. What is written of the others is what would be written without the refused ones, but
-/// for their numbers.
+/// further. Numbers count refused messages, too. Apart from its number, the output for an accepted message is the same as without the refused
+/// ones.
 ///
 /// # Errors
 ///
@@ -55,7 +55,7 @@ pub fn run_skipping<R: Source, W: Sink, T: ReportRefusals>(
     run_skipping_peeking::<R, Unbuffered, W, T>(alloc, work, source, sink, reports)
 }
 
-/// Does a job as [`run_skipping`] does, by a way to look at the source.
+/// Does a job as [`run_skipping`] does, with the lookahead `L`.
 ///
 /// # Errors
 ///

@@ -138,7 +138,7 @@ pub fn open_alone<R: Input + Files + AllocGlobal>(
     Ok(Opened::File(FromRead::new(open_file(rt, name)?)))
 }
 
-/// The reader of standard input. It is large, so that memory is taken for it, and no file has room for it.
+/// The reader of standard input, in a box: it is large, and the source of a file needs no room for it.
 fn standard_input<R: Input + AllocGlobal>(rt: &R) -> Result<Box<R::Reader>, ProgramError> {
     Box::new(rt.alloc(), rt.reader()).map_err(|_| ProgramError::out_of_memory())
 }

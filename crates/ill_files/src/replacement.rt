@@ -132,7 +132,7 @@ fn existing_file<R: Files>(rt: &R, name: &str) -> ExistingFile {
     }
 }
 
-/// Creates a file of a name that nothing has, made of this one. None where the folder or the file system allows none.
+/// Creates a new file `NAME.part`, or `NAME.part1` and so on where that name is taken. None where the folder or the file system allows no file.
 ///
 /// # Errors
 ///

@@ -76,7 +76,7 @@ found_default f node row s round is =
     let component : a.component ≡ component_at (record { node = node; row = row_of f }) row = cc in
     ap default_due a.is_due ∙ ap (λ c. presence_default c.presence) component
 
--- a leaf that was found at a row is left away exactly where it has the default of what was found
+-- a leaf that was found at a row is omitted exactly where it has the default of what was found
 row_left : (f : CellFound) (t : Tag) (node : NodeId) (position : ℕ) (l : LeafType) (o : List ℕ) → slot_of f ≡ cell.Row → parent_node f ≡ node
     → (d : IsRowDue t node position (row_of f) None (due_with (AtRow (row_of f)) None (LeafElement l)).found)
     → elim (slice_get (rows_of node) (row_of f)) as (λ _. Bool) [ Some row ↦ is_default row (simple (value (leaf_is l) o)) | None ↦ false ] ≡ has_default (default_due (due_of f)) (leaf_is l) o
@@ -85,7 +85,7 @@ row_left f t node position l o s round d =
     ∙ row_default node (row_of f) d.row t (leaf_is l) o d.is_row d.begins
     ∙ ap (λ x. has_default x (leaf_is l) o) (sym (found_default f node d.row s round d.is_row))
 
--- a leaf that isn't of a choice is left away exactly where it has the default of what was found in a row
+-- a leaf that isn't of a choice is omitted exactly where it has the default of what was found in a row
 default_left : (f : CellFound) (t : Tag) (n : Next) (l : LeafType) (o : List ℕ) → IsDueIn t n (due_with (slot_in f) None (LeafElement l)) → shape_at (next_place f) ≡ behind n (slot_in f)
     → left_away n (slot_in f) (simple (value (leaf_is l) o)) ≡ elim (slot_of f) as (λ _. Bool) [ cell.Row ↦ has_default (default_due (due_of f)) (leaf_is l) o | _ ↦ false ]
 default_left f t n l o due after = go (slot_of f) refl n due after
@@ -132,7 +132,7 @@ left_row default alternative slot l o d e n r = ap (λ x. is_left x alternative 
     go None n = refl
     go (Some k) n = absurd cc
 
--- a leaf is left away exactly where it has the default of what was found
+-- a leaf is omitted exactly where it has the default of what was found
 pub found_left : (f : CellFound) (t : Tag) (n : Next) (l : LeafType) (o : List ℕ) → IsDueIn t n (due_with (slot_in f) (alternative_of f) (LeafElement l)) → shape_at (next_place f) ≡ behind n (slot_in f)
     → left_away n (slot_in f) (with_alternative (alternative_of f) (simple (value (leaf_is l) o))) ≡ is_left (default_due (due_of f)) (alternative_of f) (slot_of f) (leaf_is l) o
 found_left f t n l o due after = go (alternative_of f) due

@@ -144,7 +144,7 @@ pub record DueEntry : Type 0 where
 abbrev pub due_as : CellFound → DueEntry
 due_as f = record { slot = slot_in f; alternative = alternative_of f; found = found_in f }
 
--- the same where it isn't left out
+-- that of an element that is not left out
 abbrev pub read_due : CellFound → DueEntry
 read_due f = record { slot = slot_in f; alternative = alternative_of f; found = begun.Element (read_as f) }
 

@@ -283,7 +283,7 @@ const FOREIGN: [Cell; 20] = [
     foreign!(Foreign, 19),
 ];
 
-/// The cells of a node: those by which it begins, and those of what it may contain.
+/// The cells of a node: first that of its own tag or type, then those of its components.
 #[inline(always)]
 pub fn cells_of(node: NodeId) -> &'static [Cell]
     ensures meant { cells_meant result.now ≡ node_meant node }

@@ -8,7 +8,7 @@ use crate::place::Found;
 use ber_leaf::{BitString, Leaf, LeafFault};
 use ill_schema::{NodeId, PartId, Profile};
 
-/// An element, as what it is read.
+/// The way in which an element is read.
 #[derive(Clone, Copy)]
 pub enum Element {
     Leaf(LeafType),

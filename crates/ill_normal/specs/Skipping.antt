@@ -30,7 +30,7 @@ pub record Skips (q : Profile) (text : MessagePlace → Spelling → List ℕ) (
   pub written : Appends held held' (written_from text first items)
   pub reported : Adds reports.old reports.new (reports_from first items)
 
--- of these octets no element begins with the first ones, of which any fewer are part of one
+-- a prefix of these octets begins no element, and each shorter prefix is a part of one
 pub record IsEndless (octets : List ℕ) : Type 0 where
   pub front : List ℕ
   pub more : List ℕ

@@ -67,7 +67,7 @@ pub fn check_one_as<R: Source>(
     Ok(Some(found.0))
 }
 
-/// Checks a message as [`check_one`] does, by a way to look at the source.
+/// Checks a message as [`check_one`] does, with the lookahead `L`.
 ///
 /// # Errors
 ///

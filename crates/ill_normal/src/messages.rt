@@ -159,7 +159,7 @@ pub struct StreamError {
     pub why: StreamErrorKind,
 }
 
-/// Writes what is made of each message of an input, one after another up to its end, by a way to look at the source. All that is
+/// Writes what is made of each message of an input, one after another up to its end, with the lookahead `L`. All that is
 /// needed of a message is made before any of it is written, and one message is held at a time. Its memory is used again for the next one.
 /// One reader reads all of them.
 ///

@@ -58,7 +58,7 @@ pub struct SkippingError {
     pub why: SkippingErrorKind,
 }
 
-/// Goes through the messages of an input, one after another up to its end, by a way to look at the source, and writes what is made of each.
+/// Writes what is made of each accepted message of an input, one after another up to its end, with the lookahead `L`.
 /// A message that is refused is reported, and then the work goes on after its end, as its framing gives it: its outermost element ends
 /// where its length says, or with its end mark. Where the end can't be known, the report says so, and that was the last message.
 ///

@@ -32,7 +32,7 @@ pub fn unknown_ends_are_last()
         → length octets < 18_446_744_073_709_551_615 → HasNoMore (octets ++ rest) }
 {}
 
-/// A refusal that says more than that the octets end is that of the input that they begin, so it is what a call returns that stops there.
+/// A refusal other than Truncated stays when octets are appended. So a call that stops there returns the refusal of the whole input.
 pub fn refusals_are_of_the_input()
     ensures { (p : Named) (octets rest : List ℕ) (refusal : Refusal)
         → refusal.cause ≢ Cause.Truncated → IsRefusedFor (profile_of p) octets refusal

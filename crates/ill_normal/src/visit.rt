@@ -188,7 +188,7 @@ pub trait VisitMessages {
             → IfErr result (fails start from (with_source left broken to)) };
 }
 
-/// Has a visitor visit each message of an input, one after another up to its end, by a way to look at the source.
+/// Visits the messages of an input, one after another up to its end, with the lookahead `L`.
 ///
 /// ```
 /// let counts = visit_messages::<V, R, L, W, T>(alloc, &mut visitor, source, sink, reports)?;

@@ -30,7 +30,7 @@ pub struct Head {
 
 /// The head of an APDU, read from its first entries.
 ///
-/// Best called after the other reads, or in `both` with one of them: an error after it has all its fields to drop, in code and in proofs.
+/// Call it last, or in `both` with another read: an error after it has to drop all its fields, which costs code and proof.
 pub fn read_head(alloc: Global, entries: &[Option<Value>]) -> Result<Head, AllocError>
     requires version { Must (Is Integer) (entry_at entries.now 0) }
     requires transaction { Must (Is TransactionNode) (entry_at entries.now 1) }

@@ -37,7 +37,7 @@ pub fn read_message<R: Source>(
     read_message_peeking::<R, Unbuffered>(alloc, source)
 }
 
-/// Reads a message as [`read_message`] does, by a way to look at the source: octets that are at hand are read where they are, as far as the
+/// Reads a message as [`read_message`] does, with the lookahead `L`: octets that are at hand are read where they are, as far as the
 /// message goes, and no octet after it is taken.
 ///
 /// # Errors
@@ -73,7 +73,7 @@ pub fn read_recording<R: Source>(
     read_recording_peeking::<R, Unbuffered>(alloc, source, recorded)
 }
 
-/// Reads a message as [`read_recording`] does, by a way to look at the source.
+/// Reads a message as [`read_recording`] does, with the lookahead `L`.
 ///
 /// # Errors
 ///
@@ -143,7 +143,7 @@ enum FillError {
     OutOfMemory,
 }
 
-/// Feeds a reader until nothing is needed any more or the source ends, and hands on what it is fed to what keeps it.
+/// Feeds a reader until it needs nothing more or the source ends, and records the octets that it is fed.
 #[inline(always)]
 fn fill<D: Draft, R: Source, L: Lookahead<R>, K: Recorder>(
     reader: &mut Reader<D>,

@@ -446,7 +446,7 @@ proper_untagged Kind.Choice n = refl
 proper_untagged Kind.IllString n = refl
 proper_untagged (Kind.Leaf x) n = refl
 
--- the same where an element of open type has no tag round it
+-- two values that a tree means without a tag round it are equal
 pub value_unique : (p : Profile) (c d : Content) (node : NodeId) (T : Tree) → Means p c node untagged T → Means p d node untagged T → c ≡ d
 value_unique p c d node T h k = go (kind_of node) refl
   where

@@ -131,7 +131,7 @@ twin Expired = ModuleExpired
 twin IllApdu = ModuleIllApdu
 twin node = node
 
--- the same where a table is that of the module profile
+-- the node that a profile has for a node of profile 2
 abbrev pub twin_in : Bool → NodeId → NodeId
 twin_in true node = twin node
 twin_in false node = node

@@ -78,7 +78,7 @@ pub fn element_size(tag: (Class, u32), constructed: bool, contents: u32) -> u32
 pub fn apdu_row(message: &Message) -> Row
     ensures { slice_get (rows_of NodeId.IllApdu) ((apdu_of message.now).number - 1) ≡ Some result }
 {
-    // What is said of the body says that there is the row.
+    // The contract of `body` gives the row.
     let _body = message.body();
     row(PartId {
         node: NodeId::IllApdu,
