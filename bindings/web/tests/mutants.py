@@ -41,7 +41,7 @@ def is_seen(module, at, octet):
 
 
 def main():
-    count = int(sys.argv[1]) if len(sys.argv) > 1 else 8
+    count = int(sys.argv[1]) if len(sys.argv) > 1 else 24
     module, places = MODULE.read_bytes(), list(decisions())
     seen = 0
     for i in range(count):
