@@ -4,7 +4,7 @@
 Usage: proved.py CRATE           the public calls of a crate
        proved.py CRATE CALL..    the same with each clause in full; CALL is `normalise` or `Decoder::feed`
        proved.py --laws [CRATE]  the laws, with what each says
-       proved.py --wrong         the wrong bodies: the edits that `rt ci` tries, and what laws and clauses exclude (wrong_bodies.txt)
+       proved.py --wrong         the wrong bodies: the edits that `rt ci` and tests/edits/run.sh try, and what laws and clauses exclude (wrong_bodies.txt)
        proved.py --check         fails where a document names a call, a clause, a law or an edit that isn't there
 """
 import re
@@ -113,8 +113,11 @@ def print_laws(only):
 
 
 def edits():
-    for path in sorted(CRATES.glob("*/must-fail/*.edit")):
-        yield path, dict(re.findall(r"(?m)^(file|old|new): *(.*)$", path.read_text(encoding="utf-8")))
+    """The edits with their crates: those that `rt ci` tries, and those that tests/edits/run.sh tries."""
+    found = [(path.parts[-3], path) for path in CRATES.glob("*/must-fail/*.edit")]
+    found += [(path.parts[-2], path) for path in (TOP / "tests/edits").glob("*/*.edit")]
+    for crate, path in sorted(found):
+        yield crate, path, dict(re.findall(r"(?m)^(file|old|new): *(.*)$", path.read_text(encoding="utf-8")))
 
 
 def excluded():
@@ -127,8 +130,8 @@ def excluded():
 
 def print_wrong():
     print("Edits that the prover has to refuse:\n")
-    for path, edit in edits():
-        print(f"{path.stem}  ({path.parts[-3]}/{edit['file']})\n    - {edit['old']}\n    + {edit['new']}")
+    for crate, path, edit in edits():
+        print(f"{path.stem}  ({crate}/{edit['file']})\n    - {edit['old']}\n    + {edit['new']}")
     print("\nExcluded by laws and clauses:\n")
     for _, names, bodies in excluded():
         print(names)
@@ -143,7 +146,7 @@ def faults():
         for function in found:
             for name in {function.full_name(), f"{crate}::{function.name}", f"{crate}::{function.full_name()}"}:
                 named.setdefault(name, []).append(function)
-    known = {function.name for found in by_crate.values() for function in found} | {path.stem for path, _ in edits()}
+    known = {function.name for found in by_crate.values() for function in found} | {path.stem for _, path, _ in edits()}
     for document in CHECKED:
         for number, line in enumerate((TOP / document).read_text(encoding="utf-8").splitlines(), 1):
             for call, clauses in re.findall(r"`(\w+::(?:\w+::)?[a-z]\w*)`(?: \(((?:`\w+`(?:, )?)+)\))?", line):
