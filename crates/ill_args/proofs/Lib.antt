@@ -1,3 +1,4 @@
+pub mod Arguments
 pub mod Canonicalised
 pub mod Command
 pub mod Filled

@@ -1,10 +1,11 @@
 //! The commands and their flags, as clap takes them.
-ghost use Rattle.std.specs.Prelude.{◌≡◌, codes, false, IfOk};
+ghost use Rattle.std.specs.Prelude.{◌≡◌, codes, false, map, IfOk};
 ghost use Rattle.clap.specs.Words.{app_of, rule_of};
-ghost use Rattle.clap.specs.Simple.{App, with_subcommand};
+ghost use Rattle.clap.specs.Simple.{App, new_app, with_subcommand};
 ghost use Rattle.clap.specs.declared.builder.command.Command.TheViews.{out-Command as fields_of};
-ghost use Rattle.ill_args.specs.CommandLine.{bare_program, each_counted, each_dumped, each_file, each_json, each_line, each_numbered, file_rule, filename_rule, files_rule, flag_rule, into_one, list_rule, message_rule, output_rule, profile_rule, program_of, refused_rule, topic, two_files, with_files, with_summary, with_hex, with_lines, with_names, with_output, with_printing, with_skipping, with_whole};
+ghost use Rattle.ill_args.specs.CommandLine.{bare_program, each_dumped, each_json, each_line, file_rule, filename_rule, files_rule, flag_rule, into_one, list_rule, message_rule, output_rule, profile_rule, program_of, refused_rule, topic, two_files, with_hex, with_printing};
 ghost use Rattle.ill_args.specs.code.Commands.{AreAllNames};
+ghost use Rattle.ill_args.specs.code.Arguments.{rule_for, with_rules};
 
 use crate::{help, topics};
 use clap::builder::ValueParser;
@@ -154,7 +155,91 @@ fn files<'a>(alloc: Global, help: &'a str) -> Arg<'a>
         .help(help)
 }
 
-// Each of these functions adds one or two arguments: what is proved of a chain of calls that may fail grows faster than the chain.
+/// An argument that not all commands have, with what the help says of it where commands differ in that.
+#[derive(Clone, Copy)]
+enum Argument {
+    /// The flag `--NAME`.
+    Flag(&'static str, &'static str),
+    /// A file that must be named: its id, and its name in the usage.
+    File(&'static str, &'static str, &'static str),
+    /// Any number of files.
+    Files(&'static str),
+    List,
+    Filename,
+    Refused,
+    Output,
+    Message,
+}
+
+use Argument::{File, Filename, Files, Flag, List, Message, Output, Refused};
+
+const KEEP_GOING_FLAG: Argument = Flag("keep-going", KEEP_GOING);
+
+const SUMMARY_FLAG: Argument = Flag("summary", SUMMARY);
+
+static SHOW: [Argument; 7] = [
+    List,
+    Files(MESSAGES),
+    Filename,
+    KEEP_GOING_FLAG,
+    Refused,
+    SUMMARY_FLAG,
+    Flag("json", JSON),
+];
+
+/// The arguments of `check` and `digest`.
+static CHECK: [Argument; 8] = [
+    KEEP_GOING_FLAG,
+    Refused,
+    SUMMARY_FLAG,
+    Flag("lines", LINES),
+    List,
+    Files(MESSAGES),
+    Filename,
+    Flag("json", RESULTS_AS_JSON),
+];
+
+static DUMP: [Argument; 6] = [
+    List,
+    Files(MESSAGES),
+    Filename,
+    KEEP_GOING_FLAG,
+    Message,
+    Flag("html", HTML),
+];
+
+static SAME: [Argument; 2] = [
+    File("first", "FILE", "A message; `-` is standard input"),
+    File("second", "OTHER", "Another; `-` is standard input"),
+];
+
+static CANONICALISE: [Argument; 8] = [
+    KEEP_GOING_FLAG,
+    Refused,
+    SUMMARY_FLAG,
+    Flag("lines", LINES),
+    Flag("whole", WHOLE),
+    Output,
+    List,
+    Files("IN and OUT; or with `-o OUT` the messages; `-` is standard input or output"),
+];
+
+/// An argument as clap takes it.
+fn arg<'a>(alloc: Global, argument: Argument) -> Arg<'a>
+    ensures rule { rule_of result ≡ rule_for argument }
+    ensures local { result.global ≡ false }
+{
+    match argument {
+        Flag(name, help) => flag(alloc, name, help),
+        File(id, name, help) => file(alloc, id, name, help),
+        Files(help) => files(alloc, help),
+        List => list(alloc),
+        Filename => filename(alloc),
+        Refused => refused(alloc),
+        Output => output(alloc),
+        Message => message(alloc),
+    }
+}
 
 /// A command that reads hexadecimal text, too, and any of these profiles.
 fn by_hex<'a>(
@@ -174,181 +259,37 @@ fn by_hex<'a>(
         .arg(profile(alloc, profiles))
 }
 
-/// A command, and its files.
-fn with_files<'a>(
+/// A command with these arguments more.
+fn with_arguments<'a>(
     alloc: Global,
     command: Command<'a>,
-    help: &'a str,
+    arguments: &[Argument],
 ) -> Result<Command<'a>, AllocError>
     requires { (fields_of command).has_globals ≡ false }
-    ensures { IfOk result (λ c. (app_of c ≡ with_files (app_of command.entry))
-        × ((fields_of c).has_globals ≡ false)) }
+    ensures { IfOk result (λ c. (app_of c ≡ with_rules (app_of command.entry)
+        (map rule_for arguments.now)) × ((fields_of c).has_globals ≡ false)) }
 {
-    command.arg(list(alloc))?.arg(files(alloc, help))
+    let mut command = command;
+    for argument in arguments {
+        command = command.arg(arg(alloc, *argument))?;
+    }
+    Ok(command)
 }
 
-/// A command, and its files, which its lines may name.
-fn with_names<'a>(
-    alloc: Global,
-    command: Command<'a>,
-    help: &'a str,
-) -> Result<Command<'a>, AllocError>
-    requires { (fields_of command).has_globals ≡ false }
-    ensures { IfOk result (λ c. (app_of c ≡ with_names (app_of command.entry))
-        × ((fields_of c).has_globals ≡ false)) }
-{
-    with_files(alloc, command, help)?.arg(filename(alloc))
-}
-
-fn on_each<'a>(
+/// A command with these arguments, which can name any of these profiles.
+fn command<'a>(
     alloc: Global,
     profiles: &'a [&'a str],
     name: &'a str,
     about: &'a str,
     after: &'a str,
+    arguments: &[Argument],
 ) -> Result<Command<'a>, AllocError>
-    ensures { IfOk result (λ c. (app_of c ≡ each_file profiles.entry name.entry.now)
-        × ((fields_of c).has_globals ≡ false)) }
+    ensures { IfOk result (λ c. (app_of c ≡ with_rules (with_hex profiles.entry name.entry.now)
+        (map rule_for arguments.now)) × ((fields_of c).has_globals ≡ false)) }
 {
-    with_names(
-        alloc,
-        by_hex(alloc, profiles, name, about, after)?,
-        MESSAGES,
-    )
-}
-
-/// A command that goes on after a message that is refused, whose octets may go to a file.
-fn with_skipping<'a>(alloc: Global, command: Command<'a>) -> Result<Command<'a>, AllocError>
-    requires { (fields_of command).has_globals ≡ false }
-    ensures { IfOk result (λ c. (app_of c ≡ with_skipping (app_of command.entry))
-        × ((fields_of c).has_globals ≡ false)) }
-{
-    command
-        .arg(flag(alloc, "keep-going", KEEP_GOING))?
-        .arg(refused(alloc))
-}
-
-/// A command that goes on after a message that is refused, and counts messages.
-fn by_messages<'a>(
-    alloc: Global,
-    profiles: &'a [&'a str],
-    name: &'a str,
-    about: &'a str,
-    after: &'a str,
-) -> Result<Command<'a>, AllocError>
-    ensures { IfOk result (λ c. (app_of c ≡ with_summary profiles.entry name.entry.now)
-        × ((fields_of c).has_globals ≡ false)) }
-{
-    with_skipping(alloc, by_hex(alloc, profiles, name, about, after)?)?.arg(flag(
-        alloc, "summary", SUMMARY,
-    ))
-}
-
-/// A command that goes on after a message that is refused, counts messages, and reads lines, too.
-fn by_lines<'a>(
-    alloc: Global,
-    profiles: &'a [&'a str],
-    name: &'a str,
-    about: &'a str,
-    after: &'a str,
-) -> Result<Command<'a>, AllocError>
-    ensures { IfOk result (λ c. (app_of c ≡ with_lines profiles.entry name.entry.now)
-        × ((fields_of c).has_globals ≡ false)) }
-{
-    by_messages(alloc, profiles, name, about, after)?.arg(flag(alloc, "lines", LINES))
-}
-
-/// A command that has an output, which is replaced as a whole where that is asked for.
-fn replacing<'a>(
-    alloc: Global,
-    profiles: &'a [&'a str],
-    name: &'a str,
-    about: &'a str,
-    after: &'a str,
-) -> Result<Command<'a>, AllocError>
-    ensures { IfOk result (λ c. (app_of c ≡ with_whole profiles.entry name.entry.now)
-        × ((fields_of c).has_globals ≡ false)) }
-{
-    by_lines(alloc, profiles, name, about, after)?.arg(flag(alloc, "whole", WHOLE))
-}
-
-fn on_each_or_lines<'a>(
-    alloc: Global,
-    profiles: &'a [&'a str],
-    name: &'a str,
-    about: &'a str,
-    after: &'a str,
-) -> Result<Command<'a>, AllocError>
-    ensures { IfOk result (λ c. (app_of c ≡ each_line profiles.entry name.entry.now)
-        × ((fields_of c).has_globals ≡ false)) }
-{
-    with_names(
-        alloc,
-        by_lines(alloc, profiles, name, about, after)?,
-        MESSAGES,
-    )?
-    .arg(flag(alloc, "json", RESULTS_AS_JSON))
-}
-
-/// A command on files that goes on after a message that is refused, and counts messages.
-fn on_each_counted<'a>(
-    alloc: Global,
-    profiles: &'a [&'a str],
-    name: &'a str,
-    about: &'a str,
-    after: &'a str,
-) -> Result<Command<'a>, AllocError>
-    ensures { IfOk result (λ c. (app_of c ≡ each_counted profiles.entry name.entry.now)
-        × ((fields_of c).has_globals ≡ false)) }
-{
-    with_skipping(alloc, on_each(alloc, profiles, name, about, after)?)?.arg(flag(
-        alloc, "summary", SUMMARY,
-    ))
-}
-
-/// A command on files that goes on after a message that is refused, and can be asked for one message.
-fn on_each_numbered<'a>(
-    alloc: Global,
-    profiles: &'a [&'a str],
-    name: &'a str,
-    about: &'a str,
-    after: &'a str,
-) -> Result<Command<'a>, AllocError>
-    ensures { IfOk result (λ c. (app_of c ≡ each_numbered profiles.entry name.entry.now)
-        × ((fields_of c).has_globals ≡ false)) }
-{
-    on_each(alloc, profiles, name, about, after)?
-        .arg(flag(alloc, "keep-going", KEEP_GOING))?
-        .arg(message(alloc))
-}
-
-/// A command on files that can be asked for one message, and writes HTML on demand.
-fn on_each_dumped<'a>(
-    alloc: Global,
-    profiles: &'a [&'a str],
-    name: &'a str,
-    about: &'a str,
-    after: &'a str,
-) -> Result<Command<'a>, AllocError>
-    ensures { IfOk result (λ c. (app_of c ≡ each_dumped profiles.entry name.entry.now)
-        × ((fields_of c).has_globals ≡ false)) }
-{
-    on_each_numbered(alloc, profiles, name, about, after)?.arg(flag(alloc, "html", HTML))
-}
-
-/// A command on files that counts messages, and writes lines of JSON on demand.
-// Apart from `show`: the proof is quick where the name isn't known.
-fn on_each_as_json<'a>(
-    alloc: Global,
-    profiles: &'a [&'a str],
-    name: &'a str,
-    about: &'a str,
-    after: &'a str,
-) -> Result<Command<'a>, AllocError>
-    ensures { IfOk result (λ c. (app_of c ≡ each_json profiles.entry name.entry.now)
-        × ((fields_of c).has_globals ≡ false)) }
-{
-    on_each_counted(alloc, profiles, name, about, after)?.arg(flag(alloc, "json", JSON))
+    let command = by_hex(alloc, profiles, name, about, after)?;
+    with_arguments(alloc, command, arguments)
 }
 
 pub fn show<'a>(alloc: Global, profiles: &'a [&'a str]) -> Result<Command<'a>, AllocError>
@@ -356,7 +297,7 @@ pub fn show<'a>(alloc: Global, profiles: &'a [&'a str]) -> Result<Command<'a>, A
         × ((fields_of c).has_globals ≡ false)) }
 {
     let about = "Writes the messages as text";
-    on_each_as_json(alloc, profiles, "show", about, help::SHOW)
+    command(alloc, profiles, "show", about, help::SHOW, &SHOW)
 }
 
 pub fn check<'a>(alloc: Global, profiles: &'a [&'a str]) -> Result<Command<'a>, AllocError>
@@ -364,7 +305,7 @@ pub fn check<'a>(alloc: Global, profiles: &'a [&'a str]) -> Result<Command<'a>, 
         × ((fields_of c).has_globals ≡ false)) }
 {
     let about = "Reports for each message whether it is in normal form";
-    on_each_or_lines(alloc, profiles, "check", about, help::CHECK)
+    command(alloc, profiles, "check", about, help::CHECK, &CHECK)
 }
 
 pub fn digest<'a>(alloc: Global, profiles: &'a [&'a str]) -> Result<Command<'a>, AllocError>
@@ -372,7 +313,7 @@ pub fn digest<'a>(alloc: Global, profiles: &'a [&'a str]) -> Result<Command<'a>,
         × ((fields_of c).has_globals ≡ false)) }
 {
     let about = "Writes the digest of each message, the same however it is spelled";
-    on_each_or_lines(alloc, profiles, "digest", about, help::DIGEST)
+    command(alloc, profiles, "digest", about, help::DIGEST, &CHECK)
 }
 
 pub fn dump<'a>(alloc: Global, profiles: &'a [&'a str]) -> Result<Command<'a>, AllocError>
@@ -380,7 +321,7 @@ pub fn dump<'a>(alloc: Global, profiles: &'a [&'a str]) -> Result<Command<'a>, A
         × ((fields_of c).has_globals ≡ false)) }
 {
     let about = "Writes each element of the messages as it is spelled, and why one is refused";
-    on_each_dumped(alloc, profiles, "dump", about, help::DUMP)
+    command(alloc, profiles, "dump", about, help::DUMP, &DUMP)
 }
 
 fn same<'a>(alloc: Global, profiles: &'a [&'a str]) -> Result<Command<'a>, AllocError>
@@ -388,31 +329,24 @@ fn same<'a>(alloc: Global, profiles: &'a [&'a str]) -> Result<Command<'a>, Alloc
         × ((fields_of c).has_globals ≡ false)) }
 {
     let about = "Reports whether two files hold the same message, however it is spelled";
-    by_hex(alloc, profiles, "same", about, help::SAME)?
-        .arg(file(alloc, "first", "FILE", "A message; `-` is standard input"))?
-        .arg(file(alloc, "second", "OTHER", "Another; `-` is standard input"))
-}
-
-/// `canonicalise` without its files.
-fn canonicalise_with_output<'a>(
-    alloc: Global,
-    profiles: &'a [&'a str],
-) -> Result<Command<'a>, AllocError>
-    ensures { IfOk result (λ c. (app_of c ≡ with_output profiles.entry (codes "canonicalise"))
-        × ((fields_of c).has_globals ≡ false)) }
-{
-    let about = "Writes the normal form (DER) of each message in IN, or in each FILE, to OUT";
-    replacing(alloc, profiles, "canonicalise", about, help::CANONICALISE)?
-        .override_usage(help::CANONICALISE_USAGE)
-        .arg(output(alloc))
+    command(alloc, profiles, "same", about, help::SAME, &SAME)
 }
 
 pub fn canonicalise<'a>(alloc: Global, profiles: &'a [&'a str]) -> Result<Command<'a>, AllocError>
     ensures { IfOk result (λ c. (app_of c ≡ into_one profiles.entry (codes "canonicalise"))
         × ((fields_of c).has_globals ≡ false)) }
 {
-    let words = "IN and OUT; or with `-o OUT` the messages; `-` is standard input or output";
-    with_files(alloc, canonicalise_with_output(alloc, profiles)?, words)
+    let about = "Writes the normal form (DER) of each message in IN, or in each FILE, to OUT";
+    let name = "canonicalise";
+    let command = command(
+        alloc,
+        profiles,
+        name,
+        about,
+        help::CANONICALISE,
+        &CANONICALISE,
+    )?;
+    Ok(command.override_usage(help::CANONICALISE_USAGE))
 }
 
 /// A topic of `help`: a command that only has a help text.

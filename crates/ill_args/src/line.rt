@@ -1,11 +1,13 @@
 //! The order that the words of a command line give.
-ghost use Rattle.std.specs.Prelude.{◌≡◌, map, IfOk, IfErr, IsTrue, ◌↔◌};
+ghost use Rattle.std.specs.Prelude.{◌≡◌, map, IfOk, IfErr, IsTrue, List, [], OnOk, Option, ◌↔◌};
 ghost use Rattle.std.specs.String.{string_bytes};
+ghost use Rattle.clap.specs.Walk.{Row, Text};
 ghost use Rattle.clap.specs.Words.{fault_of, kind_of, subcommand_of};
 ghost use Rattle.clap.specs.declared.error.kind.ErrorKind.{ErrorKind};
 ghost use Rattle.ill_args.specs.CommandLine.{program};
 ghost use Rattle.ill_args.specs.Orders.{reads, HasSameWord, IsBoth, IsOrderOf, IsInputFile, LinesAreCounted, LinesAreJson, LinesGoOn, NamesFile, NamesNotOne, NamesNothing, ReadsInputTwice, ReadsOutput, RefusedEndsWork, SharesRefused, WholeIsPrinted};
-ghost use Rattle.ill_args.specs.Refused.{IsFaultOf, IsRefusedBy};
+ghost use Rattle.ill_args.specs.Refused.{IsFaultOf, IsFaultOfKinds, IsRefusedBy};
+ghost use Rattle.ill_args.specs.code.Consistency.{IsConsistent};
 
 use crate::commands::{canonicalise, check, digest, dump, profiles, show};
 use crate::fault::LineFault;
@@ -48,20 +50,32 @@ pub fn order<'a>(alloc: Global, words: &'a [String]) -> Result<Order<'a>, LineFa
     // What clap finds wrong is refused, and nothing else, unless memory runs out.
     ensures faults { IsRefusedBy (fault_of program (map string_bytes words.entry.now)) result }
 {
-    let order = match read(alloc, words) {
-        Ok(order) => order,
-        Err(fault) => return Err(fault),
-    };
-    if has_same_word(&order) {
+    let order = read(alloc, words)?;
+    check_order(alloc, &order)?;
+    Ok(order)
+}
+
+/// Checks that an order doesn't contradict itself.
+///
+/// # Errors
+///
+/// The first contradiction, or a file is missing.
+fn check_order(alloc: Global, order: &Order<'_>) -> Result<(), LineFault>
+    ensures consistent { OnOk result (IsConsistent order.now) }
+    ensures fault { IfErr result (λ fault. (found : Option (Text × List Row))
+        → IsOrderOf found order.now → IsFaultOf found fault) }
+    ensures faults { IfErr result (IsFaultOfKinds []) }
+{
+    if has_same_word(order) {
         return Err(LineFault::SameWord);
     }
-    if reads_input_twice(&order) {
+    if reads_input_twice(order) {
         return Err(LineFault::InputTwice);
     }
-    if reads_output(&order) {
+    if reads_output(order) {
         return Err(LineFault::OutputIsRead);
     }
-    if names_nothing(&order) {
+    if names_nothing(order) {
         return Err(LineFault::Missing(no_file(alloc, &order.task)?));
     }
     if order.lines && order.hex {
@@ -76,19 +90,19 @@ pub fn order<'a>(alloc: Global, words: &'a [String]) -> Result<Order<'a>, LineFa
     if order.lines && order.json {
         return Err(LineFault::LinesAndJson);
     }
-    if names_not_one(&order) {
+    if names_not_one(order) {
         return Err(LineFault::NotOneFile);
     }
-    if whole_is_printed(&order) {
+    if whole_is_printed(order) {
         return Err(LineFault::WholeNeedsFile);
     }
     if order.refused.is_some() && !order.keep_going {
         return Err(LineFault::RefusedNeedsKeepGoing);
     }
-    if shares_refused(&order) {
+    if shares_refused(order) {
         return Err(LineFault::RefusedIsShared);
     }
-    Ok(order)
+    Ok(())
 }
 
 /// Tells whether `same` has standard input twice, or IN and OUT of `canonicalise` are the same word other than `-`.

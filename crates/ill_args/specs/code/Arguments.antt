@@ -1,0 +1,21 @@
+-- The arguments of a command, as clap's contracts see them.
+use Rattle.std.specs.Prelude.{List, [], ◌∷◌}
+use Rattle.clap.specs.Walk.{Rule}
+use Rattle.clap.specs.Simple.{App, with_rule}
+use Rattle.ill_args.specs.CommandLine.{file_rule, filename_rule, files_rule, flag_rule, list_rule, message_rule, output_rule, refused_rule}
+use Rattle.ill_args.specs.declared.commands.Argument.{Argument}
+
+abbrev pub rule_for : Argument → Rule
+rule_for (Argument.Flag name help) = flag_rule name.now
+rule_for (Argument.File id name help) = file_rule id.now
+rule_for (Argument.Files help) = files_rule
+rule_for Argument.List = list_rule
+rule_for Argument.Filename = filename_rule
+rule_for Argument.Refused = refused_rule
+rule_for Argument.Output = output_rule
+rule_for Argument.Message = message_rule
+
+-- a command with arguments more
+abbrev pub with_rules : App → List Rule → App
+with_rules a [] = a
+with_rules a (r ∷ rs) = with_rules (with_rule a r) rs
