@@ -3,15 +3,16 @@ use Rattle.std.proofs.Common.{◌≡◌, ◌≢◌, ℕ, zero, suc, ◌+◌, ◌
 use Rattle.std.specs.Prelude.{if◌then◌else◌}
 use Rattle.std.proofs.Math.Dec.{eqb-suc-zero}
 use Rattle.ber_leaf.specs.Profile.{profile_two}
-use Rattle.ill_schema.specs.declared.{node.NodeId.NodeId, part.Presence.Presence, part.Row.Row, unfit.Unfit.Unfit}
-use Rattle.ill_schema.specs.declared.node.NodeId.TheVariants.{IllApdu}
+use Rattle.ill_tables.specs.declared.{node.NodeId.NodeId, part.Presence.Presence, part.Row.Row}
+use Rattle.ill_schema.specs.declared.{unfit.Unfit.Unfit}
+use Rattle.ill_tables.specs.declared.node.NodeId.TheVariants.{IllApdu}
 use Rattle.ill_schema.specs.declared.unfit.Unfit.TheVariants.{NotCarried, DoesNotFit, TooLong}
 use Rattle.ill_schema.specs.Apdu.{Apdu as NumberedBody, normal_form}
 use Rattle.ill_schema.specs.Content.{Content}
 use Rattle.ill_schema.specs.Fits.{Fits, FitsApdu}
 use Rattle.ill_schema.specs.Names.{carried, carried_node, apdu_node_of}
 use Rattle.ill_schema.specs.Presence.{IsCarried}
-use Rattle.ill_schema.specs.Table.{rows_of}
+use Rattle.ill_tables.specs.Table.{rows_of}
 use Rattle.ill_schema.specs.Unfit.{IsUnfit}
 use Rattle.ill_schema.specs.Value.{content_of, apdu_with}
 use Rattle.ill_schema.specs.declared.value.Value.{Value}

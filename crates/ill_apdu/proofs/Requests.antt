@@ -1,8 +1,8 @@
 -- A request that is read group by group has the content of its value.
 use Rattle.std.proofs.Common.{◌≡◌, ℕ, List, ◌∷◌, Option, Some, None, option_map, refl, sym, ap, ◌∙◌}
 use Rattle.ill_schema.specs.Content.{Content}
-use Rattle.ill_schema.specs.declared.node.NodeId.TheVariants.{IllRequest as RequestNode}
-use Rattle.ill_schema.specs.Table.{rows_of}
+use Rattle.ill_tables.specs.declared.node.NodeId.TheVariants.{IllRequest as RequestNode}
+use Rattle.ill_tables.specs.Table.{rows_of}
 use Rattle.ill_typed.specs.Shape.{record_of, listed, RowsHold, entries_from, flag_content, number_content, string_content}
 use Rattle.ill_parts.specs.Views.{client_id, cost_info, delivery_address, delivery_service, item_id, requester_optional_messages, search_type, service_date_time, supply_medium_info, system_id, third_party_info, transaction_id}
 use Rattle.ill_apdu.specs.declared.request.IllRequest.{IllRequest}

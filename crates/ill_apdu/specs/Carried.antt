@@ -2,7 +2,7 @@
 use Rattle.std.specs.Prelude.{ℕ}
 use Rattle.ill_schema.specs.Apdu.{Apdu as NumberedBody}
 use Rattle.ill_schema.specs.Content.{Content}
-use Rattle.ill_schema.specs.declared.node.NodeId.{NodeId}
+use Rattle.ill_tables.specs.declared.node.NodeId.{NodeId}
 use Rattle.ill_apdu.specs.Views.{ill_request, ill_answer, conditional_reply, cancel, cancel_reply, expired, shipped, received, recall, returned, checked_in, overdue, renew, renew_answer, lost, damaged, message_apdu, status_query}
 use Rattle.ill_apdu.specs.declared.apdu.Apdu.{Apdu}
 

@@ -32,7 +32,7 @@ pub struct IllAnswer {
 }
 
 impl Node for IllAnswer {
-    ghost use Rattle.ill_schema.specs.declared.node.NodeId.TheVariants.{IllAnswer as TheNode};
+    ghost use Rattle.ill_tables.specs.declared.node.NodeId.TheVariants.{IllAnswer as TheNode};
     ghost use Rattle.ill_apdu.specs.Views.{ill_answer_rows};
 
     ghost NODE = { TheNode };
@@ -44,7 +44,7 @@ impl Node for IllAnswer {
 
 #[tactic(auto, unfolding(crate::specs::Views::ill_answer))]
 impl Part for IllAnswer {
-    ghost use Rattle.ill_schema.specs.declared.node.NodeId.TheVariants.{IllAnswer as TheNode};
+    ghost use Rattle.ill_tables.specs.declared.node.NodeId.TheVariants.{IllAnswer as TheNode};
     ghost use Rattle.ill_typed.specs.Shape.{Is};
     ghost use Rattle.ill_apdu.specs.Views.{ill_answer};
 

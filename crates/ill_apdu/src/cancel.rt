@@ -19,7 +19,7 @@ pub struct Cancel {
 }
 
 impl Node for Cancel {
-    ghost use Rattle.ill_schema.specs.declared.node.NodeId.TheVariants.{Cancel as TheNode};
+    ghost use Rattle.ill_tables.specs.declared.node.NodeId.TheVariants.{Cancel as TheNode};
     ghost use Rattle.ill_apdu.specs.Views.{cancel_rows};
 
     ghost NODE = { TheNode };
@@ -31,7 +31,7 @@ impl Node for Cancel {
 
 #[tactic(auto, unfolding(crate::specs::Views::cancel))]
 impl Part for Cancel {
-    ghost use Rattle.ill_schema.specs.declared.node.NodeId.TheVariants.{Cancel as TheNode};
+    ghost use Rattle.ill_tables.specs.declared.node.NodeId.TheVariants.{Cancel as TheNode};
     ghost use Rattle.ill_typed.specs.Shape.{Is};
     ghost use Rattle.ill_apdu.specs.Views.{cancel};
 
@@ -77,7 +77,7 @@ pub struct CancelReply {
 }
 
 impl Node for CancelReply {
-    ghost use Rattle.ill_schema.specs.declared.node.NodeId.TheVariants.{CancelReply as TheNode};
+    ghost use Rattle.ill_tables.specs.declared.node.NodeId.TheVariants.{CancelReply as TheNode};
     ghost use Rattle.ill_apdu.specs.Views.{cancel_reply_rows};
 
     ghost NODE = { TheNode };
@@ -89,7 +89,7 @@ impl Node for CancelReply {
 
 #[tactic(auto, unfolding(crate::specs::Views::cancel_reply))]
 impl Part for CancelReply {
-    ghost use Rattle.ill_schema.specs.declared.node.NodeId.TheVariants.{CancelReply as TheNode};
+    ghost use Rattle.ill_tables.specs.declared.node.NodeId.TheVariants.{CancelReply as TheNode};
     ghost use Rattle.ill_typed.specs.Shape.{Is};
     ghost use Rattle.ill_apdu.specs.Views.{cancel_reply};
 

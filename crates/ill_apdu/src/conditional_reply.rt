@@ -21,7 +21,7 @@ pub struct ConditionalReply {
 }
 
 impl Node for ConditionalReply {
-    ghost use Rattle.ill_schema.specs.declared.node.NodeId.TheVariants.{ConditionalReply as TheNode};
+    ghost use Rattle.ill_tables.specs.declared.node.NodeId.TheVariants.{ConditionalReply as TheNode};
     ghost use Rattle.ill_apdu.specs.Views.{conditional_reply_rows};
 
     ghost NODE = { TheNode };
@@ -33,7 +33,7 @@ impl Node for ConditionalReply {
 
 #[tactic(auto, unfolding(crate::specs::Views::conditional_reply))]
 impl Part for ConditionalReply {
-    ghost use Rattle.ill_schema.specs.declared.node.NodeId.TheVariants.{ConditionalReply as TheNode};
+    ghost use Rattle.ill_tables.specs.declared.node.NodeId.TheVariants.{ConditionalReply as TheNode};
     ghost use Rattle.ill_typed.specs.Shape.{Is};
     ghost use Rattle.ill_apdu.specs.Views.{conditional_reply};
 

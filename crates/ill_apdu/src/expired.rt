@@ -13,7 +13,7 @@ pub struct Expired {
 }
 
 impl Node for Expired {
-    ghost use Rattle.ill_schema.specs.declared.node.NodeId.TheVariants.{Expired as TheNode};
+    ghost use Rattle.ill_tables.specs.declared.node.NodeId.TheVariants.{Expired as TheNode};
     ghost use Rattle.ill_apdu.specs.Views.{expired_rows};
 
     ghost NODE = { TheNode };
@@ -25,7 +25,7 @@ impl Node for Expired {
 
 #[tactic(auto, unfolding(crate::specs::Views::expired))]
 impl Part for Expired {
-    ghost use Rattle.ill_schema.specs.declared.node.NodeId.TheVariants.{Expired as TheNode};
+    ghost use Rattle.ill_tables.specs.declared.node.NodeId.TheVariants.{Expired as TheNode};
     ghost use Rattle.ill_typed.specs.Shape.{Is};
     ghost use Rattle.ill_apdu.specs.Views.{expired};
 

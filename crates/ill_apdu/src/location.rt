@@ -19,7 +19,7 @@ pub struct LocationInfo {
 }
 
 impl Node for LocationInfo {
-    ghost use Rattle.ill_schema.specs.declared.node.NodeId.TheVariants.{LocationInfo as TheNode};
+    ghost use Rattle.ill_tables.specs.declared.node.NodeId.TheVariants.{LocationInfo as TheNode};
     ghost use Rattle.ill_apdu.specs.Views.{location_info_rows};
 
     ghost NODE = { TheNode };
@@ -31,7 +31,7 @@ impl Node for LocationInfo {
 
 #[tactic(auto, unfolding(crate::specs::Views::location_info))]
 impl Part for LocationInfo {
-    ghost use Rattle.ill_schema.specs.declared.node.NodeId.TheVariants.{LocationInfo as TheNode};
+    ghost use Rattle.ill_tables.specs.declared.node.NodeId.TheVariants.{LocationInfo as TheNode};
     ghost use Rattle.ill_typed.specs.Shape.{Is};
     ghost use Rattle.ill_apdu.specs.Views.{location_info};
 
@@ -79,7 +79,7 @@ pub struct Locations {
 }
 
 impl Node for Locations {
-    ghost use Rattle.ill_schema.specs.declared.node.NodeId.TheVariants.{Locations as TheNode};
+    ghost use Rattle.ill_tables.specs.declared.node.NodeId.TheVariants.{Locations as TheNode};
     ghost use Rattle.ill_apdu.specs.Views.{locations_rows};
 
     ghost NODE = { TheNode };
@@ -91,7 +91,7 @@ impl Node for Locations {
 
 #[tactic(auto, unfolding(crate::specs::Views::locations))]
 impl Part for Locations {
-    ghost use Rattle.ill_schema.specs.declared.node.NodeId.TheVariants.{Locations as TheNode};
+    ghost use Rattle.ill_tables.specs.declared.node.NodeId.TheVariants.{Locations as TheNode};
     ghost use Rattle.ill_typed.specs.Shape.{Is};
     ghost use Rattle.ill_apdu.specs.Views.{locations};
 

@@ -18,7 +18,7 @@ pub struct Lost {
 }
 
 impl Node for Lost {
-    ghost use Rattle.ill_schema.specs.declared.node.NodeId.TheVariants.{Lost as TheNode};
+    ghost use Rattle.ill_tables.specs.declared.node.NodeId.TheVariants.{Lost as TheNode};
     ghost use Rattle.ill_apdu.specs.Views.{lost_rows};
 
     ghost NODE = { TheNode };
@@ -30,7 +30,7 @@ impl Node for Lost {
 
 #[tactic(auto, unfolding(crate::specs::Views::lost))]
 impl Part for Lost {
-    ghost use Rattle.ill_schema.specs.declared.node.NodeId.TheVariants.{Lost as TheNode};
+    ghost use Rattle.ill_tables.specs.declared.node.NodeId.TheVariants.{Lost as TheNode};
     ghost use Rattle.ill_typed.specs.Shape.{Is};
     ghost use Rattle.ill_apdu.specs.Views.{lost};
 
@@ -71,7 +71,7 @@ pub struct Damaged {
 }
 
 impl Node for Damaged {
-    ghost use Rattle.ill_schema.specs.declared.node.NodeId.TheVariants.{Damaged as TheNode};
+    ghost use Rattle.ill_tables.specs.declared.node.NodeId.TheVariants.{Damaged as TheNode};
     ghost use Rattle.ill_apdu.specs.Views.{damaged_rows};
 
     ghost NODE = { TheNode };
@@ -83,7 +83,7 @@ impl Node for Damaged {
 
 #[tactic(auto, unfolding(crate::specs::Views::damaged))]
 impl Part for Damaged {
-    ghost use Rattle.ill_schema.specs.declared.node.NodeId.TheVariants.{Damaged as TheNode};
+    ghost use Rattle.ill_tables.specs.declared.node.NodeId.TheVariants.{Damaged as TheNode};
     ghost use Rattle.ill_typed.specs.Shape.{Is};
     ghost use Rattle.ill_apdu.specs.Views.{damaged};
 

@@ -21,7 +21,7 @@ pub struct Overdue {
 }
 
 impl Node for Overdue {
-    ghost use Rattle.ill_schema.specs.declared.node.NodeId.TheVariants.{Overdue as TheNode};
+    ghost use Rattle.ill_tables.specs.declared.node.NodeId.TheVariants.{Overdue as TheNode};
     ghost use Rattle.ill_apdu.specs.Views.{overdue_rows};
 
     ghost NODE = { TheNode };
@@ -33,7 +33,7 @@ impl Node for Overdue {
 
 #[tactic(auto, unfolding(crate::specs::Views::overdue))]
 impl Part for Overdue {
-    ghost use Rattle.ill_schema.specs.declared.node.NodeId.TheVariants.{Overdue as TheNode};
+    ghost use Rattle.ill_tables.specs.declared.node.NodeId.TheVariants.{Overdue as TheNode};
     ghost use Rattle.ill_typed.specs.Shape.{Is};
     ghost use Rattle.ill_apdu.specs.Views.{overdue};
 

@@ -18,7 +18,7 @@ pub struct Recall {
 }
 
 impl Node for Recall {
-    ghost use Rattle.ill_schema.specs.declared.node.NodeId.TheVariants.{Recall as TheNode};
+    ghost use Rattle.ill_tables.specs.declared.node.NodeId.TheVariants.{Recall as TheNode};
     ghost use Rattle.ill_apdu.specs.Views.{recall_rows};
 
     ghost NODE = { TheNode };
@@ -30,7 +30,7 @@ impl Node for Recall {
 
 #[tactic(auto, unfolding(crate::specs::Views::recall))]
 impl Part for Recall {
-    ghost use Rattle.ill_schema.specs.declared.node.NodeId.TheVariants.{Recall as TheNode};
+    ghost use Rattle.ill_tables.specs.declared.node.NodeId.TheVariants.{Recall as TheNode};
     ghost use Rattle.ill_typed.specs.Shape.{Is};
     ghost use Rattle.ill_apdu.specs.Views.{recall};
 

@@ -25,7 +25,7 @@ pub struct Received {
 }
 
 impl Node for Received {
-    ghost use Rattle.ill_schema.specs.declared.node.NodeId.TheVariants.{Received as TheNode};
+    ghost use Rattle.ill_tables.specs.declared.node.NodeId.TheVariants.{Received as TheNode};
     ghost use Rattle.ill_apdu.specs.Views.{received_rows};
 
     ghost NODE = { TheNode };
@@ -37,7 +37,7 @@ impl Node for Received {
 
 #[tactic(auto, unfolding(crate::specs::Views::received))]
 impl Part for Received {
-    ghost use Rattle.ill_schema.specs.declared.node.NodeId.TheVariants.{Received as TheNode};
+    ghost use Rattle.ill_tables.specs.declared.node.NodeId.TheVariants.{Received as TheNode};
     ghost use Rattle.ill_typed.specs.Shape.{Is};
     ghost use Rattle.ill_apdu.specs.Views.{received};
 

@@ -21,7 +21,7 @@ pub struct Renew {
 }
 
 impl Node for Renew {
-    ghost use Rattle.ill_schema.specs.declared.node.NodeId.TheVariants.{Renew as TheNode};
+    ghost use Rattle.ill_tables.specs.declared.node.NodeId.TheVariants.{Renew as TheNode};
     ghost use Rattle.ill_apdu.specs.Views.{renew_rows};
 
     ghost NODE = { TheNode };
@@ -33,7 +33,7 @@ impl Node for Renew {
 
 #[tactic(auto, unfolding(crate::specs::Views::renew))]
 impl Part for Renew {
-    ghost use Rattle.ill_schema.specs.declared.node.NodeId.TheVariants.{Renew as TheNode};
+    ghost use Rattle.ill_tables.specs.declared.node.NodeId.TheVariants.{Renew as TheNode};
     ghost use Rattle.ill_typed.specs.Shape.{Is};
     ghost use Rattle.ill_apdu.specs.Views.{renew};
 
@@ -87,7 +87,7 @@ pub struct RenewAnswer {
 }
 
 impl Node for RenewAnswer {
-    ghost use Rattle.ill_schema.specs.declared.node.NodeId.TheVariants.{RenewAnswer as TheNode};
+    ghost use Rattle.ill_tables.specs.declared.node.NodeId.TheVariants.{RenewAnswer as TheNode};
     ghost use Rattle.ill_apdu.specs.Views.{renew_answer_rows};
 
     ghost NODE = { TheNode };
@@ -99,7 +99,7 @@ impl Node for RenewAnswer {
 
 #[tactic(auto, unfolding(crate::specs::Views::renew_answer))]
 impl Part for RenewAnswer {
-    ghost use Rattle.ill_schema.specs.declared.node.NodeId.TheVariants.{RenewAnswer as TheNode};
+    ghost use Rattle.ill_tables.specs.declared.node.NodeId.TheVariants.{RenewAnswer as TheNode};
     ghost use Rattle.ill_typed.specs.Shape.{Is};
     ghost use Rattle.ill_apdu.specs.Views.{renew_answer};
 

@@ -20,7 +20,7 @@ pub struct Conditional {
 }
 
 impl Node for Conditional {
-    ghost use Rattle.ill_schema.specs.declared.node.NodeId.TheVariants.{Conditional as TheNode};
+    ghost use Rattle.ill_tables.specs.declared.node.NodeId.TheVariants.{Conditional as TheNode};
     ghost use Rattle.ill_apdu.specs.Views.{conditional_rows};
 
     ghost NODE = { TheNode };
@@ -32,7 +32,7 @@ impl Node for Conditional {
 
 #[tactic(auto, unfolding(crate::specs::Views::conditional))]
 impl Part for Conditional {
-    ghost use Rattle.ill_schema.specs.declared.node.NodeId.TheVariants.{Conditional as TheNode};
+    ghost use Rattle.ill_tables.specs.declared.node.NodeId.TheVariants.{Conditional as TheNode};
     ghost use Rattle.ill_typed.specs.Shape.{Is};
     ghost use Rattle.ill_apdu.specs.Views.{conditional};
 
@@ -85,7 +85,7 @@ pub struct Retry {
 }
 
 impl Node for Retry {
-    ghost use Rattle.ill_schema.specs.declared.node.NodeId.TheVariants.{Retry as TheNode};
+    ghost use Rattle.ill_tables.specs.declared.node.NodeId.TheVariants.{Retry as TheNode};
     ghost use Rattle.ill_apdu.specs.Views.{retry_rows};
 
     ghost NODE = { TheNode };
@@ -97,7 +97,7 @@ impl Node for Retry {
 
 #[tactic(auto, unfolding(crate::specs::Views::retry))]
 impl Part for Retry {
-    ghost use Rattle.ill_schema.specs.declared.node.NodeId.TheVariants.{Retry as TheNode};
+    ghost use Rattle.ill_tables.specs.declared.node.NodeId.TheVariants.{Retry as TheNode};
     ghost use Rattle.ill_typed.specs.Shape.{Is};
     ghost use Rattle.ill_apdu.specs.Views.{retry};
 
@@ -148,7 +148,7 @@ pub struct Unfilled {
 }
 
 impl Node for Unfilled {
-    ghost use Rattle.ill_schema.specs.declared.node.NodeId.TheVariants.{Unfilled as TheNode};
+    ghost use Rattle.ill_tables.specs.declared.node.NodeId.TheVariants.{Unfilled as TheNode};
     ghost use Rattle.ill_apdu.specs.Views.{unfilled_rows};
 
     ghost NODE = { TheNode };
@@ -160,7 +160,7 @@ impl Node for Unfilled {
 
 #[tactic(auto, unfolding(crate::specs::Views::unfilled))]
 impl Part for Unfilled {
-    ghost use Rattle.ill_schema.specs.declared.node.NodeId.TheVariants.{Unfilled as TheNode};
+    ghost use Rattle.ill_tables.specs.declared.node.NodeId.TheVariants.{Unfilled as TheNode};
     ghost use Rattle.ill_typed.specs.Shape.{Is};
     ghost use Rattle.ill_apdu.specs.Views.{unfilled};
 
@@ -210,7 +210,7 @@ pub struct WillSupply {
 }
 
 impl Node for WillSupply {
-    ghost use Rattle.ill_schema.specs.declared.node.NodeId.TheVariants.{WillSupply as TheNode};
+    ghost use Rattle.ill_tables.specs.declared.node.NodeId.TheVariants.{WillSupply as TheNode};
     ghost use Rattle.ill_apdu.specs.Views.{will_supply_rows};
 
     ghost NODE = { TheNode };
@@ -222,7 +222,7 @@ impl Node for WillSupply {
 
 #[tactic(auto, unfolding(crate::specs::Views::will_supply))]
 impl Part for WillSupply {
-    ghost use Rattle.ill_schema.specs.declared.node.NodeId.TheVariants.{WillSupply as TheNode};
+    ghost use Rattle.ill_tables.specs.declared.node.NodeId.TheVariants.{WillSupply as TheNode};
     ghost use Rattle.ill_typed.specs.Shape.{Is};
     ghost use Rattle.ill_apdu.specs.Views.{will_supply};
 
@@ -277,7 +277,7 @@ pub struct HoldPlaced {
 }
 
 impl Node for HoldPlaced {
-    ghost use Rattle.ill_schema.specs.declared.node.NodeId.TheVariants.{HoldPlaced as TheNode};
+    ghost use Rattle.ill_tables.specs.declared.node.NodeId.TheVariants.{HoldPlaced as TheNode};
     ghost use Rattle.ill_apdu.specs.Views.{hold_placed_rows};
 
     ghost NODE = { TheNode };
@@ -289,7 +289,7 @@ impl Node for HoldPlaced {
 
 #[tactic(auto, unfolding(crate::specs::Views::hold_placed))]
 impl Part for HoldPlaced {
-    ghost use Rattle.ill_schema.specs.declared.node.NodeId.TheVariants.{HoldPlaced as TheNode};
+    ghost use Rattle.ill_tables.specs.declared.node.NodeId.TheVariants.{HoldPlaced as TheNode};
     ghost use Rattle.ill_typed.specs.Shape.{Is};
     ghost use Rattle.ill_apdu.specs.Views.{hold_placed};
 
@@ -340,7 +340,7 @@ pub struct Estimate {
 }
 
 impl Node for Estimate {
-    ghost use Rattle.ill_schema.specs.declared.node.NodeId.TheVariants.{Estimate as TheNode};
+    ghost use Rattle.ill_tables.specs.declared.node.NodeId.TheVariants.{Estimate as TheNode};
     ghost use Rattle.ill_apdu.specs.Views.{estimate_rows};
 
     ghost NODE = { TheNode };
@@ -352,7 +352,7 @@ impl Node for Estimate {
 
 #[tactic(auto, unfolding(crate::specs::Views::estimate))]
 impl Part for Estimate {
-    ghost use Rattle.ill_schema.specs.declared.node.NodeId.TheVariants.{Estimate as TheNode};
+    ghost use Rattle.ill_tables.specs.declared.node.NodeId.TheVariants.{Estimate as TheNode};
     ghost use Rattle.ill_typed.specs.Shape.{Is};
     ghost use Rattle.ill_apdu.specs.Views.{estimate};
 
@@ -410,7 +410,7 @@ pub enum Results {
 }
 
 impl Node for Results {
-    ghost use Rattle.ill_schema.specs.declared.node.NodeId.TheVariants.{Results as TheNode};
+    ghost use Rattle.ill_tables.specs.declared.node.NodeId.TheVariants.{Results as TheNode};
 
     ghost NODE = { TheNode };
 
@@ -419,7 +419,7 @@ impl Node for Results {
 
 #[tactic(auto, unfolding(crate::specs::Views::results))]
 impl Part for Results {
-    ghost use Rattle.ill_schema.specs.declared.node.NodeId.TheVariants.{Results as TheNode};
+    ghost use Rattle.ill_tables.specs.declared.node.NodeId.TheVariants.{Results as TheNode};
     ghost use Rattle.ill_typed.specs.Shape.{Is};
     ghost use Rattle.ill_apdu.specs.Views.{results};
 

@@ -25,7 +25,7 @@ pub struct Returned {
 }
 
 impl Node for Returned {
-    ghost use Rattle.ill_schema.specs.declared.node.NodeId.TheVariants.{Returned as TheNode};
+    ghost use Rattle.ill_tables.specs.declared.node.NodeId.TheVariants.{Returned as TheNode};
     ghost use Rattle.ill_apdu.specs.Views.{returned_rows};
 
     ghost NODE = { TheNode };
@@ -37,7 +37,7 @@ impl Node for Returned {
 
 #[tactic(auto, unfolding(crate::specs::Views::returned))]
 impl Part for Returned {
-    ghost use Rattle.ill_schema.specs.declared.node.NodeId.TheVariants.{Returned as TheNode};
+    ghost use Rattle.ill_tables.specs.declared.node.NodeId.TheVariants.{Returned as TheNode};
     ghost use Rattle.ill_typed.specs.Shape.{Is};
     ghost use Rattle.ill_apdu.specs.Views.{returned};
 
@@ -98,7 +98,7 @@ pub struct CheckedIn {
 }
 
 impl Node for CheckedIn {
-    ghost use Rattle.ill_schema.specs.declared.node.NodeId.TheVariants.{CheckedIn as TheNode};
+    ghost use Rattle.ill_tables.specs.declared.node.NodeId.TheVariants.{CheckedIn as TheNode};
     ghost use Rattle.ill_apdu.specs.Views.{checked_in_rows};
 
     ghost NODE = { TheNode };
@@ -110,7 +110,7 @@ impl Node for CheckedIn {
 
 #[tactic(auto, unfolding(crate::specs::Views::checked_in))]
 impl Part for CheckedIn {
-    ghost use Rattle.ill_schema.specs.declared.node.NodeId.TheVariants.{CheckedIn as TheNode};
+    ghost use Rattle.ill_tables.specs.declared.node.NodeId.TheVariants.{CheckedIn as TheNode};
     ghost use Rattle.ill_typed.specs.Shape.{Is};
     ghost use Rattle.ill_apdu.specs.Views.{checked_in};
 

@@ -38,7 +38,7 @@ pub struct Shipped {
 }
 
 impl Node for Shipped {
-    ghost use Rattle.ill_schema.specs.declared.node.NodeId.TheVariants.{Shipped as TheNode};
+    ghost use Rattle.ill_tables.specs.declared.node.NodeId.TheVariants.{Shipped as TheNode};
     ghost use Rattle.ill_apdu.specs.Views.{shipped_rows};
 
     ghost NODE = { TheNode };
@@ -50,7 +50,7 @@ impl Node for Shipped {
 
 #[tactic(auto, unfolding(crate::specs::Views::shipped))]
 impl Part for Shipped {
-    ghost use Rattle.ill_schema.specs.declared.node.NodeId.TheVariants.{Shipped as TheNode};
+    ghost use Rattle.ill_tables.specs.declared.node.NodeId.TheVariants.{Shipped as TheNode};
     ghost use Rattle.ill_typed.specs.Shape.{Is};
     ghost use Rattle.ill_apdu.specs.Views.{shipped};
 

@@ -18,7 +18,7 @@ pub struct StatusQuery {
 }
 
 impl Node for StatusQuery {
-    ghost use Rattle.ill_schema.specs.declared.node.NodeId.TheVariants.{StatusQuery as TheNode};
+    ghost use Rattle.ill_tables.specs.declared.node.NodeId.TheVariants.{StatusQuery as TheNode};
     ghost use Rattle.ill_apdu.specs.Views.{status_query_rows};
 
     ghost NODE = { TheNode };
@@ -30,7 +30,7 @@ impl Node for StatusQuery {
 
 #[tactic(auto, unfolding(crate::specs::Views::status_query))]
 impl Part for StatusQuery {
-    ghost use Rattle.ill_schema.specs.declared.node.NodeId.TheVariants.{StatusQuery as TheNode};
+    ghost use Rattle.ill_tables.specs.declared.node.NodeId.TheVariants.{StatusQuery as TheNode};
     ghost use Rattle.ill_typed.specs.Shape.{Is};
     ghost use Rattle.ill_apdu.specs.Views.{status_query};
 

@@ -18,7 +18,7 @@ pub struct MessageApdu {
 }
 
 impl Node for MessageApdu {
-    ghost use Rattle.ill_schema.specs.declared.node.NodeId.TheVariants.{MessageApdu as TheNode};
+    ghost use Rattle.ill_tables.specs.declared.node.NodeId.TheVariants.{MessageApdu as TheNode};
     ghost use Rattle.ill_apdu.specs.Views.{message_apdu_rows};
 
     ghost NODE = { TheNode };
@@ -30,7 +30,7 @@ impl Node for MessageApdu {
 
 #[tactic(auto, unfolding(crate::specs::Views::message_apdu))]
 impl Part for MessageApdu {
-    ghost use Rattle.ill_schema.specs.declared.node.NodeId.TheVariants.{MessageApdu as TheNode};
+    ghost use Rattle.ill_tables.specs.declared.node.NodeId.TheVariants.{MessageApdu as TheNode};
     ghost use Rattle.ill_typed.specs.Shape.{Is};
     ghost use Rattle.ill_apdu.specs.Views.{message_apdu};
 

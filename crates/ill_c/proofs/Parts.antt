@@ -2,10 +2,11 @@
 use Rattle.std.proofs.Common.{◌≡◌, ℕ, zero, suc, ◌+◌, ◌≤◌, Bool, true, false, ◌&&◌, nat_le, List, [], ◌∷◌, ◌++◌, codes, length, Option, Some, None, option_map, IfSome, slice_get, refl, arith, length-append}
 use Rattle.std.specs.List.{list_all}
 use Rattle.std.proofs.lemmas.Bool.{leb-true}
-use Rattle.ill_schema.specs.Names.{cause_part_name_of, names_of, part_name_of}
-use Rattle.ill_schema.specs.declared.node.NodeId.{NodeId}
-use Rattle.ill_schema.specs.declared.node.NodeId.TheVariants.{Boolean}
-use Rattle.ill_schema.specs.declared.part.PartId.{PartId}
+use Rattle.ill_tables.specs.Names.{names_of, part_name_of}
+use Rattle.ill_schema.specs.Names.{cause_part_name_of}
+use Rattle.ill_tables.specs.declared.node.NodeId.{NodeId}
+use Rattle.ill_tables.specs.declared.node.NodeId.TheVariants.{Boolean}
+use Rattle.ill_tables.specs.declared.part.PartId.{PartId}
 use Rattle.ill_schema.specs.declared.refusal.Cause.{Cause}
 use Rattle.ill_c.specs.Refusals.{part_text}
 

@@ -13,7 +13,7 @@ use Rattle.ill_refusals.specs.Fault.{Fault}
 use Rattle.ill_refusals.specs.Outcome.{OnlyRefuses}
 use Rattle.ill_read.specs.Answers.{IsPartIn, RefusesWholeIn}
 use Rattle.ill_normal.specs.Compared.{RefusesSideIn}
-use Rattle.ill_normal.specs.declared.compare.Side.{Side}
+use Rattle.ill_inputs.specs.declared.side.Side.{Side}
 use Rattle.ill_json.specs.Json.{json_line_in}
 use Rattle.ill_json.specs.declared.line.LineHead.{LineHead}
 use Rattle.ill_c.specs.declared.refusal.IllcanonRefusal.{IllcanonRefusal}

@@ -3,8 +3,8 @@ use Rattle.std.specs.Prelude.{ℕ, Bool, true, false, List, ◌||◌, if◌then�
 use Rattle.std.specs.Borrow.{Bor}
 use Rattle.ill_commands.specs.declared.job.Job.{Job}
 use Rattle.ill_commands.specs.declared.job.JobOptions.{JobOptions}
-use Rattle.ill_dump.specs.declared.markup.DumpFormat.{DumpFormat}
-use Rattle.ill_dump.specs.declared.markup.DumpFormat.TheVariants.{Html, Text}
+use Rattle.ill_walk.specs.declared.markup.DumpFormat.{DumpFormat}
+use Rattle.ill_walk.specs.declared.markup.DumpFormat.TheVariants.{Html, Text}
 use Rattle.ill_dump.specs.declared.run.DumpOptions.{DumpOptions}
 use Rattle.ill_lines.specs.Lines.{line_options}
 use Rattle.ill_lines.specs.declared.job.LineJob.{LineJob}

@@ -2,14 +2,13 @@
 use crate::each::{combined_status, input_names, list_of, text_of};
 use crate::input::{put_all, write_input};
 use crate::plan::{Action, InputAction};
-use crate::refused::{OtherFiles, close_refused, is_one_of, open_refused};
-use crate::tally::Tally;
 use ill_args::Inputs;
 use ill_commands::Verdict;
 use ill_files::{
     FileId, Host, Output, OutputDestination, OutputOf, ProgramError, close_output, is_output_lost,
     keeps_output, open_input, open_output, printed, status_of,
 };
+use ill_tally::{OtherFiles, Tally, close_refused, is_one_of, open_refused};
 use std::rt::Files;
 
 /// Writes what is made of each file to one output, prints the line of each error, and returns the exit status. The output is opened after
@@ -29,6 +28,7 @@ pub fn collect<R: Print + Eprint + Input + Files + AllocGlobal + Host>(
     }
 }
 
+/// Writes the normal forms of the inputs, those of a list among them, into one output.
 fn collect_inputs<R: Print + Eprint + Input + Files + AllocGlobal + Host>(
     rt: &R,
     action: Action,
@@ -52,6 +52,7 @@ fn collect_inputs<R: Print + Eprint + Input + Files + AllocGlobal + Host>(
     collect_names(rt, action, files, whole, refused, tally)
 }
 
+/// Writes the normal forms of the files with these names, and the octets of refused messages into a file of their own.
 fn collect_names<R: Print + Eprint + Input + Files + AllocGlobal + Host>(
     rt: &R,
     action: Action,

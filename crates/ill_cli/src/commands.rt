@@ -4,12 +4,11 @@ use crate::compare::compare;
 use crate::each::print_each;
 use crate::input::write_input;
 use crate::plan::{InputAction, Plan};
-use crate::refused::{OtherFiles, close_refused, open_refused};
-use crate::summary::JsonSummary;
-use crate::tally::{Tally, end};
-use crate::words::{printable_error, words_of};
 use ill_args::{Order, order};
-use ill_files::{Host, Output, ProgramError, ProgressLine, print_error, status_of};
+use ill_files::{
+    Host, Output, ProgramError, ProgressLine, print_error, printable_error, status_of, words_of,
+};
+use ill_tally::{JsonSummary, OtherFiles, Tally, close_refused, end, open_refused};
 use std::rt::{Env, Files};
 
 /// Does what the process's words say, prints the line of each error, and returns the exit status: 0, 1, 2 or 3, as [`status_of`] says.

@@ -5,8 +5,6 @@ ghost use Rattle.ill_files.specs.Status.{IsStatusOfEach, worst};
 
 use crate::input::print_input;
 use crate::plan::{Action, InputAction};
-use crate::refused::{OtherFiles, close_refused, open_refused};
-use crate::tally::Tally;
 use ill_args::{Inputs, LineFault};
 use ill_commands::Verdict;
 use ill_dump::{HTML_BEGIN, HTML_END};
@@ -14,6 +12,7 @@ use ill_files::{
     FileId, FileName, Host, OpenObstacle, Output, OutputOf, ProgramError, is_output_lost, printed,
     read_whole, status_of,
 };
+use ill_tally::{OtherFiles, Tally, close_refused, open_refused};
 use std::alloc::{AllocError, Global};
 use std::rt::Files;
 use std::str;
@@ -33,6 +32,7 @@ pub fn print_each<R: Print + Eprint + Input + Files + AllocGlobal + Host>(
     }
 }
 
+/// Prints what the action makes of the inputs, those of a list among them.
 fn print_inputs<R: Print + Eprint + Input + Files + AllocGlobal + Host>(
     rt: &R,
     action: Action,
@@ -50,6 +50,7 @@ fn print_inputs<R: Print + Eprint + Input + Files + AllocGlobal + Host>(
     print_names(rt, action, files, refused, tally)
 }
 
+/// Prints what the action makes of the files with these names, and writes the octets of refused messages into a file of their own.
 fn print_names<R: Print + Eprint + Input + Files + AllocGlobal + Host>(
     rt: &R,
     action: Action,

@@ -5,20 +5,16 @@ ghost use Rattle.ill_normal.specs.Skipping.{reporting};
 ghost use Rattle.ill_normal.specs.declared.skipping.SkippingCounts.{SkippingCounts};
 ghost use Rattle.ill_commands.specs.declared.job.Counts.{Counts};
 ghost use Rattle.ill_commands.specs.Skipping.{verdict_of_counts, RunsSkipping};
-ghost use Rattle.ill_normal.specs.Inputs.{verdict_if};
+ghost use Rattle.ill_inputs.specs.Inputs.{verdict_if};
 ghost use Rattle.ill_commands.specs.Runs.{RunDone};
-ghost use Rattle.ill_normal.specs.declared.verdict.Verdict.{Verdict};
+ghost use Rattle.ill_inputs.specs.declared.verdict.Verdict.{Verdict};
 ghost use Rattle.ill_dump.specs.Dumped.{DumpDone};
 ghost use Rattle.ill_dump.specs.Skipping.{DumpOnDone};
 ghost use Rattle.ill_dump.specs.declared.skipping.DumpCounts.{DumpCounts};
 ghost use Rattle.ill_lines.specs.Lines.{LinesDone};
 
 use crate::plan::InputAction;
-use crate::refused::KeepRefused;
-use crate::report_lines::PrintReports;
 use crate::results::{has_json_result, put_first_results, put_results};
-use crate::summary::LeftAt;
-use crate::tally::Tally;
 use ber_core::{Buffered, BufferedSource, Sink, ToWrite};
 use ill_commands::{JobOptions, RunFault, Verdict, run_counting, run_skipping_peeking, verdict_of};
 use ill_dump::{DumpOptions, run_dump, run_dump_skipping};
@@ -27,6 +23,7 @@ use ill_files::{
     close_output, keeps_output, open_and_identify, open_output, open_standard_output,
 };
 use ill_lines::{LineOptions, LinesFault, run_lines_as};
+use ill_tally::{KeepRefused, LeftAt, PrintReports, Tally};
 use std::alloc::Global;
 use std::io::{Read, Write};
 use std::rt::Files;
@@ -226,12 +223,15 @@ fn put_messages<S: BufferedSource, W: Sink>(
         counts verdict) }
 {
     let ran = run_counting::<S, Buffered, W>(alloc, work, source, sink);
-    tally.summary.add(ran.counts);
+    let counts = ran.counts;
+    tally
+        .summary
+        .add(counts.messages, counts.good, counts.octets);
     match ran.result {
         Ok(verdict) => Ok(verdict),
         Err(error) => {
             tally.summary.add_fault(error);
-            tally.left_at = left_at(error, ran.counts.messages, ran.counts.octets);
+            tally.left_at = left_at(error, counts.messages, counts.octets);
             Err(ProgramError::from(error))
         }
     }

@@ -15,15 +15,9 @@ mod compare;
 mod each;
 mod input;
 mod plan;
-mod refused;
-mod report_lines;
 mod results;
-mod summary;
-mod tally;
 mod until_stopped;
-mod words;
 
 pub use commands::{run_order, run_program};
+pub use ill_tally::{JsonSummary, LeftAt, ReportLine, Summary};
 pub use plan::{Action, InputAction, Plan, ReadOptions};
-pub use report_lines::ReportLine;
-pub use summary::{JsonSummary, LeftAt, Summary};

@@ -3,15 +3,12 @@ ghost use Rattle.std.specs.Prelude.{◌≡◌, None, IfOk};
 ghost use Rattle.ill_normal.specs.Calls.{putting, taking};
 ghost use Rattle.ill_normal.specs.Skipping.{reporting};
 ghost use Rattle.ill_normal.specs.declared.skipping.SkippingCounts.{SkippingCounts};
-ghost use Rattle.ill_json.specs.declared.place.RefusalPlace.{RefusalPlace};
+ghost use Rattle.ill_inputs.specs.declared.place.RefusalPlace.{RefusalPlace};
 ghost use Rattle.ill_commands.specs.Refusals.{IsRefusedLine};
 ghost use Rattle.ill_commands.specs.Skipping.{verdict_of_counts, RunsSkipping};
 ghost use Rattle.ill_cli.specs.Plans.{is_json_result};
 
 use crate::input::left_at;
-use crate::refused::KeepRefused;
-use crate::summary::LeftAt;
-use crate::tally::Tally;
 use crate::until_stopped::UntilStopped;
 use ber_core::{Buffered, BufferedSource, FromSlice, Sink, Source, put_all};
 use ill_commands::{
@@ -21,6 +18,7 @@ use ill_commands::{
 };
 use ill_dump::place_of_refusal;
 use ill_files::ProgramError;
+use ill_tally::{KeepRefused, LeftAt, Tally};
 use std::alloc::{AllocError, Global};
 use std::cell::Cell;
 use std::io::Write;

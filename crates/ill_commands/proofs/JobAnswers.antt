@@ -9,18 +9,18 @@ use Rattle.ill_schema.proofs.Streams.{parts_accept, accepts_once, accepts_some, 
 use Rattle.ill_refusals.specs.Fault.{Fault, fault_of}
 use Rattle.ill_refusals.specs.Outcome.{OnlyRefuses}
 use Rattle.ill_schema.specs.declared.profile.Profile.{Profile as Named}
-use Rattle.ill_normal.proofs.InputAnswers.{front}
+use Rattle.ill_inputs.proofs.TakenOctets.{front}
 use Rattle.ill_normal.specs.Messages.{Spelling, AreSpelledIn}
 use Rattle.ill_normal.proofs.LongestStreams.{nothing_over, no_longer, one_rest}
 use Rattle.ill_normal.proofs.WrittenMessages.{spelled_front}
 use Rattle.ill_normal.proofs.NormalStreams.{apdus_of, as_many, stream_of}
 use Rattle.ill_normal.specs.Calls.{taking, putting}
 use Rattle.ill_commands.specs.declared.job.Counts.{Counts}
-use Rattle.ill_normal.specs.declared.verdict.Verdict.{Verdict}
+use Rattle.ill_inputs.specs.declared.verdict.Verdict.{Verdict}
 use Rattle.ill_commands.specs.declared.job.JobOptions.{JobOptions}
-use Rattle.ill_normal.specs.declared.run_fault.RunFault.{RunFault}
+use Rattle.ill_inputs.specs.declared.run_fault.RunFault.{RunFault}
 use Rattle.ill_commands.specs.Output.{verdict_of}
-use Rattle.ill_normal.specs.Inputs.{IsResourceFault}
+use Rattle.ill_inputs.specs.Inputs.{IsResourceFault}
 use Rattle.ill_commands.specs.Runs.{WritesMessages, Stops, JobStopsAfter, Done, AnswersVerdict, IsRefusedMessage, AnswersRefused, AnswersFault}
 
 pub same_spelling : (m n : Spelling) → m.apdu ≡ n.apdu → m.octets ≡ n.octets → m ≡ n

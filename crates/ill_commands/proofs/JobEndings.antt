@@ -16,7 +16,7 @@ use Rattle.ill_normal.specs.declared.messages.StreamErrorKind.{StreamErrorKind}
 use Rattle.ill_normal.proofs.WrittenMessages.{output_push}
 use Rattle.ill_commands.specs.declared.job.JobOptions.{JobOptions}
 use Rattle.ill_commands.specs.declared.job.Job.{Job}
-use Rattle.ill_normal.specs.Inputs.{verdict_if}
+use Rattle.ill_inputs.specs.Inputs.{verdict_if}
 use Rattle.ill_commands.specs.Output.{message_output, output, counts_as_good, counts_of, is_counted_good, verdict_of}
 use Rattle.ill_commands.specs.Runs.{WritesMessages, BrokeAt, Stops, JobStopsAfter, Done}
 use Rattle.ill_commands.specs.code.Endings.{counts_with, fault_after, run_fault, verdict_by}

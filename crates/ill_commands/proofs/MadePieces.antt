@@ -22,7 +22,7 @@ use Rattle.ill_normal.specs.declared.messages.MessagePlace.{MessagePlace}
 use Rattle.ill_normal.specs.declared.messages.RenderedMessage.{RenderedMessage}
 use Rattle.ill_commands.specs.declared.piece.CheckedOutline.{CheckedOutline}
 use Rattle.ill_commands.specs.code.Finding.{IsFound}
-use Rattle.ill_normal.specs.Inputs.{label_of}
+use Rattle.ill_inputs.specs.Inputs.{label_of}
 use Rattle.ill_normal.specs.Messages.{spelling}
 use Rattle.ill_commands.specs.Output.{file_of, head_of, line_of_check, line_of_digest, line_of_result, result_line}
 use Rattle.ill_commands.specs.code.Writing.{IsPieceMade, IsMadeForm, IsWritten}

@@ -9,7 +9,7 @@ use Rattle.ill_schema.specs.declared.refusal.Refusal.{Refusal}
 use Rattle.ill_schema.proofs.Streams.{parts_accept, accepts_some}
 use Rattle.ill_refusals.specs.Fault.{Fault, Refuses, fault_of}
 use Rattle.ill_refusals.specs.Outcome.{OnlyRefuses}
-use Rattle.ill_normal.proofs.InputAnswers.{front}
+use Rattle.ill_inputs.proofs.TakenOctets.{front}
 use Rattle.ill_commands.specs.Refusals.{is_limit, IsNotRead}
 
 abbrev q : Profile

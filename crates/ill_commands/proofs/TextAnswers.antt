@@ -7,14 +7,14 @@ use Rattle.ill_refusals.specs.Fault.{Fault}
 use Rattle.ill_normal.specs.Calls.{taking, putting}
 use Rattle.ill_commands.specs.declared.job.Counts.{Counts}
 use Rattle.ill_commands.specs.declared.job.Job.{Job}
-use Rattle.ill_normal.specs.declared.verdict.Verdict.{Verdict}
+use Rattle.ill_inputs.specs.declared.verdict.Verdict.{Verdict}
 use Rattle.ill_commands.specs.declared.job.JobOptions.{JobOptions}
-use Rattle.ill_normal.specs.declared.run_fault.RunFault.{RunFault}
-use Rattle.ill_normal.specs.Hexadecimal.{hex_octets}
+use Rattle.ill_inputs.specs.declared.run_fault.RunFault.{RunFault}
+use Rattle.ill_inputs.specs.Hexadecimal.{hex_octets}
 use Rattle.ill_normal.specs.Messages.{AreSpelledIn}
-use Rattle.ill_normal.specs.Inputs.{TextOf, NoHex, FailsText, IsUnread}
+use Rattle.ill_inputs.specs.Inputs.{TextOf, NoHex, FailsText, IsUnread}
 use Rattle.ill_commands.specs.Runs.{Done, JobStopsAfter, IsRefusedMessage, DoesMessages, RefusesFirst, RefusesMore, RefusesText}
-use Rattle.ill_normal.proofs.HexAnswers.{is_fault, not_both, same_err, same_octets, same_ok}
+use Rattle.ill_inputs.proofs.HexAnswers.{is_fault, not_both, same_err, same_octets, same_ok}
 use Rattle.ill_commands.proofs.JobAnswers.{does, refuses, refuses_more}
 
 module _ (work : JobOptions) (held held' : Option (List ℕ)) (x y : Bool) (answer : Result Verdict RunFault) (counts : Counts) where

@@ -6,11 +6,11 @@ use Rattle.ill_schema.specs.Apdu.{Apdu, SpellsApdu}
 use Rattle.ill_refusals.specs.Fault.{Fault, fault_of}
 use Rattle.ill_normal.specs.Calls.{Taking, Putting}
 use Rattle.ill_normal.specs.Compared.{RefusesSideIn}
-use Rattle.ill_normal.specs.declared.compare.Side.{Side}
-use Rattle.ill_normal.specs.declared.verdict.Verdict.{Verdict}
-use Rattle.ill_normal.specs.declared.run_fault.RunFault.{RunFault}
-use Rattle.ill_normal.specs.Hexadecimal.{hex_octets}
-use Rattle.ill_normal.specs.Inputs.{TextOf, FailsText, IsUnread, IsResourceFault}
+use Rattle.ill_inputs.specs.declared.side.Side.{Side}
+use Rattle.ill_inputs.specs.declared.verdict.Verdict.{Verdict}
+use Rattle.ill_inputs.specs.declared.run_fault.RunFault.{RunFault}
+use Rattle.ill_inputs.specs.Hexadecimal.{hex_octets}
+use Rattle.ill_inputs.specs.Inputs.{TextOf, FailsText, IsUnread, IsResourceFault}
 use Rattle.ill_commands.specs.Runs.{AnswersFault}
 
 abbrev pub verdict_line : Verdict → List ℕ

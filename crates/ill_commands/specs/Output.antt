@@ -5,7 +5,8 @@ use Rattle.hex.specs.Hex.{encode_lower}
 use Rattle.sha2.specs.Sha256.{sha256}
 use Rattle.ber_leaf.specs.Profile.{Profile}
 use Rattle.ill_schema.specs.Apdu.{normal_form_in}
-use Rattle.ill_schema.specs.Names.{apdu_name_in, name_or_none}
+use Rattle.ill_tables.specs.Names.{name_or_none}
+use Rattle.ill_schema.specs.Names.{apdu_name_in}
 use Rattle.ill_schema.specs.Profiles.{profile_of}
 use Rattle.ill_text.specs.Shown.{shown_text_in}
 use Rattle.ill_json.specs.Json.{json_line_in}
@@ -13,11 +14,11 @@ use Rattle.ill_json.specs.Results.{result_line_of}
 use Rattle.ill_json.specs.declared.line.LineHead.{LineHead}
 use Rattle.ill_normal.specs.CheckWords.{check_words}
 use Rattle.ill_normal.specs.Messages.{Spelling, first, good_of, is_normal, output_from}
-use Rattle.ill_normal.specs.Inputs.{label_of, verdict_if}
+use Rattle.ill_inputs.specs.Inputs.{label_of, verdict_if}
 use Rattle.ill_normal.specs.declared.messages.MessagePlace.{MessagePlace}
 use Rattle.ill_commands.specs.declared.job.Counts.{Counts}
 use Rattle.ill_commands.specs.declared.job.Job.{Job}
-use Rattle.ill_normal.specs.declared.verdict.Verdict.{Verdict}
+use Rattle.ill_inputs.specs.declared.verdict.Verdict.{Verdict}
 use Rattle.ill_commands.specs.declared.job.JobOptions.{JobOptions}
 
 -- what `check` says of message i of the profile, after a label: the number of its APDU, how many octets it had, whether they are its normal form, and how

@@ -9,7 +9,7 @@ use Rattle.ill_schema.specs.declared.refusal.Cause.{Cause}
 use Rattle.ill_schema.specs.declared.refusal.Refusal.{Refusal}
 use Rattle.ill_refusals.specs.Fault.{Fault, Refuses}
 use Rattle.ill_json.specs.Results.{refused_line_of}
-use Rattle.ill_json.specs.declared.place.RefusalPlace.{RefusalPlace}
+use Rattle.ill_inputs.specs.declared.place.RefusalPlace.{RefusalPlace}
 use Rattle.ill_json.specs.declared.result.RefusalKind.{RefusalKind}
 use Rattle.ill_json.specs.declared.result.RefusedHead.{RefusedHead}
 use Rattle.ill_normal.specs.declared.report.RefusalReport.{RefusalReport}

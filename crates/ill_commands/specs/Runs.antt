@@ -12,14 +12,14 @@ use Rattle.ill_refusals.specs.Outcome.{OnlyRefuses}
 use Rattle.ill_normal.specs.Calls.{Taking, taking, Putting, putting}
 use Rattle.ill_commands.specs.declared.job.Counts.{Counts}
 use Rattle.ill_commands.specs.declared.job.Job.{Job}
-use Rattle.ill_normal.specs.declared.verdict.Verdict.{Verdict}
+use Rattle.ill_inputs.specs.declared.verdict.Verdict.{Verdict}
 use Rattle.ill_commands.specs.declared.job.JobOptions.{JobOptions}
-use Rattle.ill_normal.specs.declared.run_fault.RunFault.{RunFault}
+use Rattle.ill_inputs.specs.declared.run_fault.RunFault.{RunFault}
 use Rattle.ill_normal.specs.Messages.{Spelling, AreSpelledIn, TakesNoFurtherIn}
 use Rattle.ill_normal.specs.Messages as messages
-use Rattle.ill_normal.specs.Inputs.{FailsText, IsResourceFault, TextOf}
+use Rattle.ill_inputs.specs.Inputs.{FailsText, IsResourceFault, TextOf}
 use Rattle.ill_commands.specs.Output.{counts_of, message_output, output, verdict_of}
-use Rattle.ill_normal.specs.Hexadecimal.{hex_octets}
+use Rattle.ill_inputs.specs.Hexadecimal.{hex_octets}
 
 -- the octets that were taken are these messages, and their output was written
 abbrev pub WritesMessages : JobOptions → Option (List ℕ) → Option (List ℕ) → Option (List ℕ) → Option (List ℕ) → List Spelling → Type 0

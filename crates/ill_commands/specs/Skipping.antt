@@ -11,10 +11,10 @@ use Rattle.ill_normal.specs.Skipping.{counts_before, fault_of_kind}
 use Rattle.ill_commands.specs.declared.job.JobOptions.{JobOptions}
 use Rattle.ill_normal.specs.declared.job_error.JobError.{JobError}
 use Rattle.ill_commands.specs.declared.job.Job.{Job}
-use Rattle.ill_normal.specs.declared.verdict.Verdict.{Verdict}
-use Rattle.ill_normal.specs.Inputs.{verdict_if}
+use Rattle.ill_inputs.specs.declared.verdict.Verdict.{Verdict}
+use Rattle.ill_inputs.specs.Inputs.{verdict_if}
 use Rattle.ill_commands.specs.Output.{message_output, is_counted_good}
-use Rattle.ill_normal.specs.Inputs.{TextOf, FailsText}
+use Rattle.ill_inputs.specs.Inputs.{TextOf, FailsText}
 
 -- where a job stopped, and why
 abbrev pub SkippingJobStops : JobOptions → Taking → Putting → Reporting → JobError → Type 0

@@ -7,7 +7,7 @@ ghost use Rattle.ill_schema.specs.Apdu.{Apdu, SpellsApdu};
 ghost use Rattle.ill_schema.specs.Profiles.{profile_of};
 ghost use Rattle.ill_text.specs.Shown.{shown_text_in};
 ghost use Rattle.ill_commands.specs.declared.job.Job.{Job};
-ghost use Rattle.ill_normal.specs.Inputs.{label_of};
+ghost use Rattle.ill_inputs.specs.Inputs.{label_of};
 ghost use Rattle.ill_commands.specs.Output.{file_of, head_of, line_of_check, line_of_digest};
 ghost use Rattle.ill_commands.specs.code.Finding.{IsFound};
 ghost use Rattle.ill_commands.specs.code.Writing.{IsPieceMade, IsMadeForm, IsWritten};

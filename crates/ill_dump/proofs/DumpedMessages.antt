@@ -12,15 +12,15 @@ use Rattle.ill_refusals.specs.Fault.{Fault, fault_of}
 use Rattle.ill_refusals.specs.Outcome.{OnlyRefuses}
 use Rattle.ill_read.specs.Answers.{IfReadRefused}
 use Rattle.ill_read.specs.declared.failure.ReadFailure.{ReadFailure}
-use Rattle.ill_normal.specs.Inputs.{IsResourceFault}
-use Rattle.ill_normal.specs.declared.run_fault.RunFault.{RunFault}
-use Rattle.ill_dump.specs.declared.markup.DumpFormat.{DumpFormat}
+use Rattle.ill_inputs.specs.Inputs.{IsResourceFault}
+use Rattle.ill_inputs.specs.declared.run_fault.RunFault.{RunFault}
+use Rattle.ill_walk.specs.declared.markup.DumpFormat.{DumpFormat}
 use Rattle.ill_dump.specs.declared.run.DumpOptions.{DumpOptions}
-use Rattle.ill_dump.specs.Markup.{shown_in, tags_in}
-use Rattle.ill_normal.specs.Inputs.{label_of}
+use Rattle.ill_walk.specs.Markup.{shown_in, tags_in}
+use Rattle.ill_inputs.specs.Inputs.{label_of}
 use Rattle.ill_dump.specs.Dumped.{AreDumped, BreaksSink, BreaksSource, WritesDump, DumpsUpTo, IsLastDumped, DumpStopsIn, dumped, dumped_from, head, is_chosen}
-use Rattle.ill_normal.specs.InputEnds.{GoesOn}
-use Rattle.ill_normal.specs.declared.input_end.EndError.{EndError}
+use Rattle.ill_inputs.specs.InputEnds.{GoesOn}
+use Rattle.ill_inputs.specs.declared.input_end.EndError.{EndError}
 use Rattle.ill_normal.specs.Calls.{taking, putting}
 use Rattle.ill_normal.specs.Visiting.{no_counts, with_accepted}
 use Rattle.ill_normal.specs.declared.visit.MessageCounts.{MessageCounts}

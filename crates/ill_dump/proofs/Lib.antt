@@ -1,3 +1,2 @@
 pub mod DumpedMessages
-pub mod Escaped
 pub mod SkippedMessages

@@ -20,13 +20,13 @@ use Rattle.ill_normal.proofs.SkippedMessages.{skipped_bad, skipped_good, skipped
 use Rattle.ill_normal.specs.Visiting.{no_counts, with_accepted, with_last, with_refused}
 use Rattle.ill_normal.specs.code.SkippingEnds.{HasSkipped}
 use Rattle.ill_normal.specs.declared.visit.MessageCounts.{MessageCounts}
-use Rattle.ill_normal.specs.Inputs.{IsResourceFault}
-use Rattle.ill_normal.specs.declared.run_fault.RunFault.{RunFault}
+use Rattle.ill_inputs.specs.Inputs.{IsResourceFault}
+use Rattle.ill_inputs.specs.declared.run_fault.RunFault.{RunFault}
 use Rattle.ill_dump.specs.Dumped.{BreaksSink, WritesDump, head, is_chosen}
 use Rattle.ill_dump.specs.Skipping.{DumpSkipsAndStops, DumpsOn, DumpSkips, DumpStopsFor, IsEnough}
 use Rattle.ill_dump.specs.declared.run.DumpOptions.{DumpOptions}
-use Rattle.ill_normal.specs.InputEnds.{GoesOn}
-use Rattle.ill_normal.specs.declared.input_end.EndError.{EndError}
+use Rattle.ill_inputs.specs.InputEnds.{GoesOn}
+use Rattle.ill_inputs.specs.declared.input_end.EndError.{EndError}
 use Rattle.ill_dump.specs.code.Dumping.{HasDumpedOn, dump_counts, every, nothing}
 use Rattle.ill_dump.specs.code.Failing.{fault_of_end, fault_of_take}
 use Rattle.ill_dump.specs.code.Putting.{BeginsIf}

@@ -8,10 +8,10 @@ use Rattle.ill_schema.specs.declared.refusal.Refusal.{Refusal}
 use Rattle.ill_refusals.specs.Fault.{fault_of}
 use Rattle.ill_refusals.specs.Outcome.{OnlyRefuses}
 use Rattle.ill_read.specs.Answers.{RefusesWholeIn}
-use Rattle.ill_normal.specs.declared.run_fault.RunFault.{RunFault}
-use Rattle.ill_normal.specs.Inputs.{label_of}
-use Rattle.ill_normal.specs.Inputs.{FailsText, IsResourceFault, TextOf}
-use Rattle.ill_dump.specs.Markup.{shown_in, tags_in}
+use Rattle.ill_inputs.specs.declared.run_fault.RunFault.{RunFault}
+use Rattle.ill_inputs.specs.Inputs.{label_of}
+use Rattle.ill_inputs.specs.Inputs.{FailsText, IsResourceFault, TextOf}
+use Rattle.ill_walk.specs.Markup.{shown_in, tags_in}
 use Rattle.ill_dump.specs.declared.run.DumpOptions.{DumpOptions}
 
 -- what the lines of message i begin with; in HTML tags come first, and the name is escaped

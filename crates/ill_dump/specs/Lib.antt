@@ -1,4 +1,3 @@
-pub mod Markup
 pub mod Dumped
 pub mod Skipping
 pub mod code

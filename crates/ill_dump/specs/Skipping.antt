@@ -8,8 +8,8 @@ use Rattle.ill_normal.specs.Items.{Item, AreItems, Adds, position_past, reports_
 use Rattle.ill_normal.specs.Messages.{TakesNoFurtherIn, first}
 use Rattle.ill_normal.specs.declared.report.RefusalReport.{RefusalReport}
 use Rattle.ill_normal.specs.Skipping.{Reporting, reporting, HasNothingLeft, LosesEnd}
-use Rattle.ill_normal.specs.declared.run_fault.RunFault.{RunFault}
-use Rattle.ill_normal.specs.Inputs.{FailsText, TextOf}
+use Rattle.ill_inputs.specs.declared.run_fault.RunFault.{RunFault}
+use Rattle.ill_inputs.specs.Inputs.{FailsText, TextOf}
 use Rattle.ill_dump.specs.Dumped.{WritesDump}
 use Rattle.ill_dump.specs.declared.skipping.DumpCounts.{DumpCounts}
 use Rattle.ill_dump.specs.declared.run.DumpOptions.{DumpOptions}

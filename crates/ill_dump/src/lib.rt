@@ -14,31 +14,13 @@
 //! ```
 #![tactic(auto)]
 
-mod cause;
-mod document;
-mod due;
-mod found;
-mod label;
-mod laws;
-mod lines;
-mod markup;
 mod message;
-mod note;
 mod put;
-mod refusal;
-mod refused_place;
 mod rest;
 mod run;
 mod skipping;
-mod unjudged;
-mod value;
-mod walk;
-mod words;
 
-pub use document::{HTML_BEGIN, HTML_END};
-pub use laws::texts_have_no_markup;
-pub use markup::DumpFormat;
+pub use ill_walk::{DumpFormat, HTML_BEGIN, HTML_END, place_of_refusal, texts_have_no_markup};
 pub use message::{DumpedMessage, dump_message};
 pub use run::{DumpOptions, run_dump};
 pub use skipping::{DumpCounts, run_dump_skipping};
-pub use words::place_of_refusal;

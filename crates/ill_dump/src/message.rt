@@ -3,16 +3,11 @@ ghost use Rattle.std.specs.Prelude.{IfOk};
 ghost use Rattle.ill_schema.specs.Profiles.{profile_of};
 ghost use Rattle.ill_dump.specs.Dumped.{IsJudged};
 
-use crate::lines::LineBuffer;
-use crate::markup::DumpFormat;
 use crate::put::{put_check, put_head, put_refused_line};
-use crate::refusal::put_lines;
-use crate::refused_place::first_of;
 use crate::run::DumpOptions;
-use crate::unjudged::UnjudgedWalk;
-use crate::walk::{ElementWalk, Steps};
 use ill_read::{Failure, decode_normal_as};
 use ill_schema::{Cause, LIMIT, Profile, Refusal};
+use ill_walk::{DumpFormat, ElementWalk, LineBuffer, Steps, UnjudgedWalk, put_refusal_lines};
 use std::alloc::{AllocError, Global};
 
 /// A message as it is spelled, and why it is refused, if it is.
@@ -81,12 +76,13 @@ fn put_refused(
     put_refused_line(lines)?;
     let mut walk = ElementWalk::new(alloc, profile, refusal.at as usize);
     put_elements(&mut walk, octets, lines)?;
-    put_lines(alloc, lines, &walk, octets, refusal)?;
+    put_refusal_lines(alloc, lines, &walk, octets, refusal)?;
     if refusal.cause == Cause::NormalTooLong {
         return Ok(());
     }
     let mut rest = UnjudgedWalk::from_place(&walk, refusal.at as usize)?;
-    put_elements(&mut rest, first_of(octets, LIMIT as usize), lines)
+    let judged = octets.get(..LIMIT as usize).unwrap_or(octets);
+    put_elements(&mut rest, judged, lines)
 }
 
 /// The lines of the elements on a way through them.

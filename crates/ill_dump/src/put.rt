@@ -1,22 +1,18 @@
 //! The lines of a message, made and written.
 ghost use Rattle.std.specs.Prelude.{◌≡◌, ◌≢◌, ◌++◌, [], Ok, IfOk, IfErr, IsTrue, OnOk};
 ghost use Rattle.std.specs.Io.KnownBytes.{Appends};
-ghost use Rattle.ill_normal.specs.declared.run_fault.RunFault.{RunFault};
-ghost use Rattle.ill_normal.specs.Inputs.{label_of};
-ghost use Rattle.ill_normal.specs.Inputs.{IsResourceFault};
+ghost use Rattle.ill_inputs.specs.declared.run_fault.RunFault.{RunFault};
+ghost use Rattle.ill_inputs.specs.Inputs.{label_of};
+ghost use Rattle.ill_inputs.specs.Inputs.{IsResourceFault};
 ghost use Rattle.ill_dump.specs.Dumped.{BreaksSink, head, is_chosen};
-ghost use Rattle.ill_dump.specs.Markup.{shown_in};
+ghost use Rattle.ill_walk.specs.Markup.{shown_in};
 ghost use Rattle.ill_dump.specs.code.Putting.{BeginsIf, BeginsWith, Puts};
 
-use crate::lines::LineBuffer;
-use crate::markup::DumpFormat;
-use crate::refusal;
 use crate::run::DumpOptions;
-use crate::unjudged::UnjudgedWalk;
-use crate::walk::{ElementWalk, Steps};
 use ber_core::{Sink, put_all};
 use ill_normal::{RunFault, apdu_name_or_empty, apdu_number, put_check_words};
 use ill_schema::{Cause, Refusal};
+use ill_walk::{DumpFormat, ElementWalk, LineBuffer, Steps, UnjudgedWalk, put_refusal_lines};
 use std::alloc::{AllocError, Global};
 
 /// The number of octets that are made before they are written.
@@ -177,7 +173,7 @@ fn put_place<W: Sink>(
     put_refused_line(&mut out.lines)?;
     let mut walk = ElementWalk::new(alloc, dump.profile, refusal.at as usize);
     put_elements(&mut walk, octets, out, sink)?;
-    refusal::put_lines(alloc, &mut out.lines, &walk, octets, refusal)?;
+    put_refusal_lines(alloc, &mut out.lines, &walk, octets, refusal)?;
     put_rest(&walk, octets, refusal, out, sink)?;
     out.lines.tags(END_OF_MESSAGE)?;
     out.put(sink)

@@ -1,7 +1,7 @@
 //! The messages of an input, one after another.
 ghost use Rattle.std.specs.Prelude.{◌≡◌, [], IfOk, IfErr, IsTrue};
 ghost use Rattle.ill_read.specs.declared.failure.ReadFailure.{ReadFailure};
-ghost use Rattle.ill_normal.specs.declared.run_fault.RunFault.{RunFault};
+ghost use Rattle.ill_inputs.specs.declared.run_fault.RunFault.{RunFault};
 ghost use Rattle.ill_normal.specs.Visiting.{putting_of, taking_of};
 ghost use Rattle.ill_normal.specs.Calls.{putting, taking};
 ghost use Rattle.ill_dump.specs.Dumped.{AreDumped, BreaksSink, BreaksSource, DumpDone, DumpFails, head, is_chosen};
@@ -9,7 +9,6 @@ ghost use Rattle.ill_dump.specs.code.Dumping.{HasDumped, StopsDump};
 ghost use Rattle.ill_dump.specs.code.Failing.{FollowsFrom};
 ghost use Rattle.ill_dump.specs.code.Putting.{BeginsIf, IfRefusedMessage, is_enough};
 
-use crate::markup::DumpFormat;
 use crate::put::{DumpSink, put_message, put_refused};
 use crate::rest::take_rest;
 use crate::skipping::fault_of_end;
@@ -20,6 +19,7 @@ use ill_normal::{
 };
 use ill_read::{NormalReader, ReadFailure};
 use ill_schema::Profile;
+use ill_walk::DumpFormat;
 use std::alloc::Global;
 
 /// The options of a dump: how an input is read, which of its messages are written, and how the first line of each names it.

@@ -4,8 +4,8 @@ use Rattle.std.specs.List.{list_any}
 use Rattle.clap.specs.Words.{kind_of}
 use Rattle.clap.specs.declared.error.Error.{Error}
 use Rattle.clap.specs.declared.error.kind.ErrorKind.{ErrorKind}
-use Rattle.ill_normal.specs.declared.run_fault.RunFault.{RunFault}
-use Rattle.ill_normal.specs.declared.verdict.Verdict.{Verdict}
+use Rattle.ill_inputs.specs.declared.run_fault.RunFault.{RunFault}
+use Rattle.ill_inputs.specs.declared.verdict.Verdict.{Verdict}
 use Rattle.ill_files.specs.declared.error.ProgramError.{ProgramError}
 use Rattle.ill_args.specs.declared.fault.LineFault.{LineFault}
 

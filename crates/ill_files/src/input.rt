@@ -8,7 +8,7 @@ use crate::output::{FlushBeforeRead, Output, OutputOf};
 use crate::progress::{ProgressLine, ProgressReader};
 use crate::same_file::FileId;
 use ber_core::{Broken, BufferedSource, FromBuffer, FromRead, Source};
-use ill_normal::{RunFault, read_at_most};
+use ill_inputs::{RunFault, read_at_most};
 use std::alloc::Global;
 use std::fs::{self, OpenFile};
 use std::io::{Printer, Read, Write};

@@ -1,4 +1,4 @@
-//! The files of the program `illcanon`: its inputs and outputs, the line that an error is printed as, and the exit status.
+//! The words and files of the program `illcanon`: its inputs and outputs, the line that an error is printed as, and the exit status.
 //!
 //! All of it is generic over the runtime, so that tests run it on streams and files of their own. A file is opened and read by
 //!
@@ -19,6 +19,7 @@ mod progress;
 mod replacement;
 mod same_file;
 mod streams;
+mod words;
 
 pub use count::Count;
 pub use error::{
@@ -38,3 +39,4 @@ pub use output::{
 pub use progress::{ProgressLine, ProgressReader};
 pub use same_file::{FileId, are_one_target};
 pub use streams::open_closed_streams;
+pub use words::{printable_error, words_of};

@@ -7,7 +7,7 @@ use crate::names::FileNameRef;
 use crate::open_obstacle::OpenObstacle;
 use crate::replacement::{self, ReplaceMode, ReplaceObstacle, Replacement, sync_folder};
 use crate::same_file::FileId;
-use ill_normal::{RunFault, Verdict};
+use ill_inputs::{RunFault, Verdict};
 use std::alloc::Global;
 use std::cell::RefCell;
 use std::fs::{self, OpenFile};
@@ -336,7 +336,8 @@ pub fn close_output<'r, R: Print + Host + AllocGlobal>(
     }
 }
 
-/// Gives the new file `part`, which is the output, the name of the output. Where that fails, the new file is removed.
+/// Gives the new file `part`, which is the output, the name of the output. Where that fails, the new file is removed, unless another
+/// file has its name by then.
 fn take_name<'r, R: Print + Host + AllocGlobal>(
     rt: &'r R,
     output: &OutputOf<'r, R>,

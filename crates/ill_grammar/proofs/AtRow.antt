@@ -1,9 +1,9 @@
 -- The row at which an element is due.
 use Rattle.std.proofs.Common.{◌≡◌, ℕ, zero, suc, ◌-◌, true, IsTrue, List, [], ◌∷◌, drop, refl, sym, ap, subst, arith}
 use Rattle.ber_leaf.specs.Profile.{profile_two}
-use Rattle.ill_schema.specs.declared.node.NodeId.{NodeId}
-use Rattle.ill_schema.specs.declared.part.PartId.{PartId}
-use Rattle.ill_schema.specs.Table.{kind_of}
+use Rattle.ill_tables.specs.declared.node.NodeId.{NodeId}
+use Rattle.ill_tables.specs.declared.part.PartId.{PartId}
+use Rattle.ill_tables.specs.Table.{kind_of}
 use Rattle.ill_refusals.specs.Element.{Component, components, Element}
 use Rattle.ill_refusals.specs.Next.{rows, part}
 use Rattle.ill_grammar.specs.Cells.{due_at, due_row, is_placed, row_before, wrapped}

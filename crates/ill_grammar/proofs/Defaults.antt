@@ -5,13 +5,13 @@ use Rattle.ber_leaf.specs.Leaf.{Leaf, boolean, integer, enumerated, value}
 use Rattle.ber_leaf.specs.Profile.{profile_two}
 use Rattle.ill_schema.specs.Content.{simple}
 use Rattle.ill_schema.specs.Presence.{default_value, is_default, is_default_of, same_value}
-use Rattle.ill_schema.specs.Table.{kind_of, rows_of}
-use Rattle.ill_schema.specs.declared.node.Kind.{Kind}
-use Rattle.ill_schema.specs.declared.node.LeafKind.{LeafKind}
-use Rattle.ill_schema.specs.declared.node.NodeId.{NodeId}
-use Rattle.ill_schema.specs.declared.part.PartId.{PartId}
-use Rattle.ill_schema.specs.declared.part.Presence.{Presence}
-use Rattle.ill_schema.specs.declared.part.Row.{Row}
+use Rattle.ill_tables.specs.Table.{kind_of, rows_of}
+use Rattle.ill_tables.specs.declared.node.Kind.{Kind}
+use Rattle.ill_tables.specs.declared.node.LeafKind.{LeafKind}
+use Rattle.ill_tables.specs.declared.node.NodeId.{NodeId}
+use Rattle.ill_tables.specs.declared.part.PartId.{PartId}
+use Rattle.ill_tables.specs.declared.part.Presence.{Presence}
+use Rattle.ill_tables.specs.declared.part.Row.{Row}
 use Rattle.ill_refusals.specs.Element.{leaf, components, component_starts}
 use Rattle.ill_grammar.specs.Cells.{default_due, presence_default}
 use Rattle.ill_grammar.specs.Places.{alternative_of, due_of, element_found, node_at, parent_node, part_in, place_after, row_of, slot_of}

@@ -6,10 +6,10 @@ use Rattle.ber_core.specs.Tree.{octet_string}
 use Rattle.ber_leaf.specs.Leaf.{bit_string}
 use Rattle.ber_leaf.specs.Segments.{segment_tag}
 use Rattle.ber_leaf.specs.Profile.{profile_two}
-use Rattle.ill_schema.specs.declared.node.NodeId.{NodeId}
-use Rattle.ill_schema.specs.declared.part.Presence.{Presence}
-use Rattle.ill_schema.specs.declared.part.Row.{Row}
-use Rattle.ill_schema.specs.Table.{rows_of}
+use Rattle.ill_tables.specs.declared.node.NodeId.{NodeId}
+use Rattle.ill_tables.specs.declared.part.Presence.{Presence}
+use Rattle.ill_tables.specs.declared.part.Row.{Row}
+use Rattle.ill_tables.specs.Table.{rows_of}
 use Rattle.ill_refusals.specs.Element.{Component, Element, Start, components, components_from, list, starts}
 use Rattle.ill_refusals.specs.Next as next
 use Rattle.ill_refusals.specs.Next.{part, octets, any, rows, items, foreigns, element_of, next_of, due, due_in, is_last, opening, start_of}

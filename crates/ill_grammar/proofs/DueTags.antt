@@ -11,16 +11,16 @@ use Rattle.ber_leaf.specs.Profile.{profile_two}
 use Rattle.ber_leaf.specs.Segments.{segment_tag}
 use Rattle.ill_schema.specs.Content.{Content}
 use Rattle.ill_schema.specs.Presence.{is_default, is_default_of}
-use Rattle.ill_schema.specs.Table.{kind_of, rows_of}
+use Rattle.ill_tables.specs.Table.{kind_of, rows_of}
 use Rattle.ill_schema.specs.Tagging.{Tagging, untagged, implicit, explicit, explicit_or_bare, tagging, same_tag}
-use Rattle.ill_schema.specs.declared.node.Kind.{Kind}
-use Rattle.ill_schema.specs.declared.node.LeafKind.{LeafKind}
-use Rattle.ill_schema.specs.declared.node.NodeId.{NodeId}
-use Rattle.ill_schema.specs.declared.node.NodeId.TheVariants.{Boolean}
-use Rattle.ill_schema.specs.declared.part.Mode.{Mode}
-use Rattle.ill_schema.specs.declared.part.PartId.{PartId}
-use Rattle.ill_schema.specs.declared.part.Presence.{Presence}
-use Rattle.ill_schema.specs.declared.part.Row.{Row}
+use Rattle.ill_tables.specs.declared.node.Kind.{Kind}
+use Rattle.ill_tables.specs.declared.node.LeafKind.{LeafKind}
+use Rattle.ill_tables.specs.declared.node.NodeId.{NodeId}
+use Rattle.ill_tables.specs.declared.node.NodeId.TheVariants.{Boolean}
+use Rattle.ill_tables.specs.declared.part.Mode.{Mode}
+use Rattle.ill_tables.specs.declared.part.PartId.{PartId}
+use Rattle.ill_tables.specs.declared.part.Presence.{Presence}
+use Rattle.ill_tables.specs.declared.part.Row.{Row}
 use Rattle.ill_schema.proofs.Tags.{at_row}
 use Rattle.ill_refusals.specs.Element.{Component, Element, foreign, leaf, segment, Start, own_starts, retag, leave_out, tagged_starts, component_starts}
 use Rattle.ill_refusals.proofs.Rows.{same_tag-is}

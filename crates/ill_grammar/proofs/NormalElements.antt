@@ -6,11 +6,11 @@ use Rattle.ber_core.specs.Tree.{Tree, primitive, constructed, none, more}
 use Rattle.ber_leaf.specs.Segments.{leaf_content}
 use Rattle.ber_leaf.specs.Leaf.{normal_content, value}
 use Rattle.ber_leaf.specs.Profile.{profile_two}
-use Rattle.ill_schema.specs.declared.node.Kind.{Kind}
-use Rattle.ill_schema.specs.declared.node.NodeId.{NodeId}
+use Rattle.ill_tables.specs.declared.node.Kind.{Kind}
+use Rattle.ill_tables.specs.declared.node.NodeId.{NodeId}
 use Rattle.ill_schema.specs.Content.{Content, simple, alternative}
 use Rattle.ill_schema.specs.Normal.{normal_tree}
-use Rattle.ill_schema.specs.Table.{kind_of, rows_of}
+use Rattle.ill_tables.specs.Table.{kind_of, rows_of}
 use Rattle.ill_schema.specs.Tagging.{Tagging, untagged, implicit, explicit, explicit_or_bare, tagging, tag_tree, sequence_tag, leaf_tag, leaf_of}
 use Rattle.ill_schema.proofs.Tags.{untagged_any, implicit_any, is_proper, is_proper_row, at_row, tables_proper}
 use Rattle.ill_schema.proofs.Unique.{leaf_at}

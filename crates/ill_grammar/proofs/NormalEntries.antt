@@ -3,12 +3,12 @@ use Rattle.std.proofs.Common.{◌≡◌, ℕ, zero, suc, ℤ, ◌≤◌, Bool, t
 use Rattle.ber_core.specs.Der.{encoding, encodings}
 use Rattle.ber_core.specs.Tree.{Tree, Trees, none, more}
 use Rattle.ber_leaf.specs.Profile.{profile_two}
-use Rattle.ill_schema.specs.declared.part.Presence.{Presence}
-use Rattle.ill_schema.specs.declared.part.Row.{Row}
+use Rattle.ill_tables.specs.declared.part.Presence.{Presence}
+use Rattle.ill_tables.specs.declared.part.Row.{Row}
 use Rattle.ill_schema.specs.Content.{Content, simple, Entries, no_entries}
 use Rattle.ill_schema.specs.Normal.{normal_tree, normal_trees, normal_items}
 use Rattle.ill_schema.specs.Presence.{is_default, default_value}
-use Rattle.ill_schema.specs.Table.{kind_of}
+use Rattle.ill_tables.specs.Table.{kind_of}
 use Rattle.ill_schema.specs.Tagging.{tagging}
 use Rattle.ill_schema.specs.Value.{entries_of, items_of}
 use Rattle.ill_refusals.proofs.OpenElements.{same_simple}

@@ -6,8 +6,8 @@ use Rattle.ber_leaf.specs.Leaf.{Leaf, boolean, integer, enumerated, null_type, b
 use Rattle.ber_leaf.specs.Profile.{Profile}
 use Rattle.ill_schema.specs.Content.{Content, alternative}
 use Rattle.ill_schema.specs.Presence.{is_default, is_default_of}
-use Rattle.ill_schema.specs.Table.{kind_of}
-use Rattle.ill_schema.specs.declared.{node.Kind.Kind, part.Presence.Presence, part.Row.Row}
+use Rattle.ill_tables.specs.Table.{kind_of}
+use Rattle.ill_tables.specs.declared.{node.Kind.Kind, part.Presence.Presence, part.Row.Row}
 use Rattle.ill_grammar.specs.LeafTypes.{leaf_is}
 use Rattle.ill_grammar.specs.declared.leaf_type.LeafType.{LeafType}
 use Rattle.ill_grammar.specs.declared.leaf_type.LeafType.TheVariants as code

@@ -2,9 +2,9 @@
 use Rattle.std.proofs.Common.{◌≡◌, ℕ, zero, suc, ◌+◌, List, [], ◌∷◌, drop, Some, refl, sym, ap, subst, ◌∙◌, arith, slice_get}
 use Rattle.ber_core.specs.Identifier.{Tag}
 use Rattle.ber_leaf.specs.Profile.{profile_two}
-use Rattle.ill_schema.specs.declared.node.NodeId.{NodeId}
-use Rattle.ill_schema.specs.declared.part.Row.{Row}
-use Rattle.ill_schema.specs.Table.{rows_of}
+use Rattle.ill_tables.specs.declared.node.NodeId.{NodeId}
+use Rattle.ill_tables.specs.declared.part.Row.{Row}
+use Rattle.ill_tables.specs.Table.{rows_of}
 use Rattle.ill_refusals.specs.Element.{Component, Element, component_starts, components, components_from}
 use Rattle.ill_grammar.specs.Cells.{BeginsAlternative}
 use Rattle.ill_grammar.specs.Elements.{component_at, element_with}

@@ -5,11 +5,11 @@ use Rattle.std.proofs.lemmas.Bool.Decides.{nat_tests}
 use Rattle.ber_core.specs.Identifier.{Tag, class_bits}
 use Rattle.ber_core.specs.Tree.{octet_string}
 use Rattle.ber_leaf.specs.Profile.{profile_two}
-use Rattle.ill_schema.specs.declared.node.Kind.{Kind}
-use Rattle.ill_schema.specs.declared.node.NodeId.{NodeId}
-use Rattle.ill_schema.specs.declared.part.PartId.{PartId}
-use Rattle.ill_schema.specs.declared.part.Presence.{Presence}
-use Rattle.ill_schema.specs.Table.{kind_of}
+use Rattle.ill_tables.specs.declared.node.Kind.{Kind}
+use Rattle.ill_tables.specs.declared.node.NodeId.{NodeId}
+use Rattle.ill_tables.specs.declared.part.PartId.{PartId}
+use Rattle.ill_tables.specs.declared.part.Presence.{Presence}
+use Rattle.ill_tables.specs.Table.{kind_of}
 use Rattle.ill_schema.specs.Tagging.{same_tag, sequence_tag}
 use Rattle.ill_refusals.specs.Element.{Component, component_starts, components, own_starts, segment, sequence, Start, start}
 use Rattle.ill_refusals.specs.Next.{Next, rows, items, either, segments, anything, foreigns, Due, part, octets, due, due_in, start_of, first_mandatory, missing}

@@ -6,12 +6,12 @@ use Rattle.ber_core.specs.Tree.{octet_string}
 use Rattle.ber_leaf.specs.Leaf.{bit_string}
 use Rattle.ber_leaf.specs.Segments.{segment_tag}
 use Rattle.ber_leaf.specs.Profile.{profile_two}
-use Rattle.ill_schema.specs.declared.node.Kind.{Kind}
-use Rattle.ill_schema.specs.declared.node.LeafKind.{LeafKind}
-use Rattle.ill_schema.specs.declared.node.NodeId.{NodeId}
-use Rattle.ill_schema.specs.declared.part.PartId.{PartId}
-use Rattle.ill_schema.specs.declared.part.Row.{Row}
-use Rattle.ill_schema.specs.Table.{kind_of, rows_of}
+use Rattle.ill_tables.specs.declared.node.Kind.{Kind}
+use Rattle.ill_tables.specs.declared.node.LeafKind.{LeafKind}
+use Rattle.ill_tables.specs.declared.node.NodeId.{NodeId}
+use Rattle.ill_tables.specs.declared.part.PartId.{PartId}
+use Rattle.ill_tables.specs.declared.part.Row.{Row}
+use Rattle.ill_tables.specs.Table.{kind_of, rows_of}
 use Rattle.ill_schema.specs.Tagging.{same_tag, sequence_tag}
 use Rattle.ill_refusals.specs.Element.{Component, foreign, list, segment, components, starts}
 use Rattle.ill_refusals.specs.Next as next
@@ -25,7 +25,7 @@ use Rattle.ill_grammar.specs.declared.cell.ElementType.TheVariants as element_ty
 use Rattle.ill_grammar.specs.declared.cell.EntryRole.TheVariants as cell
 use Rattle.ill_grammar.specs.Cells.{Begins}
 use Rattle.ill_grammar.specs.Elements.{component_of, component_at, element_with, found_is}
-use Rattle.ill_schema.specs.declared.part.Presence.{Presence}
+use Rattle.ill_tables.specs.declared.part.Presence.{Presence}
 use Rattle.ill_grammar.specs.declared.due.Slot.TheVariants.{Row as AtRow, Item, Inner as Inside, Segment, Foreign as InForeign}
 use Rattle.ill_grammar.specs.declared.due.Next.{Next}
 use Rattle.ill_grammar.specs.declared.due.Next.TheVariants.{Rows, Inner, Items, Either, Segments, BitSegments, Root, Foreigns, Nothing}

@@ -5,9 +5,9 @@ use Rattle.ber_core.specs.Tree.{octet_string}
 use Rattle.ber_leaf.specs.Leaf.{bit_string}
 use Rattle.ber_leaf.specs.Profile.{profile_two}
 use Rattle.ber_leaf.specs.Segments.{segment_tag}
-use Rattle.ill_schema.specs.declared.part.PartId.{PartId}
-use Rattle.ill_schema.specs.declared.part.Presence.{Presence}
-use Rattle.ill_schema.specs.declared.part.Row.{Row}
+use Rattle.ill_tables.specs.declared.part.PartId.{PartId}
+use Rattle.ill_tables.specs.declared.part.Presence.{Presence}
+use Rattle.ill_tables.specs.declared.part.Row.{Row}
 use Rattle.ill_schema.specs.Tagging.{untagged, tagging, same_tag}
 use Rattle.ill_refusals.specs.Element.{Component, Element, leaf, sequence, list, wrapper, loose_wrapper, segment, foreign, left_out, Start}
 use Rattle.ill_grammar.specs.LeafTypes.{leaf_is, module_leaf_is}

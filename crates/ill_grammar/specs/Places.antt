@@ -2,12 +2,12 @@
 use Rattle.std.specs.Prelude.{◌≡◌, ◌≤◌, ℕ, ◌+◌, Bool, ◌&&◌, List, ◌∷◌, drop, IsTrue, Option, Some, None}
 use Rattle.ber_core.specs.Identifier.{Tag}
 use Rattle.ber_leaf.specs.Profile.{Profile, profile_two}
-use Rattle.ill_schema.specs.declared.node.Kind.{Kind}
-use Rattle.ill_schema.specs.declared.node.NodeId.{NodeId}
-use Rattle.ill_schema.specs.declared.node.NodeId.TheVariants.{Boolean, IllApdu}
-use Rattle.ill_schema.specs.declared.part.PartId.{PartId}
+use Rattle.ill_tables.specs.declared.node.Kind.{Kind}
+use Rattle.ill_tables.specs.declared.node.NodeId.{NodeId}
+use Rattle.ill_tables.specs.declared.node.NodeId.TheVariants.{Boolean, IllApdu}
+use Rattle.ill_tables.specs.declared.part.PartId.{PartId}
 use Rattle.ill_schema.specs.Apdu.{root}
-use Rattle.ill_schema.specs.Table.{kind_of}
+use Rattle.ill_tables.specs.Table.{kind_of}
 use Rattle.ill_schema.specs.TableFacts.{is_of_two}
 use Rattle.ill_refusals.specs.Element.{Component, components, Element, starts}
 use Rattle.ill_refusals.specs.Next.{Next, rows, Due, part, due, element_of}

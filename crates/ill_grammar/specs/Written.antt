@@ -7,12 +7,12 @@ use Rattle.ber_core.specs.Tree.{Tree, primitive, constructed, none, more}
 use Rattle.ber_leaf.specs.Leaf.{Leaf, boolean, normal_content, value}
 use Rattle.ber_leaf.specs.Profile.{profile_two}
 use Rattle.ber_leaf.specs.Simple.{flag, whole}
-use Rattle.ill_schema.specs.declared.part.Row.{Row}
+use Rattle.ill_tables.specs.declared.part.Row.{Row}
 use Rattle.ill_schema.specs.Content.{Content, simple}
 use Rattle.ill_schema.specs.Content as content
 use Rattle.ill_schema.specs.Normal.{normal_tree, normal_trees, normal_items}
 use Rattle.ill_schema.specs.Presence.{is_default, same_value}
-use Rattle.ill_schema.specs.Table.{rows_of}
+use Rattle.ill_tables.specs.Table.{rows_of}
 use Rattle.ill_schema.specs.Tagging.{untagged, tagging}
 use Rattle.ill_grammar.specs.declared.due.Next.{Next}
 use Rattle.ill_grammar.specs.declared.due.Next.TheVariants.{Rows, Either}

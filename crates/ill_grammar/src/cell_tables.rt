@@ -1,14 +1,15 @@
 //! The cells of each node: by what it may begin in a wrapper, and then what it may contain.
 ghost use Rattle.std.specs.Prelude.{◌≡◌, ◌≤◌, ◌<◌, length, IsTrue, MatchOption};
 ghost use Rattle.std.specs.List.{list_all};
-ghost use Rattle.ill_schema.specs.Table.{kind_of};
+ghost use Rattle.ill_tables.specs.Table.{kind_of};
 ghost use Rattle.ill_schema.specs.TableFacts.{is_of_two};
 ghost use Rattle.ill_grammar.specs.Cells.{is_two_cell};
 ghost use Rattle.ill_grammar.specs.code.Meant.{all_open, cells_meant, foreign_cell, nested_starts, node_meant, starts_of_cells};
 
 use crate::cell::{Cell, ElementType, EntryRole};
 use ber_core::Class;
-use ill_schema::{NodeId, PartId, table};
+use ill_schema::{NodeId, PartId};
+use ill_tables::table;
 
 /// The universal number of a node, a SEQUENCE's where it isn't a leaf.
 macro_rules! own_number {

@@ -3,7 +3,7 @@ ghost use Rattle.std.specs.Prelude.{◌≡◌, ◌<◌, IsTrue, true, IfSome, Ma
 ghost use Rattle.std.proofs.Props.{props};
 ghost use Rattle.ber_core.specs.Id.{tag_of_id};
 ghost use Rattle.ber_leaf.specs.Profile.{profile_two};
-ghost use Rattle.ill_schema.specs.Table.{kind_of};
+ghost use Rattle.ill_tables.specs.Table.{kind_of};
 ghost use Rattle.ill_schema.specs.TableFacts.{is_of_two};
 ghost use Rattle.ill_schema.specs.Tagging.{same_tag};
 ghost use Rattle.ill_grammar.specs.Elements.{element_with};
@@ -143,7 +143,7 @@ impl Place {
     ghost use Rattle.ill_refusals.specs.Next.{due, missing};
     ghost use Rattle.ill_refusals.specs.Place.{next_in};
     ghost use Rattle.ber_core.specs.Identifier.{Tag};
-    ghost use Rattle.ill_schema.specs.declared.node.Kind.{Kind};
+    ghost use Rattle.ill_tables.specs.declared.node.Kind.{Kind};
     ghost use Rattle.ill_schema.specs.Profiles.{profile_of};
     ghost use Rattle.ill_grammar.specs.Places.{IsDueWithTag, is_two, next_at, node_at, nowhere, part_in, position_in, top, top_in, type_of, place_view};
     ghost use Rattle.ill_grammar.specs.declared.cell.ElementType.{ElementType};

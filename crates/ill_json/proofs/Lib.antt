@@ -1,6 +1,5 @@
 pub mod Added
 pub mod Tokens
-pub mod Identifiers
 pub mod InAscii
 pub mod ModuleLeaves
 pub mod OneToOne

@@ -30,20 +30,20 @@ use Rattle.ber_leaf.specs.Simple.{Simple, flag, whole, date, time, printable, ge
 use Rattle.ber_leaf.proofs.Integers.{whole_bounds}
 use Rattle.ill_schema.proofs.KnownLeaves.{is_known, known_leaf}
 use Rattle.ill_schema.proofs.Tags.{row_of_two, two_not_any}
-use Rattle.ill_schema.specs.declared.node.Kind.{Kind}
-use Rattle.ill_schema.specs.declared.node.LeafKind.{LeafKind}
-use Rattle.ill_schema.specs.declared.node.NodeId.{NodeId}
-use Rattle.ill_schema.specs.declared.node.NodeId.TheVariants.{Boolean, IllApdu, TaggedExternal}
-use Rattle.ill_schema.specs.declared.part.Row.{Row}
+use Rattle.ill_tables.specs.declared.node.Kind.{Kind}
+use Rattle.ill_tables.specs.declared.node.LeafKind.{LeafKind}
+use Rattle.ill_tables.specs.declared.node.NodeId.{NodeId}
+use Rattle.ill_tables.specs.declared.node.NodeId.TheVariants.{Boolean, IllApdu, TaggedExternal}
+use Rattle.ill_tables.specs.declared.part.Row.{Row}
 use Rattle.ill_schema.specs.Apdu.{Apdu, choice_of}
 use Rattle.ill_schema.specs.Content.{Content, simple, sequence, list, alternative, foreign, Entries, no_entries, absent, present, Items, no_items, item}
 use Rattle.ill_schema.specs.Fits.{Fits, FitItems, FitRows, FitsApdu}
-use Rattle.ill_schema.specs.Names.{names_of}
-use Rattle.ill_schema.specs.Table.{kind_of, rows_of}
+use Rattle.ill_tables.specs.Names.{names_of}
+use Rattle.ill_tables.specs.Table.{kind_of, rows_of}
 use Rattle.ill_schema.specs.TableFacts.{is_of_two}
 use Rattle.ill_schema.specs.Tagging.{leaf_of}
-use Rattle.ill_schema.specs.Numbers.{number_name, number_names}
-use Rattle.ill_schema.specs.Names.{name_or_none, node_or_left_out, row_name, row_node}
+use Rattle.ill_tables.specs.Numbers.{number_name, number_names}
+use Rattle.ill_tables.specs.Names.{name_or_none, node_or_left_out, row_name, row_node}
 use Rattle.ill_json.specs.Json.{characters, entry_members, in_member, item_values, json_line_of, leaf_json, line_json, number_json, plain, value_json, with_file}
 use Rattle.ill_json.specs.declared.line.LineHead.{LineHead}
 use Rattle.ill_json.proofs.InAscii.{AreTexts-json_tokens, HasTexts, IsUtf8-are_low, are_low, in_ascii, in_ascii-cons, tokens-in_ascii}

@@ -9,7 +9,7 @@ use Rattle.json.specs.Tree.{items_tokens, members_tokens}
 use Rattle.ill_json.specs.Json.{with_file}
 use Rattle.ill_json.specs.Results.{place_members, strings, with_count, with_list, with_text, with_words}
 use Rattle.ill_json.specs.code.Adding.{count_tokens, file_tokens, list_tokens, place_tokens, text_tokens, words_tokens}
-use Rattle.ill_json.specs.declared.place.RefusalPlace.{RefusalPlace}
+use Rattle.ill_inputs.specs.declared.place.RefusalPlace.{RefusalPlace}
 
 pub file_member : (file : Option (List ℕ)) (ms : Members) → file_tokens file ++ members_tokens ms ≡ members_tokens (with_file file ms)
 file_member None ms = refl

@@ -8,7 +8,7 @@ use Rattle.json.specs.Json.{Json}
 use Rattle.json.specs.Token.{Token, begin_object, end_array, end_object, key}
 use Rattle.json.specs.Print.{print}
 use Rattle.json.specs.Tree.{items_tokens, json_tokens, members_tokens}
-use Rattle.ill_schema.specs.declared.node.NodeId.{NodeId}
+use Rattle.ill_tables.specs.declared.node.NodeId.{NodeId}
 use Rattle.ber_leaf.specs.Profile.{Profile}
 use Rattle.ill_schema.specs.Apdu.{root}
 use Rattle.ill_schema.specs.Apdu.{Apdu}
@@ -16,10 +16,9 @@ use Rattle.ill_schema.specs.Content.{Content, alternative, Entries, no_entries, 
 use Rattle.ill_read.specs.Outline.{AreEntries, AreItems, IsMarked}
 use Rattle.ill_read.specs.declared.mark.Mark.{Mark}
 use Rattle.ill_read.specs.declared.mark.Mark.TheVariants as mark
-use Rattle.ill_schema.specs.Texts.{hexadecimal}
-use Rattle.ill_schema.specs.Names.{row_name, row_node}
-use Rattle.ill_read.specs.Marks.{IsEntry, is_at_end, is_there, octets_in}
-use Rattle.ill_read.proofs.MarkedValues.{mark_step, no_entry, no_item}
+use Rattle.ill_tables.specs.Names.{row_name, row_node}
+use Rattle.ill_marks.specs.Marks.{IsEntry, is_at_end, is_there, octets_in}
+use Rattle.ill_marks.proofs.MarkedValues.{mark_step, no_entry, no_item}
 use Rattle.ill_json.specs.Json.{characters, entry_members, in_member, item_values, line_json_in, line_of, plain, value_json}
 use Rattle.ill_json.specs.code.Adding.{Adds, entry_tokens, file_tokens, head_tokens, part_tokens, value_tokens}
 use Rattle.ill_json.specs.declared.line.LineHead.{LineHead}
@@ -161,9 +160,6 @@ items_ended o row node is rest left a b c r end put =
 pub character_step : (xs : List Mark) (i : ℕ) (d : Mark) → i < length xs → characters (octets_in (take (i + 1) xs)) ≡ characters (octets_in (take i xs)) ++ characters (octets_in (get_or xs i d ∷ []))
 character_step xs i d h = ap characters (mark_step xs i d h) ∙ flat_map-append encode_utf8 (octets_in (take i xs)) (octets_in (get_or xs i d ∷ []))
 
-pub hexadecimal_step : (xs : List Mark) (i : ℕ) (d : Mark) → i < length xs → hexadecimal (octets_in (take (i + 1) xs)) ≡ hexadecimal (octets_in (take i xs)) ++ hexadecimal (octets_in (get_or xs i d ∷ []))
-hexadecimal_step xs i d h = ap hexadecimal (mark_step xs i d h) ∙ search flat_map-append
-
 -- ---- members
 
 pub member : (name : List ℕ) (node inner : NodeId) (i : ℕ) (c : Content) → name ≡ row_name node i → inner ≡ row_node node i → key name ∷ json_tokens (value_json name inner c) ≡ part_tokens node i c
@@ -206,9 +202,6 @@ line_same p file head a name node row n k e =
     ap₂ (λ (x : List ℕ) (y : NodeId). begin_object ∷ file_tokens file ++ head_tokens head x ++ key (codes "value") ∷ [] ++ json_tokens (value_json [] y a.body) ++ end_object ∷ []) n k ∙ line_whole p file head a row e
 
 -- ---- the whole text
-
-pub one_more : (a b c x y z : List ℕ) → b ≡ a ++ x → c ≡ b ++ y → z ≡ x ++ y → c ≡ a ++ z
-one_more a b c x y z h k e = k ∙ ap (λ (t : List ℕ). t ++ y) h ∙ append_assoc a x y ∙ ap (λ (t : List ℕ). a ++ t) (sym e)
 
 pub text_of_line : (j : Json) (o p : LineWriter) → o.writer.tokens ≡ [] → Adds (json_tokens j) o p → p.failed ≡ false → flat_map plain (chars (print p.writer.tokens)) ++ codes "\n" ≡ line_of j
 unfolding Adds

@@ -10,13 +10,13 @@ use Rattle.json.specs.Print.{print}
 use Rattle.json.specs.Tree.{json_tokens}
 use Rattle.ber_core.specs.Der.{encoding}
 use Rattle.ber_leaf.specs.Simple.{Simple, flag, whole, date, time, printable, general, visible, null, oid, binary, bits, descriptor}
-use Rattle.ill_schema.specs.declared.node.NodeId.{NodeId}
+use Rattle.ill_tables.specs.declared.node.NodeId.{NodeId}
 use Rattle.ber_leaf.specs.Profile.{Profile, profile_two}
 use Rattle.ill_schema.specs.Apdu.{Apdu, root}
 use Rattle.ill_schema.specs.Content.{Content, simple, sequence, list, alternative, foreign, Entries, no_entries, absent, present, Items, no_items, item}
-use Rattle.ill_schema.specs.Numbers.{number_name}
+use Rattle.ill_tables.specs.Numbers.{number_name}
 use Rattle.ill_schema.specs.Texts.{hexadecimal, oid_text}
-use Rattle.ill_schema.specs.Names.{row_name, row_node}
+use Rattle.ill_tables.specs.Names.{row_name, row_node}
 use Rattle.ill_json.specs.declared.line.LineHead.{LineHead}
 
 -- each octet is the character of its number, in UTF-8

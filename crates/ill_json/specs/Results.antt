@@ -7,7 +7,7 @@ use Rattle.ill_schema.specs.declared.refusal.Refusal.{Refusal}
 use Rattle.ill_schema.specs.Texts.{hexadecimal}
 use Rattle.ill_json.specs.Json.{head_members, line_of, with_file}
 use Rattle.ill_json.specs.declared.line.LineHead.{LineHead}
-use Rattle.ill_json.specs.declared.place.RefusalPlace.{RefusalPlace}
+use Rattle.ill_inputs.specs.declared.place.RefusalPlace.{RefusalPlace}
 use Rattle.ill_json.specs.declared.result.RefusalKind.{RefusalKind}
 use Rattle.ill_json.specs.declared.result.RefusedHead.{RefusedHead}
 

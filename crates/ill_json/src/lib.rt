@@ -8,8 +8,6 @@
 #![tactic(auto)]
 
 mod ascii;
-mod hexadecimal;
-mod identifier;
 mod leaf;
 mod line;
 mod module_leaf;
@@ -18,7 +16,6 @@ mod result;
 mod value;
 mod writing;
 
-pub use identifier::add_identifier;
+pub use ill_inputs::RefusalPlace;
 pub use line::{LineHead, json_line, json_line_as};
-pub use place::RefusalPlace;
 pub use result::{RefusalKind, RefusedHead, refused_line, result_line};

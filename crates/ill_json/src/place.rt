@@ -4,18 +4,8 @@ ghost use Rattle.json.specs.Token.{string};
 ghost use Rattle.ill_json.specs.code.Adding.{Adds, list_tokens, place_tokens, words_tokens};
 
 use crate::writing::LineWriter;
+use ill_inputs::RefusalPlace;
 use json::Token;
-
-/// The place of a refusal in words, which the caller chooses.
-#[derive(Drop)]
-pub struct RefusalPlace {
-    /// The names of the elements round the place, the outermost one first.
-    pub path: String,
-    /// The octets or the end that is there.
-    pub found: String,
-    /// The elements that were due there, a text for each.
-    pub due: Vec<String>,
-}
 
 /// Puts the members of a place: those that say something.
 pub fn put_place(place: &RefusalPlace, out: &mut LineWriter)

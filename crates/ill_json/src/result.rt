@@ -6,8 +6,9 @@ ghost use Rattle.ill_json.specs.Results.{kind_name, refused_json, refused_line_o
 ghost use Rattle.ill_json.specs.code.Adding.{Adds, count_tokens, digest_tokens, text_tokens};
 
 use crate::line::{LineHead, put_file, put_head};
-use crate::place::{RefusalPlace, put_place};
+use crate::place::put_place;
 use crate::writing::LineWriter;
+use ill_inputs::RefusalPlace;
 use ill_schema::{Cause, Refusal};
 use json::Token;
 use std::alloc::{AllocError, Global};

@@ -5,13 +5,12 @@ ghost use Rattle.std.specs.Str.{chars};
 ghost use Rattle.json.specs.Print.{IsPrintable, print};
 ghost use Rattle.json.specs.Reads.{token_of};
 ghost use Rattle.json.specs.Token.{Token as Put, number, string};
-ghost use Rattle.ill_read.specs.Marks.{octets_in};
+ghost use Rattle.ill_marks.specs.Marks.{octets_in};
 ghost use Rattle.ill_schema.specs.Texts.{hexadecimal, oid_text};
 ghost use Rattle.ill_json.specs.Json.{characters, plain};
 
 use crate::ascii::into_ascii;
-use crate::hexadecimal::{add_hexadecimal, add_octets};
-use crate::identifier::add_identifier;
+use ill_marks::{add_hexadecimal, add_identifier, add_octets};
 use ill_read::Mark;
 use itoa::Buffer;
 use json::{Token, Writer};

@@ -12,11 +12,12 @@ use Rattle.ill_refusals.specs.Fault.{Fault}
 use Rattle.ill_read.specs.Answers.{RefusesWholeIn}
 use Rattle.ill_normal.specs.Calls.{Taking, Putting}
 use Rattle.ill_normal.specs.Messages.{Spelling, spelling}
-use Rattle.ill_normal.specs.Hexadecimal.{hex_octets}
+use Rattle.ill_inputs.specs.Hexadecimal.{hex_octets}
 use Rattle.ill_normal.specs.Messages.{is_normal}
-use Rattle.ill_normal.specs.declared.run_fault.RunFault.{RunFault}
+use Rattle.ill_inputs.specs.declared.run_fault.RunFault.{RunFault}
 use Rattle.ill_lines.specs.Parts.{has_end, parts_by}
-use Rattle.ill_schema.specs.Names.{apdu_name_in, name_or_none}
+use Rattle.ill_tables.specs.Names.{name_or_none}
+use Rattle.ill_schema.specs.Names.{apdu_name_in}
 use Rattle.ill_normal.specs.CheckWords.{check_words}
 use Rattle.ill_lines.specs.Words.{hex_words, refusal_words}
 use Rattle.ill_lines.specs.declared.job.LineJob.{LineJob}

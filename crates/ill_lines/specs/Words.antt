@@ -4,7 +4,7 @@ use Rattle.ill_schema.specs.Names.{cause_part_name_of, dotted_name}
 use Rattle.ill_schema.specs.Causes.{cause_name}
 use Rattle.ill_schema.specs.declared.refusal.Cause.{Cause}
 use Rattle.ill_refusals.specs.Fault.{Fault}
-use Rattle.ill_normal.specs.declared.run_fault.RunFault.{RunFault}
+use Rattle.ill_inputs.specs.declared.run_fault.RunFault.{RunFault}
 
 -- the names of a part
 abbrev pub part_words : Option (List ℕ × List ℕ) → List ℕ

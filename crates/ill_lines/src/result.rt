@@ -4,7 +4,7 @@ ghost use Rattle.hex.specs.Hex.{encode_lower};
 ghost use Rattle.ill_schema.specs.Apdu.{Apdu, SpellsApdu, normal_form_in};
 ghost use Rattle.ill_schema.specs.Profiles.{profile_of};
 ghost use Rattle.ill_normal.specs.Messages.{spelling};
-ghost use Rattle.ill_normal.specs.Hexadecimal.{hex_octets};
+ghost use Rattle.ill_inputs.specs.Hexadecimal.{hex_octets};
 ghost use Rattle.ill_lines.specs.Lines.{IsResult, IsResultOf, IsSaid, line_options};
 ghost use Rattle.ill_lines.specs.declared.job.LineJob.{LineJob as Job};
 

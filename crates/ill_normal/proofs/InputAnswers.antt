@@ -6,16 +6,12 @@ use Rattle.ill_refusals.specs.Fault.{Fault, fault_of}
 use Rattle.ill_refusals.specs.Outcome.{OnlyRefuses}
 use Rattle.ber_leaf.specs.Profile.{Profile}
 use Rattle.ill_schema.proofs.Streams.{parts_accept, accepts_once, accepts_some}
+use Rattle.ill_inputs.proofs.TakenOctets.{front}
 use Rattle.ill_read.specs.declared.failure.ReadFailure.{ReadFailure}
 use Rattle.ill_read.specs.Answers.{IfReadRefused, IsReadFault}
 use Rattle.ill_normal.specs.declared.failure.NormalFailure.{NormalFailure}
 use Rattle.ill_normal.specs.Calls.{taking, putting}
 use Rattle.ill_normal.specs.Normalised.{ForwardsIn, FailsIn, Answers, AnswersRefused}
-
--- what comes before what is left now
-pub front : (s : List ℕ) (new : Option (List ℕ)) (b : List ℕ) → Consumes (Some s) new b → (t : List ℕ) × (s ≡ b ++ t) × (new ≡ Some t)
-front s None b h = absurd h
-front s (Some t) b h = (t, h, refl)
 
 accepted : {p : Profile} (s : List ℕ) (new held held' : Option (List ℕ)) (r w : ℕ) → (f : ForwardsIn p (Some s) new held held' r w) → Accepts p s f.apdu (length f.octets)
 accepted {p = p} s new held held' r w f = let t = front s new f.octets f.taken in parts_accept p s f.apdu f.octets t.0 t.1 f.spells

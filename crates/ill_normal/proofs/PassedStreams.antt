@@ -5,7 +5,7 @@ use Rattle.ill_schema.specs.Profiles.{profile_of}
 use Rattle.ill_schema.specs.declared.profile.Profile.{Profile as Named}
 use Rattle.ill_normal.specs.Streamed.{PassesIn}
 use Rattle.ill_normal.proofs.LongestStreams.{stream_front}
-use Rattle.ill_normal.proofs.InputAnswers.{front}
+use Rattle.ill_inputs.proofs.TakenOctets.{front}
 
 -- what passed is a stream of what was left, where the source reports it
 pub passes_stream : (q : Named) (s : List ℕ) (left' held held' : Option (List ℕ)) (whole before : ℕ) → (p : PassesIn (profile_of q) (Some s) left' held held' whole before)

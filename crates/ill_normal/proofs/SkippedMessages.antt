@@ -21,8 +21,8 @@ use Rattle.ill_normal.specs.declared.skipping.SkippingErrorKind.{SkippingErrorKi
 use Rattle.ill_normal.specs.Items.{Item, good, bad, IsRefusedFor, AreItems, item_octets, position_past, written_of, written_from, report, reports_from, good_in, all_good, Adds}
 use Rattle.ill_normal.specs.Skipping.{Reporting, reporting, Skips, HasNoEnd, SkipsToEnd, part_written, StopsFor, SkipsAndStops}
 use Rattle.ill_normal.specs.Next.{TakesPart}
-use Rattle.ill_normal.specs.InputEnds.{GoesOn}
-use Rattle.ill_normal.specs.declared.input_end.EndError.{EndError}
+use Rattle.ill_inputs.specs.InputEnds.{GoesOn}
+use Rattle.ill_inputs.specs.declared.input_end.EndError.{EndError}
 use Rattle.ill_normal.specs.code.SkippingEnds.{HasSkipped, error_at, skipping_counts, why_of, why_of_end}
 use Rattle.ill_normal.specs.Visiting.{no_counts, with_accepted, with_last, with_refused}
 use Rattle.ill_normal.specs.declared.visit.MessageCounts.{MessageCounts}

@@ -14,7 +14,7 @@ use Rattle.ill_normal.specs.Normalised.{IsResourceFailure}
 use Rattle.ill_normal.specs.Streamed.{PassesIn, StopsIn, StopsAfterIn, IsRefusedAfter, AnswersCount, AnswersRefusedAfter, AnswersTooMany}
 use Rattle.ill_normal.proofs.LongestStreams.{nothing_over, no_longer, one_rest}
 use Rattle.ill_normal.proofs.PassedStreams.{passes_stream}
-use Rattle.ill_normal.proofs.InputAnswers.{front}
+use Rattle.ill_inputs.proofs.TakenOctets.{front}
 
 module _ (q : Named) where
   -- nothing is left of s after these APDUs

@@ -15,8 +15,8 @@ use Rattle.ill_read.specs.Answers.{ReadsNextIn, TakesFront}
 use Rattle.ill_read.specs.declared.failure.ReadFailure.{ReadFailure}
 use Rattle.ill_normal.specs.Calls.{taking, putting}
 use Rattle.ill_normal.specs.Messages.{Spelling, spelling, AreSpelledIn, counted, position, first, after, position_after, output_from, one_if, good_of, MakesIn, PassesAllIn, BreaksWithinIn, EndsIn, EndsAfterIn}
-use Rattle.ill_normal.specs.InputEnds.{GoesOn}
-use Rattle.ill_normal.specs.declared.input_end.EndError.{EndError}
+use Rattle.ill_inputs.specs.InputEnds.{GoesOn}
+use Rattle.ill_inputs.specs.declared.input_end.EndError.{EndError}
 use Rattle.ill_normal.specs.code.Ending.{HasWritten, all_passed, ended_at, why_of_end}
 use Rattle.ill_normal.specs.Visiting.{no_counts, with_accepted}
 use Rattle.ill_normal.specs.declared.visit.MessageCounts.{MessageCounts}

@@ -4,7 +4,7 @@ use Rattle.ill_schema.specs.Apdu.{Apdu, SpellsApdu}
 use Rattle.ill_refusals.specs.Fault.{Fault}
 use Rattle.ber_leaf.specs.Profile.{Profile, profile_two}
 use Rattle.ill_read.specs.Answers.{RefusesWholeIn}
-use Rattle.ill_normal.specs.declared.compare.Side.{Side}
+use Rattle.ill_inputs.specs.declared.side.Side.{Side}
 
 -- the second side is judged where the first is a spelling
 abbrev pub RefusesSideIn : Profile → List ℕ → List ℕ → Side → Fault → Type 0

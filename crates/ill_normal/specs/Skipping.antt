@@ -9,7 +9,7 @@ use Rattle.ill_normal.specs.Messages.{Spelling, counted, first, BreaksWithinIn, 
 use Rattle.ill_normal.specs.declared.messages.MessagePlace.{MessagePlace}
 use Rattle.ill_normal.specs.Items.{Item, AreItems, IsRefusedFor, position_past, written_from, report, reports_from, good_in, all_good, Adds}
 use Rattle.ill_normal.specs.declared.report.RefusalReport.{RefusalReport}
-use Rattle.ill_normal.specs.declared.run_fault.RunFault.{RunFault}
+use Rattle.ill_inputs.specs.declared.run_fault.RunFault.{RunFault}
 use Rattle.ill_normal.specs.declared.skipping.SkippingCounts.{SkippingCounts}
 use Rattle.ill_normal.specs.declared.skipping.SkippingError.{SkippingError}
 use Rattle.ill_normal.specs.declared.skipping.SkippingErrorKind.{SkippingErrorKind}

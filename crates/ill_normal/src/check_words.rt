@@ -1,6 +1,7 @@
 //! The words that say what a message is.
 ghost use Rattle.std.specs.Prelude.{◌≡◌, ◌++◌, OnOk};
-ghost use Rattle.ill_schema.specs.Names.{apdu_name_in, name_or_none};
+ghost use Rattle.ill_tables.specs.Names.{name_or_none};
+ghost use Rattle.ill_schema.specs.Names.{apdu_name_in};
 ghost use Rattle.ill_schema.specs.Profiles.{profile_of};
 ghost use Rattle.ill_normal.specs.CheckWords.{check_words, form_words};
 

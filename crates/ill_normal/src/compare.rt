@@ -6,16 +6,10 @@ ghost use Rattle.ill_schema.specs.Profiles.{profile_of};
 ghost use Rattle.ill_read.specs.Answers.{IfRefused, RefusesWhole, RefusesWholeIn};
 ghost use Rattle.ill_normal.specs.Compared.{RefusesSide, RefusesSideIn};
 
+use ill_inputs::Side;
 use ill_read::{Failure, decode_normal_as};
 use ill_schema::Profile;
 use std::alloc::Global;
-
-/// One of two messages.
-#[derive(Clone, Copy, Debug, PartialEq, Eq)]
-pub enum Side {
-    First,
-    Second,
-}
 
 /// Tells whether two messages are of one APDU, which is whether they have one normal form.
 ///

@@ -2,8 +2,8 @@
 ghost use Rattle.std.specs.Prelude.{◌≡◌};
 ghost use Rattle.ill_normal.specs.Skipping.{counts_before, fault_of_kind};
 
-use crate::run_fault::RunFault;
 use crate::skipping::{SkippingCounts, SkippingError, SkippingErrorKind};
+use ill_inputs::RunFault;
 
 /// The reason why a job stopped, and the counts of what it had read by then.
 #[derive(Clone, Copy, Debug, PartialEq, Eq)]

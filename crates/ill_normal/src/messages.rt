@@ -10,10 +10,10 @@ ghost use Rattle.ill_normal.specs.Messages.{EndsAfterIn, MakesIn, PassesAllIn, S
 ghost use Rattle.ill_normal.specs.declared.messages.MessagePlace.{MessagePlace};
 ghost use Rattle.ill_normal.specs.code.Ending.{HasWritten, all_passed, ended_at, why_of_end};
 
-use crate::input_end::EndError;
 use crate::report::{NoReports, ReportRefusals};
 use crate::visit::{MessageCounts, VisitMessages, Visited, visit_messages};
 use ber_core::{Lookahead, Sink, Source, put_all};
+use ill_inputs::EndError;
 use ill_read::ReadFailure;
 use std::alloc::Global;
 

@@ -7,12 +7,12 @@ ghost use Rattle.ill_normal.specs.Calls.{taking, putting};
 ghost use Rattle.ill_normal.specs.Skipping.{SkipsToEnd, SkipsAndStops, reporting};
 ghost use Rattle.ill_normal.specs.code.SkippingEnds.{HasSkipped, error_at, skipping_counts, why_of_end};
 
-use crate::input_end::EndError;
 use crate::messages::{Render, Rendered};
 use crate::next_message::{NextMessage, take_message};
 use crate::report::{RefusalReport, ReportRefusals};
 use crate::visit::{MessageCounts, VisitMessages, Visited, visit_messages};
 use ber_core::{Lookahead, Sink, Source};
+use ill_inputs::EndError;
 use std::alloc::Global;
 
 /// Counts of an input that was read to its end.

@@ -1,15 +1,15 @@
 //! The loop over the messages of an input.
 ghost use Rattle.std.specs.Prelude.{◌≡◌, ℕ, ◌+◌, ◌<◌, ◌≤◌, Bool, [], List, Option, IfOk, IfErr, OnOk, IsTrue};
 ghost use Rattle.std.specs.Io.KnownBytes.{Consumes, IsAtEnd};
-ghost use Rattle.ill_normal.specs.InputEnds.{GoesOn};
+ghost use Rattle.ill_inputs.specs.InputEnds.{GoesOn};
 ghost use Rattle.ill_normal.specs.Messages.{position};
 ghost use Rattle.ill_normal.specs.Visiting.{OnNext, Streams, Visits, no_counts, streams, with_accepted, with_last, with_refused, with_source};
 ghost use Rattle.ill_normal.specs.declared.visit.MessageCounts.{MessageCounts};
 
-use crate::input_end::{EndError, end_of_input};
 use crate::messages::{MAX_MESSAGES, MessagePlace};
 use crate::report::ReportRefusals;
 use ber_core::{Lookahead, Sink, Source};
+use ill_inputs::{EndError, end_of_input};
 use std::alloc::Global;
 
 /// Counts of the messages of an input, as far as it was read.

@@ -29,7 +29,7 @@ pub struct PostalAddress {
 }
 
 impl Node for PostalAddress {
-    ghost use Rattle.ill_schema.specs.declared.node.NodeId.TheVariants.{PostalAddress as TheNode};
+    ghost use Rattle.ill_tables.specs.declared.node.NodeId.TheVariants.{PostalAddress as TheNode};
     ghost use Rattle.ill_parts.specs.Views.{postal_address_rows};
 
     ghost NODE = { TheNode };
@@ -41,7 +41,7 @@ impl Node for PostalAddress {
 
 #[tactic(auto, unfolding(crate::specs::Views::postal_address))]
 impl Part for PostalAddress {
-    ghost use Rattle.ill_schema.specs.declared.node.NodeId.TheVariants.{PostalAddress as TheNode};
+    ghost use Rattle.ill_tables.specs.declared.node.NodeId.TheVariants.{PostalAddress as TheNode};
     ghost use Rattle.ill_typed.specs.Shape.{Is};
     ghost use Rattle.ill_parts.specs.Views.{postal_address};
 
@@ -100,7 +100,7 @@ pub struct SystemAddress {
 }
 
 impl Node for SystemAddress {
-    ghost use Rattle.ill_schema.specs.declared.node.NodeId.TheVariants.{SystemAddress as TheNode};
+    ghost use Rattle.ill_tables.specs.declared.node.NodeId.TheVariants.{SystemAddress as TheNode};
     ghost use Rattle.ill_parts.specs.Views.{system_address_rows};
 
     ghost NODE = { TheNode };
@@ -112,7 +112,7 @@ impl Node for SystemAddress {
 
 #[tactic(auto, unfolding(crate::specs::Views::system_address))]
 impl Part for SystemAddress {
-    ghost use Rattle.ill_schema.specs.declared.node.NodeId.TheVariants.{SystemAddress as TheNode};
+    ghost use Rattle.ill_tables.specs.declared.node.NodeId.TheVariants.{SystemAddress as TheNode};
     ghost use Rattle.ill_typed.specs.Shape.{Is};
     ghost use Rattle.ill_parts.specs.Views.{system_address};
 
@@ -161,7 +161,7 @@ pub struct DeliveryAddress {
 }
 
 impl Node for DeliveryAddress {
-    ghost use Rattle.ill_schema.specs.declared.node.NodeId.TheVariants.{DeliveryAddress as TheNode};
+    ghost use Rattle.ill_tables.specs.declared.node.NodeId.TheVariants.{DeliveryAddress as TheNode};
     ghost use Rattle.ill_parts.specs.Views.{delivery_address_rows};
 
     ghost NODE = { TheNode };
@@ -173,7 +173,7 @@ impl Node for DeliveryAddress {
 
 #[tactic(auto, unfolding(crate::specs::Views::delivery_address))]
 impl Part for DeliveryAddress {
-    ghost use Rattle.ill_schema.specs.declared.node.NodeId.TheVariants.{DeliveryAddress as TheNode};
+    ghost use Rattle.ill_tables.specs.declared.node.NodeId.TheVariants.{DeliveryAddress as TheNode};
     ghost use Rattle.ill_typed.specs.Shape.{Is};
     ghost use Rattle.ill_parts.specs.Views.{delivery_address};
 

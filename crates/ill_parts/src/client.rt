@@ -16,7 +16,7 @@ pub struct ClientId {
 }
 
 impl Node for ClientId {
-    ghost use Rattle.ill_schema.specs.declared.node.NodeId.TheVariants.{ClientId as TheNode};
+    ghost use Rattle.ill_tables.specs.declared.node.NodeId.TheVariants.{ClientId as TheNode};
     ghost use Rattle.ill_parts.specs.Views.{client_id_rows};
 
     ghost NODE = { TheNode };
@@ -28,7 +28,7 @@ impl Node for ClientId {
 
 #[tactic(auto, unfolding(crate::specs::Views::client_id))]
 impl Part for ClientId {
-    ghost use Rattle.ill_schema.specs.declared.node.NodeId.TheVariants.{ClientId as TheNode};
+    ghost use Rattle.ill_tables.specs.declared.node.NodeId.TheVariants.{ClientId as TheNode};
     ghost use Rattle.ill_typed.specs.Shape.{Is};
     ghost use Rattle.ill_parts.specs.Views.{client_id};
 

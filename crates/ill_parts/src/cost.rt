@@ -16,7 +16,7 @@ pub struct Amount {
 }
 
 impl Node for Amount {
-    ghost use Rattle.ill_schema.specs.declared.node.NodeId.TheVariants.{Amount as TheNode};
+    ghost use Rattle.ill_tables.specs.declared.node.NodeId.TheVariants.{Amount as TheNode};
     ghost use Rattle.ill_parts.specs.Views.{amount_rows};
 
     ghost NODE = { TheNode };
@@ -28,7 +28,7 @@ impl Node for Amount {
 
 #[tactic(auto, unfolding(crate::specs::Views::amount))]
 impl Part for Amount {
-    ghost use Rattle.ill_schema.specs.declared.node.NodeId.TheVariants.{Amount as TheNode};
+    ghost use Rattle.ill_tables.specs.declared.node.NodeId.TheVariants.{Amount as TheNode};
     ghost use Rattle.ill_typed.specs.Shape.{Is};
     ghost use Rattle.ill_parts.specs.Views.{amount};
 
@@ -82,7 +82,7 @@ pub struct CostInfo {
 }
 
 impl Node for CostInfo {
-    ghost use Rattle.ill_schema.specs.declared.node.NodeId.TheVariants.{CostInfo as TheNode};
+    ghost use Rattle.ill_tables.specs.declared.node.NodeId.TheVariants.{CostInfo as TheNode};
     ghost use Rattle.ill_parts.specs.Views.{cost_info_rows};
 
     ghost NODE = { TheNode };
@@ -94,7 +94,7 @@ impl Node for CostInfo {
 
 #[tactic(auto, unfolding(crate::specs::Views::cost_info))]
 impl Part for CostInfo {
-    ghost use Rattle.ill_schema.specs.declared.node.NodeId.TheVariants.{CostInfo as TheNode};
+    ghost use Rattle.ill_tables.specs.declared.node.NodeId.TheVariants.{CostInfo as TheNode};
     ghost use Rattle.ill_typed.specs.Shape.{Is};
     ghost use Rattle.ill_parts.specs.Views.{cost_info};
 

@@ -14,7 +14,7 @@ pub enum DeliveryService {
 }
 
 impl Node for DeliveryService {
-    ghost use Rattle.ill_schema.specs.declared.node.NodeId.TheVariants.{DeliveryService as TheNode};
+    ghost use Rattle.ill_tables.specs.declared.node.NodeId.TheVariants.{DeliveryService as TheNode};
 
     ghost NODE = { TheNode };
 
@@ -23,7 +23,7 @@ impl Node for DeliveryService {
 
 #[tactic(auto, unfolding(crate::specs::Views::delivery_service))]
 impl Part for DeliveryService {
-    ghost use Rattle.ill_schema.specs.declared.node.NodeId.TheVariants.{DeliveryService as TheNode};
+    ghost use Rattle.ill_tables.specs.declared.node.NodeId.TheVariants.{DeliveryService as TheNode};
     ghost use Rattle.ill_typed.specs.Shape.{Is};
     ghost use Rattle.ill_parts.specs.Views.{delivery_service};
 
@@ -65,7 +65,7 @@ pub enum ShippedVia {
 }
 
 impl Node for ShippedVia {
-    ghost use Rattle.ill_schema.specs.declared.node.NodeId.TheVariants.{ShippedVia as TheNode};
+    ghost use Rattle.ill_tables.specs.declared.node.NodeId.TheVariants.{ShippedVia as TheNode};
 
     ghost NODE = { TheNode };
 
@@ -74,7 +74,7 @@ impl Node for ShippedVia {
 
 #[tactic(auto, unfolding(crate::specs::Views::shipped_via))]
 impl Part for ShippedVia {
-    ghost use Rattle.ill_schema.specs.declared.node.NodeId.TheVariants.{ShippedVia as TheNode};
+    ghost use Rattle.ill_tables.specs.declared.node.NodeId.TheVariants.{ShippedVia as TheNode};
     ghost use Rattle.ill_typed.specs.Shape.{Is};
     ghost use Rattle.ill_parts.specs.Views.{shipped_via};
 

@@ -1,8 +1,8 @@
 //! The rows that each APDU begins with.
 ghost use Rattle.std.specs.Prelude.{◌≡◌, ◌++◌, IfOk, OnOk, [], Some, drop, option_map};
-ghost use Rattle.ill_schema.specs.declared.node.Kind.{Kind};
-ghost use Rattle.ill_schema.specs.declared.node.NodeId.TheVariants.{Integer, TransactionId as TransactionNode, ServiceDateTime as TimeNode, SystemId as SystemNode};
-ghost use Rattle.ill_schema.specs.Table.{kind_of, rows_of};
+ghost use Rattle.ill_tables.specs.declared.node.Kind.{Kind};
+ghost use Rattle.ill_tables.specs.declared.node.NodeId.TheVariants.{Integer, TransactionId as TransactionNode, ServiceDateTime as TimeNode, SystemId as SystemNode};
+ghost use Rattle.ill_tables.specs.Table.{kind_of, rows_of};
 ghost use Rattle.ill_schema.specs.Value.{content_of};
 ghost use Rattle.ill_typed.specs.Shape.{Is, Must, May, AreBuilt, AreReady, RowsHold, entries_seen, entry_at, head_rows, number_content, other_rows, record_of};
 ghost use Rattle.ill_parts.specs.Views.{headed, transaction_id, service_date_time, system_id};

@@ -57,7 +57,7 @@ pub struct ItemId {
 }
 
 impl Node for ItemId {
-    ghost use Rattle.ill_schema.specs.declared.node.NodeId.TheVariants.{ItemId as TheNode};
+    ghost use Rattle.ill_tables.specs.declared.node.NodeId.TheVariants.{ItemId as TheNode};
     ghost use Rattle.ill_parts.specs.Views.{item_id_rows};
 
     ghost NODE = { TheNode };
@@ -69,7 +69,7 @@ impl Node for ItemId {
 
 #[tactic(auto, unfolding(crate::specs::Views::item_id))]
 impl Part for ItemId {
-    ghost use Rattle.ill_schema.specs.declared.node.NodeId.TheVariants.{ItemId as TheNode};
+    ghost use Rattle.ill_tables.specs.declared.node.NodeId.TheVariants.{ItemId as TheNode};
     ghost use Rattle.ill_typed.specs.Shape.{Is};
     ghost use Rattle.ill_parts.specs.Views.{item_id};
 

@@ -17,7 +17,7 @@ pub struct SupplyMediumInfo {
 }
 
 impl Node for SupplyMediumInfo {
-    ghost use Rattle.ill_schema.specs.declared.node.NodeId.TheVariants.{SupplyMediumInfo as TheNode};
+    ghost use Rattle.ill_tables.specs.declared.node.NodeId.TheVariants.{SupplyMediumInfo as TheNode};
     ghost use Rattle.ill_parts.specs.Views.{supply_medium_info_rows};
 
     ghost NODE = { TheNode };
@@ -29,7 +29,7 @@ impl Node for SupplyMediumInfo {
 
 #[tactic(auto, unfolding(crate::specs::Views::supply_medium_info))]
 impl Part for SupplyMediumInfo {
-    ghost use Rattle.ill_schema.specs.declared.node.NodeId.TheVariants.{SupplyMediumInfo as TheNode};
+    ghost use Rattle.ill_tables.specs.declared.node.NodeId.TheVariants.{SupplyMediumInfo as TheNode};
     ghost use Rattle.ill_typed.specs.Shape.{Is};
     ghost use Rattle.ill_parts.specs.Views.{supply_medium_info};
 
@@ -74,7 +74,7 @@ pub struct UnitsPerMedium {
 }
 
 impl Node for UnitsPerMedium {
-    ghost use Rattle.ill_schema.specs.declared.node.NodeId.TheVariants.{UnitsPerMedium as TheNode};
+    ghost use Rattle.ill_tables.specs.declared.node.NodeId.TheVariants.{UnitsPerMedium as TheNode};
     ghost use Rattle.ill_parts.specs.Views.{units_per_medium_rows};
 
     ghost NODE = { TheNode };
@@ -86,7 +86,7 @@ impl Node for UnitsPerMedium {
 
 #[tactic(auto, unfolding(crate::specs::Views::units_per_medium))]
 impl Part for UnitsPerMedium {
-    ghost use Rattle.ill_schema.specs.declared.node.NodeId.TheVariants.{UnitsPerMedium as TheNode};
+    ghost use Rattle.ill_tables.specs.declared.node.NodeId.TheVariants.{UnitsPerMedium as TheNode};
     ghost use Rattle.ill_typed.specs.Shape.{Is};
     ghost use Rattle.ill_parts.specs.Views.{units_per_medium};
 

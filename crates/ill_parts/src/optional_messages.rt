@@ -18,7 +18,7 @@ pub struct RequesterOptionalMessages {
 }
 
 impl Node for RequesterOptionalMessages {
-    ghost use Rattle.ill_schema.specs.declared.node.NodeId.TheVariants.{RequesterOptionalMessages as TheNode};
+    ghost use Rattle.ill_tables.specs.declared.node.NodeId.TheVariants.{RequesterOptionalMessages as TheNode};
     ghost use Rattle.ill_parts.specs.Views.{requester_optional_messages_rows};
 
     ghost NODE = { TheNode };
@@ -30,7 +30,7 @@ impl Node for RequesterOptionalMessages {
 
 #[tactic(auto, unfolding(crate::specs::Views::requester_optional_messages))]
 impl Part for RequesterOptionalMessages {
-    ghost use Rattle.ill_schema.specs.declared.node.NodeId.TheVariants.{RequesterOptionalMessages as TheNode};
+    ghost use Rattle.ill_tables.specs.declared.node.NodeId.TheVariants.{RequesterOptionalMessages as TheNode};
     ghost use Rattle.ill_typed.specs.Shape.{Is};
     ghost use Rattle.ill_parts.specs.Views.{requester_optional_messages};
 
@@ -83,7 +83,7 @@ pub struct ResponderOptionalMessages {
 }
 
 impl Node for ResponderOptionalMessages {
-    ghost use Rattle.ill_schema.specs.declared.node.NodeId.TheVariants.{ResponderOptionalMessages as TheNode};
+    ghost use Rattle.ill_tables.specs.declared.node.NodeId.TheVariants.{ResponderOptionalMessages as TheNode};
     ghost use Rattle.ill_parts.specs.Views.{responder_optional_messages_rows};
 
     ghost NODE = { TheNode };
@@ -95,7 +95,7 @@ impl Node for ResponderOptionalMessages {
 
 #[tactic(auto, unfolding(crate::specs::Views::responder_optional_messages))]
 impl Part for ResponderOptionalMessages {
-    ghost use Rattle.ill_schema.specs.declared.node.NodeId.TheVariants.{ResponderOptionalMessages as TheNode};
+    ghost use Rattle.ill_tables.specs.declared.node.NodeId.TheVariants.{ResponderOptionalMessages as TheNode};
     ghost use Rattle.ill_typed.specs.Shape.{Is};
     ghost use Rattle.ill_parts.specs.Views.{responder_optional_messages};
 

@@ -16,7 +16,7 @@ pub enum Symbol {
 }
 
 impl Node for Symbol {
-    ghost use Rattle.ill_schema.specs.declared.node.NodeId.TheVariants.{Symbol as TheNode};
+    ghost use Rattle.ill_tables.specs.declared.node.NodeId.TheVariants.{Symbol as TheNode};
 
     ghost NODE = { TheNode };
 
@@ -25,7 +25,7 @@ impl Node for Symbol {
 
 #[tactic(auto, unfolding(crate::specs::Views::symbol))]
 impl Part for Symbol {
-    ghost use Rattle.ill_schema.specs.declared.node.NodeId.TheVariants.{Symbol as TheNode};
+    ghost use Rattle.ill_tables.specs.declared.node.NodeId.TheVariants.{Symbol as TheNode};
     ghost use Rattle.ill_typed.specs.Shape.{Is};
     ghost use Rattle.ill_parts.specs.Views.{symbol};
 
@@ -69,7 +69,7 @@ pub enum Name {
 }
 
 impl Node for Name {
-    ghost use Rattle.ill_schema.specs.declared.node.NodeId.TheVariants.{Name as TheNode};
+    ghost use Rattle.ill_tables.specs.declared.node.NodeId.TheVariants.{Name as TheNode};
 
     ghost NODE = { TheNode };
 
@@ -78,7 +78,7 @@ impl Node for Name {
 
 #[tactic(auto, unfolding(crate::specs::Views::name))]
 impl Part for Name {
-    ghost use Rattle.ill_schema.specs.declared.node.NodeId.TheVariants.{Name as TheNode};
+    ghost use Rattle.ill_tables.specs.declared.node.NodeId.TheVariants.{Name as TheNode};
     ghost use Rattle.ill_typed.specs.Shape.{Is};
     ghost use Rattle.ill_parts.specs.Views.{name};
 
@@ -123,7 +123,7 @@ pub struct SystemId {
 }
 
 impl Node for SystemId {
-    ghost use Rattle.ill_schema.specs.declared.node.NodeId.TheVariants.{SystemId as TheNode};
+    ghost use Rattle.ill_tables.specs.declared.node.NodeId.TheVariants.{SystemId as TheNode};
     ghost use Rattle.ill_parts.specs.Views.{system_id_rows};
 
     ghost NODE = { TheNode };
@@ -135,7 +135,7 @@ impl Node for SystemId {
 
 #[tactic(auto, unfolding(crate::specs::Views::system_id))]
 impl Part for SystemId {
-    ghost use Rattle.ill_schema.specs.declared.node.NodeId.TheVariants.{SystemId as TheNode};
+    ghost use Rattle.ill_tables.specs.declared.node.NodeId.TheVariants.{SystemId as TheNode};
     ghost use Rattle.ill_typed.specs.Shape.{Is};
     ghost use Rattle.ill_parts.specs.Views.{system_id};
 

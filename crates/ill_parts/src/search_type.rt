@@ -21,7 +21,7 @@ pub struct SearchType {
 }
 
 impl Node for SearchType {
-    ghost use Rattle.ill_schema.specs.declared.node.NodeId.TheVariants.{SearchType as TheNode};
+    ghost use Rattle.ill_tables.specs.declared.node.NodeId.TheVariants.{SearchType as TheNode};
     ghost use Rattle.ill_parts.specs.Views.{search_type_rows};
 
     ghost NODE = { TheNode };
@@ -33,7 +33,7 @@ impl Node for SearchType {
 
 #[tactic(auto, unfolding(crate::specs::Views::search_type))]
 impl Part for SearchType {
-    ghost use Rattle.ill_schema.specs.declared.node.NodeId.TheVariants.{SearchType as TheNode};
+    ghost use Rattle.ill_tables.specs.declared.node.NodeId.TheVariants.{SearchType as TheNode};
     ghost use Rattle.ill_typed.specs.Shape.{Is};
     ghost use Rattle.ill_parts.specs.Views.{search_type};
 

@@ -20,7 +20,7 @@ pub struct DateDue {
 }
 
 impl Node for DateDue {
-    ghost use Rattle.ill_schema.specs.declared.node.NodeId.TheVariants.{DateDue as TheNode};
+    ghost use Rattle.ill_tables.specs.declared.node.NodeId.TheVariants.{DateDue as TheNode};
     ghost use Rattle.ill_parts.specs.Views.{date_due_rows};
 
     ghost NODE = { TheNode };
@@ -32,7 +32,7 @@ impl Node for DateDue {
 
 #[tactic(auto, unfolding(crate::specs::Views::date_due))]
 impl Part for DateDue {
-    ghost use Rattle.ill_schema.specs.declared.node.NodeId.TheVariants.{DateDue as TheNode};
+    ghost use Rattle.ill_tables.specs.declared.node.NodeId.TheVariants.{DateDue as TheNode};
     ghost use Rattle.ill_typed.specs.Shape.{Is};
     ghost use Rattle.ill_parts.specs.Views.{date_due};
 
@@ -90,7 +90,7 @@ pub struct SupplyDetails {
 }
 
 impl Node for SupplyDetails {
-    ghost use Rattle.ill_schema.specs.declared.node.NodeId.TheVariants.{SupplyDetails as TheNode};
+    ghost use Rattle.ill_tables.specs.declared.node.NodeId.TheVariants.{SupplyDetails as TheNode};
     ghost use Rattle.ill_parts.specs.Views.{supply_details_rows};
 
     ghost NODE = { TheNode };
@@ -102,7 +102,7 @@ impl Node for SupplyDetails {
 
 #[tactic(auto, unfolding(crate::specs::Views::supply_details))]
 impl Part for SupplyDetails {
-    ghost use Rattle.ill_schema.specs.declared.node.NodeId.TheVariants.{SupplyDetails as TheNode};
+    ghost use Rattle.ill_tables.specs.declared.node.NodeId.TheVariants.{SupplyDetails as TheNode};
     ghost use Rattle.ill_typed.specs.Shape.{Is};
     ghost use Rattle.ill_parts.specs.Views.{supply_details};
 

@@ -20,7 +20,7 @@ pub struct SendTo {
 }
 
 impl Node for SendTo {
-    ghost use Rattle.ill_schema.specs.declared.node.NodeId.TheVariants.{SendTo as TheNode};
+    ghost use Rattle.ill_tables.specs.declared.node.NodeId.TheVariants.{SendTo as TheNode};
     ghost use Rattle.ill_parts.specs.Views.{send_to_rows};
 
     ghost NODE = { TheNode };
@@ -32,7 +32,7 @@ impl Node for SendTo {
 
 #[tactic(auto, unfolding(crate::specs::Views::send_to))]
 impl Part for SendTo {
-    ghost use Rattle.ill_schema.specs.declared.node.NodeId.TheVariants.{SendTo as TheNode};
+    ghost use Rattle.ill_tables.specs.declared.node.NodeId.TheVariants.{SendTo as TheNode};
     ghost use Rattle.ill_typed.specs.Shape.{Is};
     ghost use Rattle.ill_parts.specs.Views.{send_to};
 
@@ -92,7 +92,7 @@ pub struct ThirdPartyInfo {
 }
 
 impl Node for ThirdPartyInfo {
-    ghost use Rattle.ill_schema.specs.declared.node.NodeId.TheVariants.{ThirdPartyInfo as TheNode};
+    ghost use Rattle.ill_tables.specs.declared.node.NodeId.TheVariants.{ThirdPartyInfo as TheNode};
     ghost use Rattle.ill_parts.specs.Views.{third_party_info_rows};
 
     ghost NODE = { TheNode };
@@ -104,7 +104,7 @@ impl Node for ThirdPartyInfo {
 
 #[tactic(auto, unfolding(crate::specs::Views::third_party_info))]
 impl Part for ThirdPartyInfo {
-    ghost use Rattle.ill_schema.specs.declared.node.NodeId.TheVariants.{ThirdPartyInfo as TheNode};
+    ghost use Rattle.ill_tables.specs.declared.node.NodeId.TheVariants.{ThirdPartyInfo as TheNode};
     ghost use Rattle.ill_typed.specs.Shape.{Is};
     ghost use Rattle.ill_parts.specs.Views.{third_party_info};
 

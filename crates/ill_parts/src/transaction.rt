@@ -21,7 +21,7 @@ pub struct TransactionId {
 }
 
 impl Node for TransactionId {
-    ghost use Rattle.ill_schema.specs.declared.node.NodeId.TheVariants.{TransactionId as TheNode};
+    ghost use Rattle.ill_tables.specs.declared.node.NodeId.TheVariants.{TransactionId as TheNode};
     ghost use Rattle.ill_parts.specs.Views.{transaction_id_rows};
 
     ghost NODE = { TheNode };
@@ -33,7 +33,7 @@ impl Node for TransactionId {
 
 #[tactic(auto, unfolding(crate::specs::Views::transaction_id))]
 impl Part for TransactionId {
-    ghost use Rattle.ill_schema.specs.declared.node.NodeId.TheVariants.{TransactionId as TheNode};
+    ghost use Rattle.ill_tables.specs.declared.node.NodeId.TheVariants.{TransactionId as TheNode};
     ghost use Rattle.ill_typed.specs.Shape.{Is};
     ghost use Rattle.ill_parts.specs.Views.{transaction_id};
 
@@ -84,7 +84,7 @@ pub struct DateTime {
 }
 
 impl Node for DateTime {
-    ghost use Rattle.ill_schema.specs.declared.node.NodeId.TheVariants.{DateTime as TheNode};
+    ghost use Rattle.ill_tables.specs.declared.node.NodeId.TheVariants.{DateTime as TheNode};
     ghost use Rattle.ill_parts.specs.Views.{date_time_rows};
 
     ghost NODE = { TheNode };
@@ -96,7 +96,7 @@ impl Node for DateTime {
 
 #[tactic(auto, unfolding(crate::specs::Views::date_time))]
 impl Part for DateTime {
-    ghost use Rattle.ill_schema.specs.declared.node.NodeId.TheVariants.{DateTime as TheNode};
+    ghost use Rattle.ill_tables.specs.declared.node.NodeId.TheVariants.{DateTime as TheNode};
     ghost use Rattle.ill_typed.specs.Shape.{Is};
     ghost use Rattle.ill_parts.specs.Views.{date_time};
 
@@ -138,7 +138,7 @@ pub struct ServiceDateTime {
 }
 
 impl Node for ServiceDateTime {
-    ghost use Rattle.ill_schema.specs.declared.node.NodeId.TheVariants.{ServiceDateTime as TheNode};
+    ghost use Rattle.ill_tables.specs.declared.node.NodeId.TheVariants.{ServiceDateTime as TheNode};
     ghost use Rattle.ill_parts.specs.Views.{service_date_time_rows};
 
     ghost NODE = { TheNode };
@@ -150,7 +150,7 @@ impl Node for ServiceDateTime {
 
 #[tactic(auto, unfolding(crate::specs::Views::service_date_time))]
 impl Part for ServiceDateTime {
-    ghost use Rattle.ill_schema.specs.declared.node.NodeId.TheVariants.{ServiceDateTime as TheNode};
+    ghost use Rattle.ill_tables.specs.declared.node.NodeId.TheVariants.{ServiceDateTime as TheNode};
     ghost use Rattle.ill_typed.specs.Shape.{Is};
     ghost use Rattle.ill_parts.specs.Views.{service_date_time};
 

@@ -1,21 +1,21 @@
 -- An element's content among the entries of the element round it.
 use Rattle.ill_schema.specs.declared.profile.Profile.{Profile as Named}
 use Rattle.ill_schema.specs.Profiles.{profile_of}
-use Rattle.ill_schema.specs.declared.node.Kind.{Kind}
-use Rattle.ill_schema.specs.Table.{kind_of}
+use Rattle.ill_tables.specs.declared.node.Kind.{Kind}
+use Rattle.ill_tables.specs.Table.{kind_of}
 use Rattle.std.proofs.lemmas.Bool.{and_parts}
 use Rattle.ber_core.specs.Foreign.{are_foreign, is_foreign}
 use Rattle.std.proofs.Common.{◌≡◌, ℕ, zero, suc, ◌+◌, true, false, IsTrue, List, [], ◌∷◌, ◌++◌, take, drop, map, Option, Some, refl, sym, ap, ap₂, subst, ◌∙◌, inl, inr, slice_get}
 use Rattle.ber_core.specs.Tree.{Tree, Trees, none, more, tag_of}
 use Rattle.ber_leaf.specs.Profile.{profile_two}
-use Rattle.ill_schema.specs.declared.node.NodeId.{NodeId}
+use Rattle.ill_tables.specs.declared.node.NodeId.{NodeId}
 use Rattle.ill_schema.specs.Content.{Content}
 use Rattle.ill_schema.specs.Content as content
 use Rattle.ill_schema.specs.Meaning.{Matches, MatchItems, Means}
-use Rattle.ill_schema.specs.Table.{rows_of}
+use Rattle.ill_tables.specs.Table.{rows_of}
 use Rattle.ill_schema.specs.Tagging.{tagging}
 use Rattle.ill_schema.specs.Value.{entries_of, items_of}
-use Rattle.ill_schema.specs.declared.part.Row.{Row}
+use Rattle.ill_tables.specs.declared.part.Row.{Row}
 use Rattle.ill_schema.proofs.Unique.{means_unique}
 use Rattle.ill_refusals.specs.Element.{Component}
 use Rattle.ill_refusals.specs.Next as next

@@ -3,14 +3,14 @@ use Rattle.std.proofs.Common.{◌≡◌, ℕ, ◌-◌, ◌≤◌, Bool, false, L
 use Rattle.std.proofs.lemmas.Option.{slice_get_within}
 use Rattle.std.specs.Prelude.{nat_eq, if◌then◌else◌}
 use Rattle.ber_leaf.specs.Profile.{profile_two}
-use Rattle.ill_schema.specs.declared.node.NodeId.{NodeId}
-use Rattle.ill_schema.specs.declared.node.NodeId.TheVariants.{IllApdu}
-use Rattle.ill_schema.specs.declared.part.Presence.{Presence}
+use Rattle.ill_tables.specs.declared.node.NodeId.{NodeId}
+use Rattle.ill_tables.specs.declared.node.NodeId.TheVariants.{IllApdu}
+use Rattle.ill_tables.specs.declared.part.Presence.{Presence}
 use Rattle.ill_schema.specs.Apdu.{Apdu, Encodes}
 use Rattle.ill_schema.specs.Fits.{Fits, FitsApdu}
 use Rattle.ill_schema.specs.Names.{carried, carried_node, apdu_node_of}
 use Rattle.ill_schema.specs.Presence.{IsCarried}
-use Rattle.ill_schema.specs.Table.{rows_of}
+use Rattle.ill_tables.specs.Table.{rows_of}
 use Rattle.ill_schema.proofs.MeansFits.{means_apdu_fits}
 
 carried_some : (presence : Presence) (node : NodeId) → IsCarried presence → carried presence node ≡ Some node

@@ -11,7 +11,7 @@ use Rattle.ill_schema.specs.Apdu.{root}
 use Rattle.ill_schema.specs.declared.profile.Profile.TheVariants.{Two, Module}
 use Rattle.ill_schema.specs.declared.refusal.Cause.{Cause}
 use Rattle.ill_schema.specs.Apdu.{Apdu, choice_of, Encodes, MeansApdu}
-use Rattle.ill_schema.specs.declared.node.Kind.{Kind}
+use Rattle.ill_tables.specs.declared.node.Kind.{Kind}
 use Rattle.ill_schema.specs.Content.{Content, simple, alternative}
 use Rattle.ill_schema.specs.Content as content
 use Rattle.ill_schema.specs.Meaning.{Means}

@@ -6,8 +6,8 @@ use Rattle.ber_core.specs.Identifier.{Tag}
 use Rattle.ill_read.specs.code.Drafts.{IsNoSegment}
 use Rattle.ill_schema.specs.declared.profile.Profile.TheVariants.{Two, Module}
 use Rattle.ill_schema.specs.Apdu.{root}
-use Rattle.ill_schema.specs.Table.{kind_of}
-use Rattle.ill_schema.specs.declared.node.Kind.{Kind}
+use Rattle.ill_tables.specs.Table.{kind_of}
+use Rattle.ill_tables.specs.declared.node.Kind.{Kind}
 use Rattle.std.proofs.Common.{◌≡◌, ℕ, Bool, true, false, List, [], ◌∷◌, ◌++◌, Option, Ok, refl, sym, ap, subst, ◌∙◌}
 use Rattle.ber_core.specs.Tree.{Tree, none, tag_of}
 use Rattle.ber_leaf.specs.Profile.{profile_two}

@@ -9,9 +9,9 @@ use Rattle.ber_leaf.specs.Segments.{segments_content}
 use Rattle.ill_schema.specs.Content.{Content, simple}
 use Rattle.ill_schema.specs.Content as content
 use Rattle.ill_schema.specs.Meaning.{Matches}
-use Rattle.ill_schema.specs.Table.{rows_of}
+use Rattle.ill_tables.specs.Table.{rows_of}
 use Rattle.ill_schema.specs.Value.{entries_of, items_of}
-use Rattle.ill_schema.specs.declared.node.NodeId.{NodeId}
+use Rattle.ill_tables.specs.declared.node.NodeId.{NodeId}
 use Rattle.ill_refusals.specs.Fault.{element_fault, string_fault}
 use Rattle.ill_refusals.specs.Next.{missing}
 use Rattle.ill_refusals.specs.Place.{Open, next_in}

@@ -6,7 +6,7 @@ use Rattle.std.specs.Vec.Iter.{drain_items, drain_steps}
 use Rattle.std.specs.declared.vec.Drain.{Drain}
 use Rattle.ill_schema.specs.Content.{Content}
 use Rattle.ill_schema.specs.Value.{content_of}
-use Rattle.ill_schema.specs.declared.part.Row.{Row}
+use Rattle.ill_tables.specs.declared.part.Row.{Row}
 use Rattle.ill_schema.specs.declared.value.Value.{Value}
 use Rattle.ill_read.specs.code.OpenValues.{HasAddedAbsent}
 use Rattle.ill_grammar.specs.Contents.{absent_content}

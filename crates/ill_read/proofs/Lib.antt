@@ -24,4 +24,3 @@ pub mod ValueDrafts
 pub mod WrittenElements
 pub mod OctetDrafts
 pub mod Outlines
-pub mod MarkedValues

@@ -6,7 +6,7 @@ use Rattle.ill_schema.specs.declared.profile.Profile.{Profile as Named}
 use Rattle.ill_schema.specs.Profiles.{profile_of}
 use Rattle.ill_schema.specs.Meaning.{Means}
 use Rattle.ill_schema.specs.Tagging.{leaf_of, untagged}
-use Rattle.ill_schema.specs.declared.node.Kind.{Kind}
+use Rattle.ill_tables.specs.declared.node.Kind.{Kind}
 use Rattle.ber_core.specs.Der.{encoding}
 use Rattle.ber_core.specs.Foreign.{foreign_levels, is_foreign}
 use Rattle.ber_core.specs.Tree.{Tree}
@@ -32,12 +32,12 @@ use Rattle.ill_schema.specs.Apdu.{Apdu, choice_of}
 use Rattle.ill_schema.specs.Content.{Content, simple}
 use Rattle.ill_schema.specs.Content as content
 use Rattle.ill_schema.specs.Presence.{default_value}
-use Rattle.ill_schema.specs.Table.{kind_of, rows_of}
+use Rattle.ill_tables.specs.Table.{kind_of, rows_of}
 use Rattle.ill_schema.specs.Value.{entries_of, items_of}
-use Rattle.ill_schema.specs.declared.node.NodeId.{NodeId}
-use Rattle.ill_schema.specs.declared.part.PartId.{PartId}
-use Rattle.ill_schema.specs.declared.part.Presence.{Presence}
-use Rattle.ill_schema.specs.declared.part.Row.{Row}
+use Rattle.ill_tables.specs.declared.node.NodeId.{NodeId}
+use Rattle.ill_tables.specs.declared.part.PartId.{PartId}
+use Rattle.ill_tables.specs.declared.part.Presence.{Presence}
+use Rattle.ill_tables.specs.declared.part.Row.{Row}
 use Rattle.ill_grammar.specs.Places.{alternative_of}
 use Rattle.ill_grammar.specs.Due.{IsDueIn, behind, shape, first_of, read_as, slot_in}
 use Rattle.ill_grammar.specs.LeafTypes.{leaf_is}

@@ -11,7 +11,7 @@ use Rattle.ber_leaf.specs.Profile.{profile_two}
 use Rattle.ill_schema.specs.Content.{Content, simple}
 use Rattle.ill_schema.specs.Content as content
 use Rattle.ill_schema.specs.Value.{content_of, items_of}
-use Rattle.ill_schema.specs.declared.node.NodeId.{NodeId}
+use Rattle.ill_tables.specs.declared.node.NodeId.{NodeId}
 use Rattle.ill_schema.specs.declared.value.Value.{Value}
 use Rattle.ill_grammar.specs.Elements.{is_two_element}
 use Rattle.ill_grammar.specs.LeafTypes.{leaf_is}

@@ -14,11 +14,11 @@ use Rattle.ill_refusals.specs.Element.{foreign}
 use Rattle.ill_schema.specs.Meaning.{Matches}
 use Rattle.ill_schema.specs.Normal.{normal_tree, normal_trees, normal_items}
 use Rattle.ill_schema.specs.Presence.{is_default}
-use Rattle.ill_schema.specs.Table.{rows_of}
+use Rattle.ill_tables.specs.Table.{rows_of}
 use Rattle.ill_schema.specs.Tagging.{untagged, tagging, sequence_tag}
 use Rattle.ill_schema.specs.Value.{entries_of, items_of}
-use Rattle.ill_schema.specs.declared.node.NodeId.{NodeId}
-use Rattle.ill_schema.specs.declared.part.Row.{Row}
+use Rattle.ill_tables.specs.declared.node.NodeId.{NodeId}
+use Rattle.ill_tables.specs.declared.part.Row.{Row}
 use Rattle.ill_grammar.specs.Elements.{element_is}
 use Rattle.ill_grammar.specs.Due.{IsDueIn, IsRowDue, IsInnerDue, IsItemDue, behind}
 use Rattle.ill_grammar.specs.Standing.{IsHeld, foreign_entries}

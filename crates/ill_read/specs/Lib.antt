@@ -5,5 +5,4 @@ pub mod Feeding
 pub mod Answers
 pub mod Outline
 pub mod Outlined
-pub mod Marks
 pub mod code

@@ -4,11 +4,11 @@ use Rattle.ber_core.specs.Der.{encoding}
 use Rattle.ber_core.specs.Foreign.{foreign_levels, is_foreign}
 use Rattle.ber_leaf.specs.Leaf.{Leaf, bit_string, value}
 use Rattle.ber_leaf.specs.Simple.{Simple}
-use Rattle.ill_schema.specs.declared.part.PartId.{PartId}
-use Rattle.ill_schema.specs.declared.part.Row.{Row}
+use Rattle.ill_tables.specs.declared.part.PartId.{PartId}
+use Rattle.ill_tables.specs.declared.part.Row.{Row}
 use Rattle.ill_schema.specs.Apdu.{Apdu, choice_of}
 use Rattle.ill_schema.specs.Content.{Content, simple, sequence, list, alternative, foreign, Entries, no_entries, absent, present, Items, no_items, item}
-use Rattle.ill_schema.specs.Table.{rows_of}
+use Rattle.ill_tables.specs.Table.{rows_of}
 use Rattle.ill_grammar.specs.LeafTypes.{IsContentIn, leaf_is, module_leaf_is}
 use Rattle.ill_schema.specs.declared.profile.Profile.{Profile as Named}
 use Rattle.ill_grammar.specs.Contents.{absent_content}

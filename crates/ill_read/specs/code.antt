@@ -7,4 +7,3 @@ pub mod ReaderCode
 pub mod Filling
 pub mod OctetDrafts
 pub mod Outlines
-pub mod MarkedOctets

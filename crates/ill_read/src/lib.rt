@@ -16,7 +16,6 @@ mod element_reader;
 mod failure;
 mod laws;
 mod mark;
-mod marks;
 mod normal;
 mod normal_form_draft;
 mod open_values;
@@ -39,10 +38,6 @@ pub use ill_refusals::{
 };
 pub use laws::decoders_are_apart;
 pub use mark::Mark;
-pub use marks::{
-    absent_row, after_leading_mark, alternative, has_default, is_at_end, is_octet, is_set,
-    leading_mark, leading_octets, number_in,
-};
 pub use normal::{
     NormalForm, NormalReader, decode_normal, decode_normal_as, read_normal_as, read_normal_in,
     read_normal_peeking, read_normal_recording_peeking,

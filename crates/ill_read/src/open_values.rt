@@ -2,7 +2,7 @@
 ghost use Rattle.std.specs.Prelude.{◌≡◌, ◌++◌, [], ◌∷◌, Some, length, take, drop, option_map, IfOk, OnOk};
 ghost use Rattle.ill_schema.specs.Content.{simple};
 ghost use Rattle.ill_schema.specs.Presence.{default_value};
-ghost use Rattle.ill_schema.specs.Table.{kind_of, rows_of};
+ghost use Rattle.ill_tables.specs.Table.{kind_of, rows_of};
 ghost use Rattle.ill_schema.specs.Value.{content_of};
 ghost use Rattle.ill_read.specs.code.OpenValues.{HasAddedAbsent, HasAdded, IsSequence, IsList, IsLast};
 ghost use Rattle.ill_read.specs.code.Drafts.{rows_before, rows_left};

@@ -2,7 +2,7 @@
 ghost use Rattle.ill_schema.specs.declared.profile.Profile.{Profile as Named};
 ghost use Rattle.std.specs.Prelude.{◌≡◌, ◌++◌, [], ◌∷◌, ◌≤◌, length, map, take, drop, OnOk};
 ghost use Rattle.ill_grammar.specs.Places.{alternative_of};
-ghost use Rattle.ill_schema.specs.Table.{kind_of, rows_of};
+ghost use Rattle.ill_tables.specs.Table.{kind_of, rows_of};
 ghost use Rattle.ill_grammar.specs.Due.{first_of, read_as, shape, slot_in};
 ghost use Rattle.ill_read.specs.Outline.{octets_marks};
 ghost use Rattle.ill_grammar.specs.Standing.{top_level};

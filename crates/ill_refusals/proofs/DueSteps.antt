@@ -4,7 +4,7 @@ use Rattle.std.proofs.lemmas.List.{drop_at, length-drop}
 use Rattle.ber_core.specs.Identifier.{Tag, identifier}
 use Rattle.ber_core.specs.Length.{IsLength}
 use Rattle.ber_core.specs.Tree.{Tree, Trees, primitive, constructed, none, more, tag_of, Spells, SpellsAll, depth, depth_all}
-use Rattle.ill_schema.specs.declared.node.Kind.{Kind}
+use Rattle.ill_tables.specs.declared.node.Kind.{Kind}
 use Rattle.ill_schema.specs.Apdu.{Apdu, root, MeansApdu}
 use Rattle.ill_schema.specs.Content.{Content, simple, alternative}
 use Rattle.ill_schema.specs.Content as content
@@ -17,7 +17,7 @@ use Rattle.ill_schema.specs.Meaning.{Means}
 use Rattle.ill_refusals.specs.Next.{rows, Due, part, element_of, due, start_of, opening, IsWhole}
 use Rattle.ill_refusals.specs.Place.{Open, message, next_in, bound, allows, IsOpening, IsOpen, IsPlace, IsDue}
 use Rattle.ber_leaf.specs.Profile.{Profile}
-use Rattle.ill_schema.specs.Table.{kind_of}
+use Rattle.ill_tables.specs.Table.{kind_of}
 use Rattle.ill_schema.specs.Tagging.{untagged}
 use Rattle.ill_schema.proofs.Tags.{root_choice}
 use Rattle.ill_schema.proofs.Unique.{no_leaf}

@@ -5,7 +5,7 @@ use Rattle.ber_core.specs.Identifier.{Tag}
 use Rattle.ber_leaf.specs.declared.fault.LeafFault.{LeafFault}
 use Rattle.ber_leaf.specs.Profile.{Profile}
 use Rattle.ill_schema.specs.declared.refusal.Cause.{Cause}
-use Rattle.ill_schema.specs.declared.part.PartId.{PartId}
+use Rattle.ill_tables.specs.declared.part.PartId.{PartId}
 use Rattle.ill_refusals.specs.Element.{Element, leaf, sequence, list, wrapper, loose_wrapper, segment, foreign, left_out}
 use Rattle.ill_refusals.specs.Fault.{Fault, fault, Finding, passes, finds, first_fault, no_octet, innermost_ends, end_finding, second_zero, of_element, after_identifier, bad_form, bad_length, too_long, too_deep, bad_content, at_fault, bad_identifier, end_mark, ends_at, is_indefinite, past_end, cut_fault, element_fault, string_fault, fault_at, is_deep}
 use Rattle.ill_refusals.specs.code.Judge.{Judgement, faulty, closes, opens, reads, or_faulty, judge_end, judge_content, judge_size, judge_length, judge_form, judge_tag, judge_element, judge_mark, judge_octets, judge, fault_in}

@@ -10,13 +10,13 @@ use Rattle.ber_core.specs.Identifier.{Tag, HasIdentifier}
 use Rattle.ber_core.specs.Tree.{Tree, Trees, primitive, constructed, none, more, tag_of, AreSegments}
 use Rattle.ber_leaf.specs.Leaf.{Leaf}
 use Rattle.ber_leaf.specs.Segments.{segment_tag, segments_content}
-use Rattle.ill_schema.specs.declared.node.Kind.{Kind}
-use Rattle.ill_schema.specs.declared.node.LeafKind.{LeafKind}
-use Rattle.ill_schema.specs.declared.node.NodeId.{NodeId}
-use Rattle.ill_schema.specs.declared.node.NodeId.TheVariants.{Boolean}
-use Rattle.ill_schema.specs.declared.part.PartId.{PartId}
-use Rattle.ill_schema.specs.declared.part.Presence.{Presence}
-use Rattle.ill_schema.specs.declared.part.Row.{Row}
+use Rattle.ill_tables.specs.declared.node.Kind.{Kind}
+use Rattle.ill_tables.specs.declared.node.LeafKind.{LeafKind}
+use Rattle.ill_tables.specs.declared.node.NodeId.{NodeId}
+use Rattle.ill_tables.specs.declared.node.NodeId.TheVariants.{Boolean}
+use Rattle.ill_tables.specs.declared.part.PartId.{PartId}
+use Rattle.ill_tables.specs.declared.part.Presence.{Presence}
+use Rattle.ill_tables.specs.declared.part.Row.{Row}
 use Rattle.ill_schema.specs.Content.{Content, simple, alternative, Entries, no_entries, absent, present, Items, no_items, item}
 use Rattle.ber_leaf.specs.Simple.{flag}
 use Rattle.ill_schema.specs.Content as content
@@ -29,7 +29,7 @@ use Rattle.ill_refusals.specs.Place.{allows}
 use Rattle.ber_leaf.specs.Profile.{Profile, profile_two}
 use Rattle.ill_schema.specs.Tagging.{Tagging, untagged, tagging, same_tag, sequence_tag}
 use Rattle.ill_schema.specs.Presence.{IsCarried, MayLack, is_default_of, default_value, same_value}
-use Rattle.ill_schema.specs.Table.{kind_of, rows_of}
+use Rattle.ill_tables.specs.Table.{kind_of, rows_of}
 use Rattle.ill_schema.specs.TableFacts.{node_tags, row_tags}
 use Rattle.ill_schema.proofs.Tags.{is_proper, is_proper_row, is_tagged, Mem, same_tag-refl, tables_proper, at_row}
 use Rattle.std.proofs.lemmas.Bool.{and_parts}

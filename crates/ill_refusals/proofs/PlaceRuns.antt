@@ -3,7 +3,7 @@ use Rattle.std.proofs.Common.{◌≡◌, ℕ, ◌+◌, true, List, [], ◌∷◌
 use Rattle.std.proofs.lemmas.List.{drop_at}
 use Rattle.ber_core.specs.Identifier.{identifier}
 use Rattle.ber_core.specs.Tree.{Tree, none, tag_of}
-use Rattle.ill_schema.specs.declared.node.Kind.{Kind}
+use Rattle.ill_tables.specs.declared.node.Kind.{Kind}
 use Rattle.ill_schema.specs.Apdu.{Apdu, choice_of, root, MeansApdu, Encodes}
 use Rattle.ill_refusals.specs.Element.{Element, starts}
 use Rattle.ill_refusals.specs.Next.{rows, Due, part, element_of, due, opening, IsWhole}

@@ -4,16 +4,16 @@ use Rattle.std.specs.Prelude.{flat_map, find, nat_eq}
 use Rattle.std.specs.List.{list_all}
 use Rattle.std.specs.Ordering.{int_eq}
 use Rattle.std.specs.Cmp.{signed_Decides}
-use Rattle.ill_schema.specs.declared.node.LeafKind.{LeafKind}
+use Rattle.ill_tables.specs.declared.node.LeafKind.{LeafKind}
 use Rattle.ber_core.specs.declared.id.Class.{Class}
 use Rattle.ber_core.specs.Identifier.{Tag, class_bits}
 use Rattle.ber_core.proofs.Lists.{two_cases}
 use Rattle.ber_core.specs.Tree.{Tree, Trees, none, more, tag_of}
-use Rattle.ill_schema.specs.declared.node.Kind.{Kind}
-use Rattle.ill_schema.specs.declared.node.NodeId.{NodeId}
-use Rattle.ill_schema.specs.declared.node.NodeId.TheVariants.{Boolean}
-use Rattle.ill_schema.specs.declared.part.Presence.{Presence}
-use Rattle.ill_schema.specs.declared.part.Row.{Row}
+use Rattle.ill_tables.specs.declared.node.Kind.{Kind}
+use Rattle.ill_tables.specs.declared.node.NodeId.{NodeId}
+use Rattle.ill_tables.specs.declared.node.NodeId.TheVariants.{Boolean}
+use Rattle.ill_tables.specs.declared.part.Presence.{Presence}
+use Rattle.ill_tables.specs.declared.part.Row.{Row}
 use Rattle.ill_schema.specs.Content.{Content, simple, Entries, no_entries, absent, present}
 use Rattle.ber_leaf.specs.Simple.{flag}
 use Rattle.ill_refusals.specs.Element.{Component, components, components_from, Start, starts}
@@ -22,7 +22,7 @@ use Rattle.ill_refusals.specs.Next.{Next, rows, Due, part, due, due_in, start_of
 use Rattle.ber_leaf.specs.Profile.{Profile}
 use Rattle.ill_schema.specs.Tagging.{tagging, same_tag}
 use Rattle.ill_schema.specs.Presence.{is_default, is_default_of, same_value, default_value, MayLack, IsCarried}
-use Rattle.ill_schema.specs.Table.{kind_of, rows_of}
+use Rattle.ill_tables.specs.Table.{kind_of, rows_of}
 use Rattle.ill_schema.specs.TableFacts.{row_tags}
 use Rattle.ill_schema.proofs.Tags.{tables_proper, is_proper_row, Mem, Distinct, same_tag-refl, disjoint, distinct-right}
 use Rattle.std.proofs.lemmas.Bool.{and_parts}

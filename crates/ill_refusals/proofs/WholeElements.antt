@@ -5,12 +5,12 @@ use Rattle.ber_core.specs.Foreign.{is_foreign, foreign_levels}
 use Rattle.ber_core.specs.Identifier.{Tag}
 use Rattle.ber_core.specs.Tree.{Tree, Trees, constructed, none, more, tag_of, IsString}
 use Rattle.ber_leaf.specs.Segments.{leaf_content}
-use Rattle.ill_schema.specs.declared.node.Kind.{Kind}
-use Rattle.ill_schema.specs.declared.node.LeafKind.{LeafKind}
-use Rattle.ill_schema.specs.declared.node.NodeId.{NodeId}
-use Rattle.ill_schema.specs.declared.part.PartId.{PartId}
-use Rattle.ill_schema.specs.declared.part.Presence.{Presence}
-use Rattle.ill_schema.specs.declared.part.Row.{Row}
+use Rattle.ill_tables.specs.declared.node.Kind.{Kind}
+use Rattle.ill_tables.specs.declared.node.LeafKind.{LeafKind}
+use Rattle.ill_tables.specs.declared.node.NodeId.{NodeId}
+use Rattle.ill_tables.specs.declared.part.PartId.{PartId}
+use Rattle.ill_tables.specs.declared.part.Presence.{Presence}
+use Rattle.ill_tables.specs.declared.part.Row.{Row}
 use Rattle.ill_schema.specs.Content.{Content, simple, alternative, Entries, Items}
 use Rattle.ber_leaf.specs.Simple.{Simple}
 use Rattle.ill_schema.specs.Content as content
@@ -21,7 +21,7 @@ use Rattle.ill_schema.specs.Meaning.{Means, Matches, MatchItems, HoldsLeaf, IsLe
 use Rattle.ber_leaf.specs.Profile.{Profile}
 use Rattle.ill_schema.specs.Tagging.{Tagging, untagged, implicit, explicit, explicit_or_bare, tagging, Tagged, same_tag, sequence_tag, leaf_tag, leaf_of}
 use Rattle.ill_schema.specs.Presence.{IsCarried}
-use Rattle.ill_schema.specs.Table.{kind_of, rows_of}
+use Rattle.ill_tables.specs.Table.{kind_of, rows_of}
 use Rattle.ill_schema.specs.TableFacts.{own_tags, alternative_tags, tagging_tags}
 use Rattle.ill_schema.proofs.Tags.{is_proper, is_proper_row, is_tagged, Mem, same_place, at_row, tables_proper}
 use Rattle.ill_schema.proofs.Unique.{leaf_at, leaf_is, no_leaf, kind_says, any_proper, means_begins, good_choice, same_tags}

@@ -6,7 +6,7 @@ use Rattle.ill_schema.specs.declared.refusal.Refusal.{Refusal}
 use Rattle.ber_leaf.specs.declared.fault.LeafFault.{LeafFault}
 use Rattle.ber_leaf.specs.Leaf.{content_fault}
 use Rattle.ber_leaf.specs.Segments.{segments_content}
-use Rattle.ill_schema.specs.declared.part.PartId.{PartId}
+use Rattle.ill_tables.specs.declared.part.PartId.{PartId}
 use Rattle.ill_schema.specs.Causes.{cause_of}
 use Rattle.ber_leaf.specs.Profile.{Profile}
 use Rattle.ill_refusals.specs.Element.{Element, leaf, left_out}

@@ -2,12 +2,12 @@
 use Rattle.std.specs.Prelude.{◌≡◌, ℕ, zero, suc, ◌-◌, Bool, true, false, IsTrue, List, [], ◌∷◌, Option, Some, None, if◌then◌else◌, find}
 use Rattle.ber_core.specs.Identifier.{Tag}
 use Rattle.ber_core.specs.Foreign.{is_foreign, foreign_levels}
-use Rattle.ill_schema.specs.declared.node.Kind.{Kind}
-use Rattle.ill_schema.specs.Table.{kind_of}
+use Rattle.ill_tables.specs.declared.node.Kind.{Kind}
+use Rattle.ill_tables.specs.Table.{kind_of}
 use Rattle.ber_core.specs.Tree.{Tree, Trees, none, more, tag_of, IsString}
 use Rattle.ber_leaf.specs.Segments.{segment_tag}
-use Rattle.ill_schema.specs.declared.part.PartId.{PartId}
-use Rattle.ill_schema.specs.declared.part.Presence.{Presence}
+use Rattle.ill_tables.specs.declared.part.PartId.{PartId}
+use Rattle.ill_tables.specs.declared.part.Presence.{Presence}
 use Rattle.ill_schema.specs.Content.{Content}
 use Rattle.ber_leaf.specs.Profile.{Profile}
 use Rattle.ill_schema.specs.Tagging.{same_tag, sequence_tag}

@@ -3,7 +3,7 @@ use Rattle.std.specs.Prelude.{◌≡◌, ◌⊎◌, ℕ, ◌+◌, ◌≤◌, Boo
 use Rattle.ber_core.specs.Identifier.{Tag, identifier, HasIdentifier}
 use Rattle.ber_core.specs.Length.{IsLength}
 use Rattle.ber_core.specs.Tree.{Trees, depth_all, SpellsAll}
-use Rattle.ill_schema.specs.declared.part.Presence.{Presence}
+use Rattle.ill_tables.specs.declared.part.Presence.{Presence}
 use Rattle.ber_leaf.specs.Leaf.{is_string}
 use Rattle.ber_leaf.specs.Profile.{Profile}
 use Rattle.ill_schema.specs.Apdu.{root}

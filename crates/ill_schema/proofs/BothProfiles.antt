@@ -10,19 +10,19 @@ use Rattle.ber_core.specs.Identifier.{Tag}
 use Rattle.ber_core.specs.Tree.{Tree, Trees, constructed, more, none, tag_of}
 use Rattle.ber_leaf.specs.Leaf.{enumerated, is_string}
 use Rattle.ber_leaf.specs.Profile.{profile_two, profile_three}
-use Rattle.ill_schema.specs.declared.node.Kind.{Kind}
-use Rattle.ill_schema.specs.declared.node.LeafKind.{LeafKind}
-use Rattle.ill_schema.specs.declared.node.NodeId.{NodeId}
-use Rattle.ill_schema.specs.declared.node.NodeId.TheVariants.{Enumerated, IllApdu, UnitsPerMedium, WillSupply}
-use Rattle.ill_schema.specs.declared.part.Mode.{Mode}
-use Rattle.ill_schema.specs.declared.part.Presence.{Presence}
-use Rattle.ill_schema.specs.declared.part.Row.{Row}
+use Rattle.ill_tables.specs.declared.node.Kind.{Kind}
+use Rattle.ill_tables.specs.declared.node.LeafKind.{LeafKind}
+use Rattle.ill_tables.specs.declared.node.NodeId.{NodeId}
+use Rattle.ill_tables.specs.declared.node.NodeId.TheVariants.{Enumerated, IllApdu, UnitsPerMedium, WillSupply}
+use Rattle.ill_tables.specs.declared.part.Mode.{Mode}
+use Rattle.ill_tables.specs.declared.part.Presence.{Presence}
+use Rattle.ill_tables.specs.declared.part.Row.{Row}
 use Rattle.ill_schema.specs.Apdu.{Apdu, choice_of, Encodes, SpellsApdu}
 use Rattle.ill_schema.specs.Content.{Content, simple, sequence, list, alternative, foreign, Entries, no_entries, absent, present, Items, no_items, item}
 use Rattle.ill_schema.specs.Lift.{are_plain, is_plain, is_plain_apdu, is_retagged, items_plain, lift_apdu}
 use Rattle.ill_schema.specs.Meaning.{IsLeaf, Means, Matches, MatchItems}
 use Rattle.ill_schema.specs.Presence.{IsCarried, is_default}
-use Rattle.ill_schema.specs.Table.{kind_of, rows_of, twin}
+use Rattle.ill_tables.specs.Table.{kind_of, rows_of, twin}
 use Rattle.ill_schema.specs.TableFacts.{alternative_tags, row_tags}
 use Rattle.ill_schema.specs.Tagging.{Tagging, implicit, explicit, tagging, sequence_tag, untagged}
 use Rattle.ill_schema.proofs.Lifted.{apdu_spelled, choice_plain, first_stands, list_plain, rest_stand}

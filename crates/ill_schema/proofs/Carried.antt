@@ -5,17 +5,17 @@ use Rattle.std.proofs.lemmas.Bool.Decides.{nat_tests}
 use Rattle.std.specs.Prelude.{if◌then◌else◌}
 use Rattle.ber_core.specs.Der.{encoding}
 use Rattle.ber_leaf.specs.Profile.{profile_two}
-use Rattle.ill_schema.specs.declared.node.NodeId.{NodeId}
-use Rattle.ill_schema.specs.declared.node.NodeId.TheVariants.{IllApdu}
-use Rattle.ill_schema.specs.declared.part.Presence.{Presence}
-use Rattle.ill_schema.specs.declared.part.Row.{Row}
+use Rattle.ill_tables.specs.declared.node.NodeId.{NodeId}
+use Rattle.ill_tables.specs.declared.node.NodeId.TheVariants.{IllApdu}
+use Rattle.ill_tables.specs.declared.part.Presence.{Presence}
+use Rattle.ill_tables.specs.declared.part.Row.{Row}
 use Rattle.ill_schema.specs.Apdu.{Apdu, normal_form}
 use Rattle.ill_schema.specs.Fits.{Fits, FitsApdu}
 use Rattle.ill_schema.specs.Names.{carried, carried_node, apdu_node_of}
 use Rattle.ill_schema.specs.Normal.{normal_tree}
 use Rattle.ill_schema.specs.Presence.{IsCarried}
 use Rattle.ill_schema.specs.Sizes.{apdu_number_of, node_form}
-use Rattle.ill_schema.specs.Table.{rows_of}
+use Rattle.ill_tables.specs.Table.{rows_of}
 use Rattle.ill_schema.specs.Tagging.{untagged}
 
 -- a row of ILL-APDU that carries a node

@@ -9,11 +9,11 @@ use Rattle.ber_core.specs.Identifier.{Tag, HasIdentifier}
 use Rattle.ber_core.specs.Tree.{Tree, Trees, primitive, constructed, none, more, Spells}
 use Rattle.ber_core.proofs.Encodings.{encoding_spells}
 use Rattle.ber_core.proofs.Trees.{one_reading}
-use Rattle.ill_schema.specs.declared.part.Mode.{Mode}
-use Rattle.ill_schema.specs.declared.node.NodeId.{NodeId}
-use Rattle.ill_schema.specs.declared.node.NodeId.TheVariants.{Boolean}
-use Rattle.ill_schema.specs.declared.part.Presence.{Presence}
-use Rattle.ill_schema.specs.declared.part.Row.{Row}
+use Rattle.ill_tables.specs.declared.part.Mode.{Mode}
+use Rattle.ill_tables.specs.declared.node.NodeId.{NodeId}
+use Rattle.ill_tables.specs.declared.node.NodeId.TheVariants.{Boolean}
+use Rattle.ill_tables.specs.declared.part.Presence.{Presence}
+use Rattle.ill_tables.specs.declared.part.Row.{Row}
 use Rattle.ill_schema.specs.Apdu.{Apdu, choice_of, normal_form_in, root, MeansApdu, SpellsApdu}
 use Rattle.ill_schema.specs.Content.{Content, simple, sequence, list, alternative, foreign, Entries, no_entries, absent, present, Items, no_items, item}
 use Rattle.ill_schema.specs.Fits.{Fits, FitRows, FitItems, FitsApdu}
@@ -23,7 +23,7 @@ use Rattle.ill_schema.specs.Tagging.{Tagging, untagged, implicit, explicit, expl
 use Rattle.ill_schema.specs.Presence.{is_default}
 use Rattle.ill_schema.specs.Normal.{normal_tree, normal_trees, normal_items}
 use Rattle.ber_core.specs.Der.{HasIdentifiers, HaveIdentifiers}
-use Rattle.ill_schema.specs.Table.{rows_of}
+use Rattle.ill_tables.specs.Table.{rows_of}
 use Rattle.ill_schema.specs.TableFacts.{deepest}
 use Rattle.std.proofs.lemmas.Bool.{and_parts}
 use Rattle.ill_schema.proofs.Tags.{at_row}

@@ -4,14 +4,14 @@ use Rattle.std.specs.Coded.{Coded, Coded-set, codes, coded_option, ×_prop, Unit
 use mathlib.Core.HLevel.{is_prop→PathP, ×₃_prop}
 use Rattle.ber_leaf.specs.{Simple.Simple, Profile.Profile}
 use Rattle.ber_leaf.specs.Leaf.{Leaf, Holds, normal_content}
-use Rattle.ill_schema.specs.declared.{node.NodeId.NodeId, node.Kind.Kind, part.Presence.Presence, part.Row.Row}
+use Rattle.ill_tables.specs.declared.{node.NodeId.NodeId, node.Kind.Kind, part.Presence.Presence, part.Row.Row}
 use Rattle.ill_schema.specs.Apdu.{Apdu, choice_of, root}
 use Rattle.ill_schema.specs.Content.{Content, simple, sequence, list, alternative, foreign, Entries, no_entries, absent, present, Items, no_items, item}
 use Rattle.ill_schema.specs.Fits.{FitsSimple, Fits, FitRows, FitItems, FitsApdu}
 use Rattle.ill_schema.specs.{Meaning.IsAlternative, Tagging.leaf_of}
 use Rattle.ber_core.specs.Foreign.{is_foreign, foreign_levels}
 use Rattle.ill_schema.specs.Presence.{IsCarried, MayLack}
-use Rattle.ill_schema.specs.Table.{kind_of, rows_of}
+use Rattle.ill_tables.specs.Table.{kind_of, rows_of}
 
 kind_set : IsSet Kind
 kind_set = Coded-set (hlevel codes)

@@ -11,11 +11,11 @@ use Rattle.ber_leaf.specs.Simple.{flag, whole, date, time, printable, general, v
 use Rattle.ber_leaf.proofs.Integers.{whole_held}
 use Rattle.ber_leaf.proofs.Leaves.{flag_holds, content_holds}
 use Rattle.ber_leaf.specs.Strings.{string_leaf, string_octets, string_value}
-use Rattle.ill_schema.specs.declared.node.Kind.{Kind}
-use Rattle.ill_schema.specs.declared.node.LeafKind.{LeafKind}
-use Rattle.ill_schema.specs.declared.node.NodeId.{NodeId}
+use Rattle.ill_tables.specs.declared.node.Kind.{Kind}
+use Rattle.ill_tables.specs.declared.node.LeafKind.{LeafKind}
+use Rattle.ill_tables.specs.declared.node.NodeId.{NodeId}
 use Rattle.ill_schema.specs.Fits.{FitsSimple}
-use Rattle.ill_schema.specs.Table.{kind_of}
+use Rattle.ill_tables.specs.Table.{kind_of}
 use Rattle.ill_schema.specs.Tagging.{leaf_of}
 use Rattle.ill_schema.specs.code.ValueFits.{IsNumeric}
 

@@ -17,7 +17,6 @@ pub mod RowFits
 pub mod Trees
 pub mod Sizes
 pub mod Carried
-pub mod RowNames
 pub mod FitsProps
 pub mod Twins
 pub mod Lifted

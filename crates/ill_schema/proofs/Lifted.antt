@@ -9,11 +9,11 @@ use Rattle.ber_core.specs.Tree.{Tree, Trees, primitive, constructed, more, none}
 use Rattle.ber_leaf.specs.declared.fault.LeafFault.{LeafFault}
 use Rattle.ber_leaf.specs.Leaf.{Leaf, general_string, content_fault, normal_content}
 use Rattle.ber_leaf.specs.Profile.{profile_two, profile_three}
-use Rattle.ill_schema.specs.declared.node.Kind.{Kind}
-use Rattle.ill_schema.specs.declared.node.NodeId.{NodeId}
-use Rattle.ill_schema.specs.declared.node.NodeId.TheVariants.{Conditional, IllApdu, UnitsPerMedium, WillSupply}
-use Rattle.ill_schema.specs.declared.part.Presence.{Presence}
-use Rattle.ill_schema.specs.declared.part.Row.{Row}
+use Rattle.ill_tables.specs.declared.node.Kind.{Kind}
+use Rattle.ill_tables.specs.declared.node.NodeId.{NodeId}
+use Rattle.ill_tables.specs.declared.node.NodeId.TheVariants.{Conditional, IllApdu, UnitsPerMedium, WillSupply}
+use Rattle.ill_tables.specs.declared.part.Presence.{Presence}
+use Rattle.ill_tables.specs.declared.part.Row.{Row}
 use Rattle.ill_schema.specs.Apdu.{Apdu, choice_of, normal_form, normal_form_in, SpellsApdu}
 use Rattle.ill_schema.specs.Content.{Content, simple, sequence, list, alternative, foreign, Entries, no_entries, absent, present, Items, no_items, item}
 use Rattle.ill_schema.specs.Fits.{Fits, FitRows, FitItems, FitsApdu}
@@ -21,7 +21,7 @@ use Rattle.ill_schema.specs.Lift.{added_entries, are_plain, is_plain, is_plain_a
 use Rattle.ill_schema.specs.Meaning.{Means, Matches, MatchItems, HoldsLeaf}
 use Rattle.ill_schema.specs.Normal.{normal_tree, normal_trees, normal_items}
 use Rattle.ill_schema.specs.Presence.{IsCarried, is_default, is_default_of}
-use Rattle.ill_schema.specs.Table.{kind_of, rows_of, twin}
+use Rattle.ill_tables.specs.Table.{kind_of, rows_of, twin}
 use Rattle.ill_schema.specs.TableFacts.{standing}
 use Rattle.ill_schema.specs.Tagging.{Tagging, Tagged, untagged, leaf_of, leaf_tag, sequence_tag, tag_tree, tagging}
 use Rattle.ill_schema.proofs.MeansFits.{means_apdu_fits}

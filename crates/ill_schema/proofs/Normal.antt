@@ -3,10 +3,10 @@ use Rattle.std.proofs.Common.{◌≡◌, ◌⊎◌, ℕ, Bool, true, false, List
 use Rattle.ber_core.specs.declared.id.Class.{Class}
 use Rattle.ber_core.specs.Identifier.{Tag}
 use Rattle.ber_core.specs.Tree.{Tree, Trees, primitive, constructed, none, more}
-use Rattle.ill_schema.specs.declared.part.Mode.{Mode}
-use Rattle.ill_schema.specs.declared.node.NodeId.{NodeId}
-use Rattle.ill_schema.specs.declared.part.Presence.{Presence}
-use Rattle.ill_schema.specs.declared.part.Row.{Row}
+use Rattle.ill_tables.specs.declared.part.Mode.{Mode}
+use Rattle.ill_tables.specs.declared.node.NodeId.{NodeId}
+use Rattle.ill_tables.specs.declared.part.Presence.{Presence}
+use Rattle.ill_tables.specs.declared.part.Row.{Row}
 use Rattle.ill_schema.specs.Apdu.{Apdu, MeansApdu, choice_of, root}
 use Rattle.ill_schema.specs.Content.{Content, simple, sequence, list, alternative, foreign, Entries, no_entries, absent, present, Items, no_items, item}
 use Rattle.ber_leaf.specs.Simple.{Simple}
@@ -18,7 +18,7 @@ use Rattle.ill_schema.specs.Presence.{is_default}
 use Rattle.ber_core.specs.Foreign.{is_foreign, foreign_levels}
 use Rattle.ill_schema.specs.Meaning.{Means, Matches, MatchItems, MeansSimple, HoldsLeaf}
 use Rattle.ill_schema.specs.Normal.{normal_tree, normal_trees, normal_items}
-use Rattle.ill_schema.specs.Table.{rows_of}
+use Rattle.ill_tables.specs.Table.{rows_of}
 
 -- the tree of an element is under its tagging
 in_tagging : (g : Tagging) (own : Tag) (E : Tag → Tree → Type 0) (f : Tag → Tree) → ((t : Tag) → E t (f t)) → Tagged g own E (tag_tree g own f)

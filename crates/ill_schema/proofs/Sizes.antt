@@ -10,13 +10,13 @@ use Rattle.ber_core.proofs.Shortest.{short_length_is}
 use Rattle.ber_leaf.specs.Leaf.{normal_content}
 use Rattle.ber_leaf.specs.Profile.{profile_two}
 use Rattle.ber_leaf.specs.Simple.{Simple}
-use Rattle.ill_schema.specs.declared.node.Kind.{Kind}
-use Rattle.ill_schema.specs.declared.node.NodeId.{NodeId}
-use Rattle.ill_schema.specs.declared.node.NodeId.TheVariants.{Boolean}
+use Rattle.ill_tables.specs.declared.node.Kind.{Kind}
+use Rattle.ill_tables.specs.declared.node.NodeId.{NodeId}
+use Rattle.ill_tables.specs.declared.node.NodeId.TheVariants.{Boolean}
 use Rattle.ill_schema.specs.Content.{Content, simple}
 use Rattle.ill_schema.specs.Elements.{joined, element_tag, element_tree}
 use Rattle.ill_schema.specs.Sizes.{apdu_row_of, node_tree, node_form, IsSizeWithin, IsElementSize}
-use Rattle.ill_schema.specs.Table.{kind_of}
+use Rattle.ill_tables.specs.Table.{kind_of}
 use Rattle.ill_schema.proofs.Trees.{sizes-joined, simple_tree}
 
 short_is : (n : ℕ) → n ≤ profile_two.limit → length (short_length n) ≡ length (shortest_length n)

@@ -6,17 +6,17 @@ use Rattle.ber_core.specs.declared.id.Class.{Class}
 use Rattle.ber_core.specs.Identifier.{Tag}
 use Rattle.ber_core.specs.Tree.{none}
 use Rattle.ber_leaf.specs.Profile.{profile_two, profile_three}
-use Rattle.ill_schema.specs.declared.node.Kind.{Kind}
-use Rattle.ill_schema.specs.declared.node.NodeId.{NodeId}
-use Rattle.ill_schema.specs.declared.node.NodeId.TheVariants.{Boolean, Conditional}
-use Rattle.ill_schema.specs.declared.part.Mode.{Mode}
-use Rattle.ill_schema.specs.declared.part.Presence.{Presence}
-use Rattle.ill_schema.specs.declared.part.Row.{Row}
+use Rattle.ill_tables.specs.declared.node.Kind.{Kind}
+use Rattle.ill_tables.specs.declared.node.NodeId.{NodeId}
+use Rattle.ill_tables.specs.declared.node.NodeId.TheVariants.{Boolean, Conditional}
+use Rattle.ill_tables.specs.declared.part.Mode.{Mode}
+use Rattle.ill_tables.specs.declared.part.Presence.{Presence}
+use Rattle.ill_tables.specs.declared.part.Row.{Row}
 use Rattle.ill_schema.specs.Fits.{FitRows}
 use Rattle.ill_schema.specs.Lift.{added_entries, is_retagged}
 use Rattle.ill_schema.specs.Meaning.{Matches}
 use Rattle.ill_schema.specs.Presence.{IsCarried, MayLack}
-use Rattle.ill_schema.specs.Table.{kind_of, rows_of, twin}
+use Rattle.ill_tables.specs.Table.{kind_of, rows_of, twin}
 use Rattle.ill_schema.specs.TableFacts.{row_tags, stand, standing}
 use Rattle.ill_schema.specs.Tagging.{tagging, row_tagging}
 

@@ -7,11 +7,11 @@ use Rattle.std.specs.Cmp.{signed_Decides}
 use Rattle.ber_core.specs.Identifier.{Tag}
 use Rattle.ber_core.specs.Tree.{Tree, Trees, constructed, none, more, tag_of}
 use Rattle.ber_leaf.specs.Segments.{leaf_content}
-use Rattle.ill_schema.specs.declared.node.Kind.{Kind}
-use Rattle.ill_schema.specs.declared.node.LeafKind.{LeafKind}
-use Rattle.ill_schema.specs.declared.node.NodeId.{NodeId}
-use Rattle.ill_schema.specs.declared.part.Presence.{Presence}
-use Rattle.ill_schema.specs.declared.part.Row.{Row}
+use Rattle.ill_tables.specs.declared.node.Kind.{Kind}
+use Rattle.ill_tables.specs.declared.node.LeafKind.{LeafKind}
+use Rattle.ill_tables.specs.declared.node.NodeId.{NodeId}
+use Rattle.ill_tables.specs.declared.part.Presence.{Presence}
+use Rattle.ill_tables.specs.declared.part.Row.{Row}
 use Rattle.ill_schema.specs.Content.{Content, simple, sequence, list, alternative, foreign, Entries, no_entries, absent, present, Items, no_items, item}
 use Rattle.ber_leaf.specs.Simple.{Simple, flag, whole, date, time, printable, general, visible, null, oid, binary, bits, descriptor}
 use Rattle.ber_leaf.specs.Leaf.{Leaf, boolean, integer, enumerated, general_string, visible_string, printable_string, iso_date, iso_time, null_type, object_identifier, octet_string, bit_string, object_descriptor, value}
@@ -20,7 +20,7 @@ use Rattle.ill_schema.specs.Tagging.{Tagging, untagged, implicit, explicit, expl
 use Rattle.ill_schema.specs.Presence.{is_default_of, same_value, MayLack}
 use Rattle.ber_core.specs.Foreign.{is_foreign, foreign_levels}
 use Rattle.ill_schema.specs.Meaning.{Means, Matches, MatchItems, MeansSimple, HoldsLeaf, IsAlternative}
-use Rattle.ill_schema.specs.Table.{kind_of, rows_of}
+use Rattle.ill_tables.specs.Table.{kind_of, rows_of}
 use Rattle.std.proofs.lemmas.Bool.{and_parts}
 use Rattle.ill_schema.specs.TableFacts.{own_tags, tagging_tags, alternative_tags, kind_tags, node_tags, row_tags}
 use Rattle.ill_schema.proofs.Tags.{is_proper, is_proper_row, is_tagged, are_good, tables_good, tables_proper, Mem, Distinct, distinct, not_mem, disjoint, distinct-right, same_place, at_row, mem-left, mem-right, mem-rows}

@@ -8,14 +8,14 @@ use Rattle.ber_core.specs.Tree.{Tree, Trees, primitive, constructed, none, more,
 use Rattle.ber_core.proofs.Encodings.{encoding_spells}
 use Rattle.ber_leaf.specs.Leaf.{boolean, integer, enumerated, general_string, iso_date}
 use Rattle.ber_leaf.specs.Profile.{profile_two}
-use Rattle.ill_schema.specs.declared.node.NodeId.{NodeId}
-use Rattle.ill_schema.specs.declared.node.NodeId.TheVariants.{IllApdu, Integer, Enumerated, TransactionId, ServiceDateTime, Boolean, RequesterOptionalMessages, ItemId, IllServiceTypes, Results, Locs, LocationInfo, Symbol, IllAnswer, Expired}
-use Rattle.ill_schema.specs.declared.part.{Row.Row, Mode.Mode, Presence.Presence}
+use Rattle.ill_tables.specs.declared.node.NodeId.{NodeId}
+use Rattle.ill_tables.specs.declared.node.NodeId.TheVariants.{IllApdu, Integer, Enumerated, TransactionId, ServiceDateTime, Boolean, RequesterOptionalMessages, ItemId, IllServiceTypes, Results, Locs, LocationInfo, Symbol, IllAnswer, Expired}
+use Rattle.ill_tables.specs.declared.part.{Row.Row, Mode.Mode, Presence.Presence}
 use Rattle.ber_leaf.specs.Simple.{flag}
 use Rattle.ill_schema.specs.Content.{Content, simple, no_entries, absent, present}
 use Rattle.ill_schema.specs.Tagging.{untagged, implicit, explicit, sequence_tag}
 use Rattle.ill_schema.specs.Meaning.{Means, Matches}
-use Rattle.ill_schema.specs.Table.{rows_of}
+use Rattle.ill_tables.specs.Table.{rows_of}
 use Rattle.ill_schema.specs.Fits.{Fits, FitRows, FitsApdu}
 use Rattle.ill_schema.specs.{Normal.normal_tree, Normal.normal_trees}
 use Rattle.ill_schema.specs.Apdu.{Apdu, choice_of, normal_form, SpellsApdu}

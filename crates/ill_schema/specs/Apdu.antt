@@ -1,8 +1,8 @@
 -- APDUs of ISO 10161-1 (the type ILL-APDU of its module), their encodings, their normal forms and streams of them.
 use Rattle.std.specs.Prelude.{◌≡◌, ℕ, ◌-◌, ◌≤◌, Bool, true, false, List, [], ◌∷◌, ◌++◌, length, take}
 use Rattle.ber_core.specs.Tree.{Tree, depth, Spells}
-use Rattle.ill_schema.specs.declared.node.NodeId.{NodeId}
-use Rattle.ill_schema.specs.declared.node.NodeId.TheVariants.{IllApdu, ModuleIllApdu}
+use Rattle.ill_tables.specs.declared.node.NodeId.{NodeId}
+use Rattle.ill_tables.specs.declared.node.NodeId.TheVariants.{IllApdu, ModuleIllApdu}
 use Rattle.ill_schema.specs.Content.{Content, alternative}
 use Rattle.ber_leaf.specs.Profile.{Profile, profile_two}
 use Rattle.ill_schema.specs.{Tagging.untagged, Meaning.Means, Normal.normal_tree}

@@ -4,7 +4,8 @@ use Rattle.ber_core.specs.declared.id.Class.{Class}
 use Rattle.ber_core.specs.Identifier.{Tag}
 use Rattle.ber_core.specs.Tree.{Tree, Trees, none, more}
 use Rattle.ber_leaf.specs.Profile.{profile_two}
-use Rattle.ill_schema.specs.declared.{node.Kind.Kind, node.NodeId.NodeId, part.Mode.Mode, part.Row.Row, value.Value.Value}
+use Rattle.ill_tables.specs.declared.{node.Kind.Kind, node.NodeId.NodeId, part.Mode.Mode, part.Row.Row}
+use Rattle.ill_schema.specs.declared.{value.Value.Value}
 use Rattle.ill_schema.specs.Content.{Content, simple}
 use Rattle.ill_schema.specs.{Normal.normal_tree, Presence.is_default, Value.content_of}
 use Rattle.ill_schema.specs.Tagging.{Tagging, untagged, implicit, tagging, leaf_of, leaf_tag, universal}

@@ -1,5 +1,4 @@
 pub mod Content
-pub mod Table
 pub mod TableFacts
 pub mod Presence
 pub mod Causes
@@ -18,5 +17,4 @@ pub mod Message
 pub mod Unfit
 pub mod Worked
 pub mod code
-pub mod Numbers
 pub mod Texts

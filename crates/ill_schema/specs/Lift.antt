@@ -1,10 +1,10 @@
 -- Values of profile 2 as values of the module profile.
 use Rattle.std.specs.Prelude.{◌-◌, Bool, true, false, ◌&&◌, not, List, [], ◌∷◌, Some, None, slice_get}
-use Rattle.ill_schema.specs.declared.{node.NodeId.NodeId, part.Row.Row}
-use Rattle.ill_schema.specs.declared.node.NodeId.TheVariants.{Conditional, IllApdu, UnitsPerMedium, WillSupply}
+use Rattle.ill_tables.specs.declared.{node.NodeId.NodeId, part.Row.Row}
+use Rattle.ill_tables.specs.declared.node.NodeId.TheVariants.{Conditional, IllApdu, UnitsPerMedium, WillSupply}
 use Rattle.ill_schema.specs.Apdu.{Apdu, choice_of}
 use Rattle.ill_schema.specs.Content.{Content, simple, sequence, list, alternative, foreign, Entries, no_entries, absent, present, Items, no_items, item}
-use Rattle.ill_schema.specs.Table.{rows_of}
+use Rattle.ill_tables.specs.Table.{rows_of}
 
 -- the entries of the rows that profile 2 doesn't have: Conditional's last
 abbrev pub added_entries : NodeId → Entries

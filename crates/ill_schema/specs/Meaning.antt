@@ -2,7 +2,7 @@
 use Rattle.std.specs.Prelude.{◌≡◌, ◌⊎◌, ℕ, List, [], ◌∷◌, Some, IsTrue, slice_get}
 use Rattle.ber_core.specs.Identifier.{Tag}
 use Rattle.ber_core.specs.Tree.{Tree, Trees, primitive, constructed, none, more, tag_of, AreSegments}
-use Rattle.ill_schema.specs.declared.{node.Kind.Kind, node.NodeId.NodeId, part.Row.Row}
+use Rattle.ill_tables.specs.declared.{node.Kind.Kind, node.NodeId.NodeId, part.Row.Row}
 use Rattle.ill_schema.specs.Content.{Content, simple, sequence, list, alternative, foreign, Entries, no_entries, absent, present, Items, no_items, item}
 use Rattle.ber_leaf.specs.{Simple.Simple, Profile.Profile}
 use Rattle.ber_leaf.specs.Leaf.{Leaf, is_string, Holds}
@@ -10,7 +10,7 @@ use Rattle.ber_leaf.specs.Segments.{segment_tag, leaf_content}
 use Rattle.ill_schema.specs.Tagging.{Tagging, tagging, Tagged, leaf_tag, leaf_of, sequence_tag}
 use Rattle.ber_core.specs.Foreign.{is_foreign, foreign_levels}
 use Rattle.ill_schema.specs.Presence.{IsCarried, MayLack, is_default}
-use Rattle.ill_schema.specs.Table.{kind_of, rows_of}
+use Rattle.ill_tables.specs.Table.{kind_of, rows_of}
 
 -- a primitive tree may be any leaf (8.2.1, 8.3.1, 8.4), a constructed one only a string in segments (8.6.4, 8.7.3, 8.23)
 abbrev pub IsLeaf : Leaf → Tree → Type 0

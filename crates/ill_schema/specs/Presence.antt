@@ -2,9 +2,9 @@
 use Rattle.std.specs.Prelude.{ℤ, pos, Bool, false, not, if◌then◌else◌}
 use Rattle.std.specs.Ordering.{int_eq}
 use Rattle.ber_leaf.specs.Simple.{Simple, flag, whole}
-use Rattle.ill_schema.specs.declared.{node.Kind.Kind, node.LeafKind.LeafKind, part.Presence.Presence, part.Row.Row}
+use Rattle.ill_tables.specs.declared.{node.Kind.Kind, node.LeafKind.LeafKind, part.Presence.Presence, part.Row.Row}
 use Rattle.ill_schema.specs.Content.{Content, simple}
-use Rattle.ill_schema.specs.Table.{kind_of}
+use Rattle.ill_tables.specs.Table.{kind_of}
 
 -- a row may hold an entry
 abbrev pub IsCarried : Presence → Type 0

@@ -4,9 +4,10 @@ use Rattle.ber_core.specs.declared.id.Class.{Class}
 use Rattle.ber_core.specs.Der.{encoding, header_size}
 use Rattle.ber_core.specs.Tree.{Tree}
 use Rattle.ber_leaf.specs.Profile.{profile_two}
-use Rattle.ill_schema.specs.declared.{node.Kind.Kind, node.NodeId.NodeId, part.Row.Row}
-use Rattle.ill_schema.specs.declared.node.NodeId.TheVariants.{IllApdu, IllRequest, Shipped, IllAnswer, ConditionalReply, Cancel, CancelReply, Received, Recall, Returned, CheckedIn, Overdue, Renew, RenewAnswer, Lost, Damaged, MessageApdu, StatusQuery, Expired}
-use Rattle.ill_schema.specs.{Apdu.normal_form, Content.Content, Normal.normal_tree, Table.rows_of, Tagging.untagged}
+use Rattle.ill_tables.specs.declared.{node.Kind.Kind, node.NodeId.NodeId, part.Row.Row}
+use Rattle.ill_tables.specs.declared.node.NodeId.TheVariants.{IllApdu, IllRequest, Shipped, IllAnswer, ConditionalReply, Cancel, CancelReply, Received, Recall, Returned, CheckedIn, Overdue, Renew, RenewAnswer, Lost, Damaged, MessageApdu, StatusQuery, Expired}
+use Rattle.ill_tables.specs.{Table.rows_of}
+use Rattle.ill_schema.specs.{Apdu.normal_form, Content.Content, Normal.normal_tree, Tagging.untagged}
 use Rattle.ill_schema.specs.Elements.{element_tag, element_tree, row_tree}
 
 -- the number of the APDU whose body the node is

@@ -3,9 +3,9 @@ use Rattle.std.specs.Prelude.{ℕ, zero, suc, ◌+◌, max, Bool, true, false, �
 use Rattle.std.specs.List.{fold, list_all, list_any}
 use Rattle.ber_core.specs.Identifier.{Tag}
 use Rattle.ber_leaf.specs.Profile.{Profile}
-use Rattle.ill_schema.specs.declared.{node.Kind.Kind, node.LeafKind.LeafKind, node.NodeId.NodeId, part.Presence.Presence, part.Row.Row}
-use Rattle.ill_schema.specs.declared.node.NodeId.TheVariants.{Null, ObjectIdentifier, OctetString, BitString, ObjectDescriptor, Encoding, External, TaggedExternal, Externals, Extension, Extensions, EDeliveryService, DocumentType, EDeliveryDetails, ElectronicDelivery, ElectronicDeliveries, SpecificUnits, DamagedPortion, DamagedDetails, HistoryReport, StatusReport, AlreadyForwarded, UserErrorReport, StateTransition, ProviderErrorReport, ErrorReport, ForwardNotification, StatusOrErrorReport, ModuleDeliveryService, ModuleShippedVia, ModuleItemId, ModuleUnitsPerMedium, ModuleUnitsPerMediumList, ModuleSupplyDetails, ModuleIllRequest, ModuleShipped, ModuleConditional, ModuleWillSupply, ModuleResults, ModuleIllAnswer, ModuleConditionalReply, ModuleCancel, ModuleCancelReply, ModuleReceived, ModuleRecall, ModuleReturned, ModuleCheckedIn, ModuleOverdue, ModuleRenew, ModuleRenewAnswer, ModuleLost, ModuleDamaged, ModuleMessageApdu, ModuleStatusQuery, ModuleExpired, ModuleIllApdu, Any}
-use Rattle.ill_schema.specs.Table.{kind_of, rows_of, twin}
+use Rattle.ill_tables.specs.declared.{node.Kind.Kind, node.LeafKind.LeafKind, node.NodeId.NodeId, part.Presence.Presence, part.Row.Row}
+use Rattle.ill_tables.specs.declared.node.NodeId.TheVariants.{Null, ObjectIdentifier, OctetString, BitString, ObjectDescriptor, Encoding, External, TaggedExternal, Externals, Extension, Extensions, EDeliveryService, DocumentType, EDeliveryDetails, ElectronicDelivery, ElectronicDeliveries, SpecificUnits, DamagedPortion, DamagedDetails, HistoryReport, StatusReport, AlreadyForwarded, UserErrorReport, StateTransition, ProviderErrorReport, ErrorReport, ForwardNotification, StatusOrErrorReport, ModuleDeliveryService, ModuleShippedVia, ModuleItemId, ModuleUnitsPerMedium, ModuleUnitsPerMediumList, ModuleSupplyDetails, ModuleIllRequest, ModuleShipped, ModuleConditional, ModuleWillSupply, ModuleResults, ModuleIllAnswer, ModuleConditionalReply, ModuleCancel, ModuleCancelReply, ModuleReceived, ModuleRecall, ModuleReturned, ModuleCheckedIn, ModuleOverdue, ModuleRenew, ModuleRenewAnswer, ModuleLost, ModuleDamaged, ModuleMessageApdu, ModuleStatusQuery, ModuleExpired, ModuleIllApdu, Any}
+use Rattle.ill_tables.specs.Table.{kind_of, rows_of, twin}
 use Rattle.ill_schema.specs.Tagging.{Tagging, untagged, implicit, explicit, explicit_or_bare, tagging, universal, sequence_tag, same_tag}
 
 -- the tags by which elements of this kind begin, where no other is in their place; an open type is never known by a tag

@@ -6,7 +6,7 @@ use Rattle.ber_core.specs.Tree.{Tree, constructed, more, none}
 use Rattle.ber_leaf.specs.Leaf.{Leaf, boolean, integer, enumerated, general_string, visible_string, printable_string, iso_date, iso_time, null_type, object_identifier, octet_string, bit_string, object_descriptor}
 use Rattle.ber_leaf.specs.Profile.{Profile}
 use Rattle.ber_leaf.specs.Simple.{Simple, flag, whole, date, time, printable, general, visible, null, oid, binary, bits, descriptor}
-use Rattle.ill_schema.specs.declared.{node.Kind.Kind, node.LeafKind.LeafKind, part.Mode.Mode, part.Row.Row}
+use Rattle.ill_tables.specs.declared.{node.Kind.Kind, node.LeafKind.LeafKind, part.Mode.Mode, part.Row.Row}
 
 -- a tag of class universal (X.680, 8.4)
 abbrev pub universal : ℕ → Tag

@@ -1,7 +1,8 @@
 -- Why a value is no message's body.
 use Rattle.std.specs.Prelude.{◌≡◌, ◌<◌, Some, None, length}
 use Rattle.ber_leaf.specs.Profile.{profile_two}
-use Rattle.ill_schema.specs.declared.{node.NodeId.NodeId, unfit.Unfit.Unfit}
+use Rattle.ill_tables.specs.declared.{node.NodeId.NodeId}
+use Rattle.ill_schema.specs.declared.{unfit.Unfit.Unfit}
 use Rattle.ill_schema.specs.declared.unfit.Unfit.TheVariants.{NotCarried, DoesNotFit, TooLong}
 use Rattle.ill_schema.specs.Apdu.{Apdu, normal_form}
 use Rattle.ill_schema.specs.Fits.{Fits, FitsApdu}

@@ -3,10 +3,8 @@ ghost use Rattle.std.specs.Prelude.{◌≡◌, ◌↔◌, IsTrue};
 ghost use Rattle.ill_schema.specs.Presence.{IsCarried, MayLack, is_default};
 ghost use Rattle.ill_schema.specs.Value.{content_of};
 
-use crate::lookup::kind;
-use crate::node::{Kind, LeafKind};
-use crate::part::{Presence, Row};
 use crate::value::Value;
+use ill_tables::{Kind, LeafKind, Presence, Row, kind};
 
 /// Tells whether a row may hold an entry.
 pub fn is_carried(presence: Presence) -> bool

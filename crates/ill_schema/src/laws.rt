@@ -7,7 +7,7 @@ ghost use Rattle.ill_schema.specs.Profiles.{profile_of};
 ghost use Rattle.ill_schema.specs.Content.{Content};
 ghost use Rattle.ill_schema.specs.Tagging.{Tagging, untagged};
 ghost use Rattle.ill_schema.specs.TableFacts.{are_of_two, deepest, has_different_tags, is_of_two, names_below, stand};
-ghost use Rattle.ill_schema.specs.Table.{rows_of, twin};
+ghost use Rattle.ill_tables.specs.Table.{rows_of, twin};
 ghost use Rattle.ill_schema.specs.Meaning.{Means};
 ghost use Rattle.ill_schema.specs.Fits.{Fits, FitsApdu};
 ghost use Rattle.ill_schema.specs.Normal.{normal_tree};
@@ -15,7 +15,7 @@ ghost use Rattle.ill_schema.specs.Apdu.{Accepts, Apdu, choice_of, root, Encodes,
 ghost use Rattle.ill_schema.specs.Lift.{is_plain_apdu, lift_apdu};
 ghost use Rattle.ill_schema.specs.Worked.{hex, expired, request, answer, estimate, unfilled, retry, IsNormalForm};
 
-use crate::node::NodeId;
+use ill_tables::NodeId;
 
 /// In each sequence and choice the tags of all rows are different, and each row names a node of a lower level. The rows of profile
 /// 2's nodes name nodes of profile 2: no open type, and none of the types that the module alone has. Each of them that isn't left

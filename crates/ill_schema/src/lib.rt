@@ -1,5 +1,5 @@
-//! The tables of ILL messages, their values, what octets mean by them, the normal form, and the causes of refusals. Use it to look up
-//! names and rows, and for messages as values.
+//! The profiles of the tables, the values of ILL messages, what octets mean by them, the normal form, and the causes of refusals. Use it for
+//! messages as values, and to look up names and rows, which it passes on from `ill_tables`.
 //!
 //! A part of a message has the names of the tables:
 //!
@@ -16,17 +16,11 @@ mod hexadecimal;
 mod laws;
 mod lookup;
 mod message;
-mod module_rows;
 mod names;
-mod node;
-mod node_rows;
-mod number;
-mod part;
 mod profile;
 mod refusal;
 mod shape;
 mod size;
-mod table;
 mod tagging;
 mod unfit;
 mod value;
@@ -34,25 +28,23 @@ mod value;
 pub use entry::{is_carried, is_default, may_lack};
 pub use equality::equal;
 pub use hexadecimal::hexadecimal_digits;
+pub use ill_tables::{
+    Kind, LeafKind, Mode, NodeId, PartId, Presence, Row, kind, number_name, part_name, row,
+    row_name, row_names, row_node, rows, rows_of,
+};
 pub use laws::{
     named_profiles, no_octets_change_their_meaning, normal_form_is_a_spelling,
     normal_form_is_no_longer, normal_form_is_one_to_one, normal_tree_means_the_value, one_meaning,
     one_value, profile_two_extends_profile_one, tables_are_well_formed,
     the_module_reads_profile_two, what_is_meant_fits, worked_messages,
 };
-pub use lookup::{kind, kind_as, row, row_as, row_name, row_node, rows, rows_as};
+pub use lookup::{kind_as, row_as, rows_as};
 pub use message::Message;
-pub use names::{
-    apdu_name, apdu_name_as, apdu_node, apdu_node_as, part_name, part_name_as, row_names,
-};
-pub use node::{Kind, LeafKind, NodeId};
-pub use number::number_name;
-pub use part::{Mode, PartId, Presence, Row};
+pub use names::{apdu_name, apdu_name_as, apdu_node, apdu_node_as, part_name_as};
 pub use profile::Profile;
 pub use refusal::{Cause, Refusal};
 pub use shape::fits;
 pub use size::{LIMIT, normal_size};
-pub use table::rows_of;
 pub use tagging::{replacement, wrapper};
 pub use unfit::Unfit;
 pub use value::Value;

@@ -3,9 +3,8 @@ ghost use Rattle.std.specs.Prelude.{◌≡◌};
 ghost use Rattle.ill_schema.specs.Apdu.{root};
 ghost use Rattle.ill_schema.specs.Names.{node_in};
 ghost use Rattle.ill_schema.specs.Profiles.{profile_of};
-ghost use Rattle.ill_schema.specs.Table.{twin};
 
-use crate::node::NodeId;
+use ill_tables::{NodeId, twin};
 
 /// The rows of the tables that a message may have, and the octets that a GeneralString may have.
 #[derive(Clone, Copy, Debug, PartialEq, Eq)]
@@ -41,41 +40,5 @@ impl Profile {
             Profile::Two => node,
             Profile::Module => twin(node),
         }
-    }
-}
-
-fn twin(node: NodeId) -> NodeId
-    ensures { result ≡ twin node }
-{
-    match node {
-        NodeId::DeliveryService => NodeId::ModuleDeliveryService,
-        NodeId::ShippedVia => NodeId::ModuleShippedVia,
-        NodeId::ItemId => NodeId::ModuleItemId,
-        NodeId::UnitsPerMedium => NodeId::ModuleUnitsPerMedium,
-        NodeId::UnitsPerMediumList => NodeId::ModuleUnitsPerMediumList,
-        NodeId::SupplyDetails => NodeId::ModuleSupplyDetails,
-        NodeId::IllRequest => NodeId::ModuleIllRequest,
-        NodeId::Shipped => NodeId::ModuleShipped,
-        NodeId::Conditional => NodeId::ModuleConditional,
-        NodeId::WillSupply => NodeId::ModuleWillSupply,
-        NodeId::Results => NodeId::ModuleResults,
-        NodeId::IllAnswer => NodeId::ModuleIllAnswer,
-        NodeId::ConditionalReply => NodeId::ModuleConditionalReply,
-        NodeId::Cancel => NodeId::ModuleCancel,
-        NodeId::CancelReply => NodeId::ModuleCancelReply,
-        NodeId::Received => NodeId::ModuleReceived,
-        NodeId::Recall => NodeId::ModuleRecall,
-        NodeId::Returned => NodeId::ModuleReturned,
-        NodeId::CheckedIn => NodeId::ModuleCheckedIn,
-        NodeId::Overdue => NodeId::ModuleOverdue,
-        NodeId::Renew => NodeId::ModuleRenew,
-        NodeId::RenewAnswer => NodeId::ModuleRenewAnswer,
-        NodeId::Lost => NodeId::ModuleLost,
-        NodeId::Damaged => NodeId::ModuleDamaged,
-        NodeId::MessageApdu => NodeId::ModuleMessageApdu,
-        NodeId::StatusQuery => NodeId::ModuleStatusQuery,
-        NodeId::Expired => NodeId::ModuleExpired,
-        NodeId::IllApdu => NodeId::ModuleIllApdu,
-        _ => node,
     }
 }

@@ -1,8 +1,6 @@
 //! Causes of refusals, with their names, numbers and texts.
-use crate::names::part_name;
-use crate::node::NodeId;
-use crate::part::PartId;
 use ber_leaf::LeafFault;
+use ill_tables::{NodeId, PartId, part_name};
 
 /// A part, for the causes that have one: their names and numbers are the same with each.
 const ANY_PART: PartId = PartId {

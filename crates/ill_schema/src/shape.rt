@@ -5,18 +5,15 @@ ghost use Rattle.ber_leaf.specs.Simple.{flag, whole, date, time, printable};
 ghost use Rattle.ber_leaf.specs.Strings.{string_value};
 ghost use Rattle.ill_schema.specs.Fits.{FitsSimple, Fits};
 ghost use Rattle.ill_schema.specs.Meaning.{IsAlternative};
-ghost use Rattle.ill_schema.specs.Table.{kind_of};
+ghost use Rattle.ill_tables.specs.Table.{kind_of};
 ghost use Rattle.ill_schema.specs.Value.{content_of};
 ghost use Rattle.ill_schema.specs.code.ValueFits.{IsNumeric, EntriesFit, ItemFits, ItemsFit};
-ghost use Rattle.ill_schema.specs.declared.part.Row.{Row};
+ghost use Rattle.ill_tables.specs.declared.part.Row.{Row};
 
 use crate::entry::{is_carried, may_lack};
-use crate::lookup::{kind, row};
-use crate::node::{Kind, LeafKind, NodeId};
-use crate::part::{PartId, Row};
-use crate::table::rows_of;
 use crate::value::Value;
 use ber_leaf::{DateText, IllString, PrintableText, TimeText};
+use ill_tables::{Kind, LeafKind, NodeId, PartId, Row, kind, row, rows_of};
 
 /// The row that a choice may take under a number.
 fn alternative(node: NodeId, number: u8) -> Option<Row>

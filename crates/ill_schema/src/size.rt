@@ -11,21 +11,18 @@ ghost use Rattle.ill_schema.specs.Elements.{element_tag, element_tree, row_tree,
 ghost use Rattle.ill_schema.specs.Fits.{Fits};
 ghost use Rattle.ill_schema.specs.Normal.{normal_trees, normal_items};
 ghost use Rattle.ill_schema.specs.Sizes.{apdu_number_of, apdu_row_of, node_tree, node_form, IsSizeWithin, IsElementSize};
-ghost use Rattle.ill_schema.specs.Table.{rows_of};
+ghost use Rattle.ill_tables.specs.Table.{rows_of};
 ghost use Rattle.ill_schema.specs.Value.{content_of, entries_content, items_content};
-ghost use Rattle.ill_schema.specs.declared.node.Kind.{Kind};
+ghost use Rattle.ill_tables.specs.declared.node.Kind.{Kind};
 
 use crate::entry::is_default;
-use crate::lookup::row;
-use crate::node::NodeId;
-use crate::part::{PartId, Row};
-use crate::table::rows_of;
 use crate::tagging::{replacement, wrapper};
 use crate::value::Value;
 use ber_core::{Class, length_size};
 use ber_leaf::{
     DateText, Flag, GeneralText, IllString, Leaf, PrintableText, TimeText, VisibleText, Whole,
 };
+use ill_tables::{NodeId, PartId, Row, row, rows_of};
 
 /// The number of octets that a message may have, and its normal form.
 pub const LIMIT: u32 = 1_048_576;

@@ -2,8 +2,8 @@
 ghost use Rattle.std.specs.Prelude.{◌≡◌};
 ghost use Rattle.ill_schema.specs.Elements.{wrapper, replacement};
 
-use crate::part::{Mode, Row};
 use ber_core::Class;
+use ill_tables::{Mode, Row};
 
 /// The class and number of the element that a row's tag puts round the element of its type.
 pub fn wrapper(row: Row) -> Option<(Class, u32)>

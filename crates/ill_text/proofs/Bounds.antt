@@ -16,26 +16,26 @@ use Rattle.ber_leaf.specs.Leaf.{Leaf, bit_string, integer, enumerated, Holds, cl
 use Rattle.ber_leaf.specs.Profile.{Profile, profile_two}
 use Rattle.ber_leaf.specs.Simple.{Simple, flag, whole, date, time, printable, general, visible, null, oid, binary, bits, descriptor}
 use Rattle.ber_leaf.proofs.Integers.{whole_bounds}
-use Rattle.ill_schema.specs.declared.node.NodeId.{NodeId}
-use Rattle.ill_schema.specs.declared.node.NodeId.TheVariants.{Boolean}
-use Rattle.ill_schema.specs.declared.node.Kind.{Kind}
-use Rattle.ill_schema.specs.declared.part.Presence.{Presence}
-use Rattle.ill_schema.specs.declared.part.Row.{Row}
+use Rattle.ill_tables.specs.declared.node.NodeId.{NodeId}
+use Rattle.ill_tables.specs.declared.node.NodeId.TheVariants.{Boolean}
+use Rattle.ill_tables.specs.declared.node.Kind.{Kind}
+use Rattle.ill_tables.specs.declared.part.Presence.{Presence}
+use Rattle.ill_tables.specs.declared.part.Row.{Row}
 use Rattle.ill_schema.specs.declared.profile.Profile.{Profile as Named}
 use Rattle.ill_schema.specs.Apdu.{Apdu, SpellsApdu, choice_of, root}
 use Rattle.ill_schema.specs.Content.{Content, simple, sequence, list, alternative, foreign, Entries, no_entries, absent, present, Items, no_items, item}
 use Rattle.ill_schema.specs.Fits.{Fits, FitRows, FitItems, FitsSimple}
-use Rattle.ill_schema.specs.Names.{names_of}
+use Rattle.ill_tables.specs.Names.{names_of}
 use Rattle.ill_schema.specs.Normal.{normal_tree, normal_trees, normal_items}
 use Rattle.ill_schema.specs.Profiles.{profile_of}
 use Rattle.ill_schema.specs.Presence.{default_value, is_default, is_default_of, same_value}
-use Rattle.ill_schema.specs.Table.{kind_of, rows_of}
+use Rattle.ill_tables.specs.Table.{kind_of, rows_of}
 use Rattle.ill_schema.specs.Tagging.{Tagging, untagged, implicit, explicit, explicit_or_bare, sequence_tag, tag_tree, tagging}
 use Rattle.ill_schema.proofs.MeansFits.{means_apdu_fits}
 use Rattle.ill_schema.proofs.Tags.{at_row}
-use Rattle.ill_schema.specs.Numbers.{number_name, number_names}
+use Rattle.ill_tables.specs.Numbers.{number_name, number_names}
 use Rattle.ill_schema.specs.Texts.{hexadecimal}
-use Rattle.ill_schema.specs.Names.{name_or_none, row_name}
+use Rattle.ill_tables.specs.Names.{name_or_none, row_name}
 use Rattle.ill_text.specs.Shown.{Place, body_place_in, content_text, entry_lines, in_brackets, is_empty, item_lines, item_of, leaf_text, line, lines_of, part, quoted, shown_text_in, tree_text, within}
 use Rattle.ill_text.proofs.OctetBounds.{constructed_size, content_size, hexadecimal_size, oid_size, primitive_size, quoted_size, some_size, tree_text_size}
 

@@ -2,18 +2,18 @@
 use Rattle.std.proofs.Common.{◌≡◌, ℕ, zero, suc, ◌-◌, Bool, true, List, [], ◌∷◌, ◌++◌, drop, Some, None, codes, decimal, refl, sym, ap, ap₂, subst, ◌∙◌, slice_get}
 use Rattle.std.specs.Prelude.{if◌then◌else◌}
 use Rattle.ber_leaf.specs.Profile.{profile_two, profile_three}
-use Rattle.ill_schema.specs.declared.node.Kind.{Kind}
-use Rattle.ill_schema.specs.declared.node.NodeId.{NodeId}
-use Rattle.ill_schema.specs.declared.node.NodeId.TheVariants.{Conditional, IllApdu}
-use Rattle.ill_schema.specs.declared.part.Row.{Row}
+use Rattle.ill_tables.specs.declared.node.Kind.{Kind}
+use Rattle.ill_tables.specs.declared.node.NodeId.{NodeId}
+use Rattle.ill_tables.specs.declared.node.NodeId.TheVariants.{Conditional, IllApdu}
+use Rattle.ill_tables.specs.declared.part.Row.{Row}
 use Rattle.ill_schema.specs.Apdu.{Apdu}
 use Rattle.ill_schema.specs.Content.{Content, simple, sequence, list, alternative, foreign, Entries, no_entries, absent, present, Items, no_items, item}
 use Rattle.ill_schema.specs.Fits.{Fits, FitRows, FitItems, FitsApdu}
 use Rattle.ill_schema.specs.Lift.{added_entries, lift, lift_apdu, lift_entries, lift_items}
 use Rattle.ill_schema.specs.Presence.{IsCarried}
-use Rattle.ill_schema.specs.Table.{kind_of, rows_of, twin}
+use Rattle.ill_tables.specs.Table.{kind_of, rows_of, twin}
 use Rattle.ill_schema.proofs.Twins.{all_stand, item_carried, stand_at, stands}
-use Rattle.ill_schema.specs.Names.{node_or_left_out, row_name, row_node}
+use Rattle.ill_tables.specs.Names.{node_or_left_out, row_name, row_node}
 use Rattle.ill_text.specs.Shown.{Place, entry_lines, is_empty, item_lines, item_of, line, lines_of, part, shown_text, shown_text_in, within}
 
 abbrev at_node : List ℕ → List ℕ → NodeId → Place

@@ -5,15 +5,15 @@ use Rattle.std.specs.Prelude.{flat_map}
 use Rattle.std.proofs.lemmas.List.Concat.{flat_map-append}
 use Rattle.ill_text.specs.Shown.{escaped}
 use Rattle.std.proofs.Common.{◌-◌}
-use Rattle.ill_schema.specs.declared.node.NodeId.{NodeId}
+use Rattle.ill_tables.specs.declared.node.NodeId.{NodeId}
 use Rattle.ill_schema.specs.Content.{Content, sequence, list, Entries, no_entries, absent, present, Items, no_items, item}
 use Rattle.ill_read.specs.Outline.{AreEntries, AreItems, IsMarked}
 use Rattle.ill_read.specs.declared.mark.Mark.{Mark}
 use Rattle.ill_read.specs.declared.mark.Mark.TheVariants as mark
 use Rattle.ill_text.specs.Shown.{Place, entry_lines, is_empty, item_lines, item_of, line, lines_of, part, within}
 use Rattle.ill_text.specs.Shown.{entry_text}
-use Rattle.ill_read.specs.Marks.{IsEntry, is_at_end, is_there, octets_in}
-use Rattle.ill_schema.specs.Names.{row_name, row_node}
+use Rattle.ill_marks.specs.Marks.{IsEntry, is_at_end, is_there, octets_in}
+use Rattle.ill_tables.specs.Names.{row_name, row_node}
 use Rattle.ill_text.specs.code.FieldPaths.{head_line, place_at}
 use Rattle.ill_text.specs.Shown.{shown_text_in}
 use Rattle.ber_leaf.specs.Profile.{Profile}
@@ -22,7 +22,7 @@ use Rattle.ill_text.specs.code.Sending.{Adds, Sending}
 use Rattle.ill_text.specs.code.FieldPaths.{is_nothing, path_of}
 use Rattle.ill_text.specs.declared.field_path.FieldPath.{FieldPath, Start, Row, Item, the_lemmas}
 use Rattle.ill_text.proofs.Sent.{adds_then, adds_as}
-use Rattle.ill_read.proofs.MarkedValues.{no_entry, no_item, mark_step}
+use Rattle.ill_marks.proofs.MarkedValues.{no_entry, no_item, mark_step}
 
 -- ---- paths
 

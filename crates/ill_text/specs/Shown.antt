@@ -6,11 +6,11 @@ use Rattle.ber_core.specs.Identifier.{identifier}
 use Rattle.ber_core.specs.Tree.{Tree, Trees, primitive, constructed, none, more}
 use Rattle.ber_leaf.specs.Profile.{Profile, is_graphic, profile_two}
 use Rattle.ber_leaf.specs.Simple.{Simple, flag, whole, date, time, printable, general, visible, null, oid, binary, bits, descriptor}
-use Rattle.ill_schema.specs.declared.node.NodeId.{NodeId}
+use Rattle.ill_tables.specs.declared.node.NodeId.{NodeId}
 use Rattle.ill_schema.specs.Apdu.{Apdu, root}
 use Rattle.ill_schema.specs.Content.{Content, simple, sequence, list, alternative, foreign, Entries, no_entries, absent, present, Items, no_items, item}
-use Rattle.ill_schema.specs.Names.{row_name, row_node}
-use Rattle.ill_schema.specs.Numbers.{number_name}
+use Rattle.ill_tables.specs.Names.{row_name, row_node}
+use Rattle.ill_tables.specs.Numbers.{number_name}
 use Rattle.ill_schema.specs.Texts.{digits, hexadecimal, oid_text}
 
 -- `"` and `\` after a `\`, and what isn't printable ASCII as `\x` and two digits

@@ -8,8 +8,8 @@ ghost use Rattle.ber_core.specs.Length.{shortest_length};
 ghost use Rattle.ber_core.specs.Tree.{Tree, Trees};
 ghost use Rattle.ill_read.specs.declared.mark.Mark.{Mark};
 ghost use Rattle.ill_text.specs.Shown.{line, tree_text, trees_text};
-ghost use Rattle.ill_read.specs.Marks.{leading_octets, octets_in};
-ghost use Rattle.ill_text.specs.code.Elements.{blank, ends_number, up_to_last};
+ghost use Rattle.ill_marks.specs.Marks.{leading_octets, octets_in};
+ghost use Rattle.ill_text.specs.code.Elements.{blank, up_to_last};
 ghost use Rattle.ill_text.specs.code.Sending.{Adds, counted, sending};
 ghost use Rattle.ill_text.specs.code.FieldPaths.{path_of};
 
@@ -17,7 +17,8 @@ use crate::field_path::{FieldPath, put_path};
 use crate::module_leaf::{put_content, put_hexadecimal};
 use crate::text_sink::TextSink;
 use ber_core::Sink;
-use ill_read::{Mark, leading_octets};
+use ill_marks::{ends_number, leading_octets};
+use ill_read::Mark;
 
 /// The most levels that a foreign tree may have.
 const LEVELS: u8 = 20;
@@ -149,15 +150,6 @@ fn number_size(marks: &[Mark]) -> usize
         }
     }
     count
-}
-
-fn ends_number(mark: Mark) -> bool
-    ensures { result ≡ ends_number mark }
-{
-    match mark {
-        Mark::Octet(octet) => octet < 0x80,
-        _ => false,
-    }
 }
 
 /// Tells whether an identifier is of the constructed form.

@@ -6,21 +6,22 @@ ghost use Rattle.ber_leaf.specs.Leaf.{integer_of, value};
 ghost use Rattle.ber_leaf.specs.Simple.{flag, whole};
 ghost use Rattle.ill_schema.specs.Content.{Content};
 ghost use Rattle.ill_schema.specs.Presence.{default_value};
-ghost use Rattle.ill_schema.specs.Table.{kind_of};
-ghost use Rattle.ill_schema.specs.declared.node.NodeId.{NodeId};
+ghost use Rattle.ill_tables.specs.Table.{kind_of};
+ghost use Rattle.ill_tables.specs.declared.node.NodeId.{NodeId};
 ghost use Rattle.ill_grammar.specs.LeafTypes.{IsContentIn, leaf_is};
 ghost use Rattle.ill_read.specs.Outline.{IsAbsent};
-ghost use Rattle.ill_schema.specs.Numbers.{number_name};
+ghost use Rattle.ill_tables.specs.Numbers.{number_name};
 ghost use Rattle.ill_text.specs.Shown.{escaped, in_brackets, leaf_text, line};
 ghost use Rattle.ill_text.specs.Shown.{entry_text};
-ghost use Rattle.ill_read.specs.Marks.{leading_octets, is_octet, octets_in};
+ghost use Rattle.ill_marks.specs.Marks.{leading_octets, is_octet, octets_in};
 ghost use Rattle.ill_text.specs.code.Sending.{Adds, sending};
 ghost use Rattle.ill_text.specs.code.FieldPaths.{path_of, place_at};
 
 use crate::field_path::{FieldPath, put_line, put_path};
 use crate::text_sink::TextSink;
 use ber_core::Sink;
-use ill_read::{LeafType, Mark, is_octet, is_set, leading_octets, number_in};
+use ill_marks::{is_octet, is_set, leading_octets, number_in};
+use ill_read::{LeafType, Mark};
 use ill_schema::{
     Kind, LeafKind, NodeId, PartId, Presence, hexadecimal_digits, kind, number_name, row,
 };

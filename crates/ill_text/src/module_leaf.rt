@@ -8,7 +8,7 @@ ghost use Rattle.ill_grammar.specs.LeafTypes.{IsContentIn, module_leaf_is};
 ghost use Rattle.ill_read.specs.declared.mark.Mark.{Mark};
 ghost use Rattle.ill_schema.specs.Texts.{after_dot, hexadecimal, oid_components, oid_text, with_dots};
 ghost use Rattle.ill_text.specs.Shown.{content_text, leaf_text, line};
-ghost use Rattle.ill_read.specs.Marks.{leading_octets, octets_in};
+ghost use Rattle.ill_marks.specs.Marks.{leading_octets, octets_in};
 ghost use Rattle.ill_text.specs.code.Bits.{filled_text};
 ghost use Rattle.ill_text.specs.code.ObjectIdentifiers.{IsFirst, are_small, numbers_in};
 ghost use Rattle.ill_text.specs.code.Sending.{Adds, sending};
@@ -19,7 +19,8 @@ use crate::leaf::{put_escaped, put_quoted};
 use crate::text_sink::TextSink;
 use ber_core::Sink;
 use ill_grammar::ModuleLeaf;
-use ill_read::{Mark, leading_octets};
+use ill_marks::leading_octets;
+use ill_read::Mark;
 use ill_schema::hexadecimal_digits;
 use itoa::Buffer;
 

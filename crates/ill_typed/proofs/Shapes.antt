@@ -4,13 +4,13 @@ use Rattle.std.specs.Global.{Vec}
 use Rattle.ber_leaf.specs.Leaf.{Leaf, integer, enumerated, Holds as LeafHolds, normal_content}
 use Rattle.ber_leaf.specs.Profile.{profile_two}
 use Rattle.ber_leaf.specs.Simple.{Simple, whole}
-use Rattle.ill_schema.specs.declared.{node.Kind.Kind, node.NodeId.NodeId, part.Presence.Presence, part.Row.Row}
-use Rattle.ill_schema.specs.declared.node.NodeId.TheVariants.{Integer, Enumerated}
+use Rattle.ill_tables.specs.declared.{node.Kind.Kind, node.NodeId.NodeId, part.Presence.Presence, part.Row.Row}
+use Rattle.ill_tables.specs.declared.node.NodeId.TheVariants.{Integer, Enumerated}
 use Rattle.ill_schema.specs.declared.value.Value.{Value, Seq, List as ListOf, Alt}
 use Rattle.ill_schema.specs.Content.{Content, simple, sequence, list, alternative, foreign, Items, no_items, item}
 use Rattle.ill_schema.specs.Fits.{Fits, FitRows, FitItems}
 use Rattle.ill_schema.specs.Presence.{IsCarried, MayLack}
-use Rattle.ill_schema.specs.Table.{kind_of, rows_of}
+use Rattle.ill_tables.specs.Table.{kind_of, rows_of}
 use Rattle.ill_schema.specs.Tagging.{leaf_of}
 use Rattle.ill_schema.specs.Value.{content_of, entries_of, items_of}
 use Rattle.ill_schema.proofs.Contents.{content_of-Seq, content_of-List, content_of-Alt}

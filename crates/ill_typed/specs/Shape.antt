@@ -6,11 +6,12 @@ use Rattle.ber_leaf.specs.declared.text.ill_string.IllString.{IllString}
 use Rattle.ber_leaf.specs.Profile.{profile_two}
 use Rattle.ber_leaf.specs.Simple.{flag, whole, date, time, printable}
 use Rattle.ber_leaf.specs.Strings.{string_value}
-use Rattle.ill_schema.specs.declared.{node.Kind.Kind, node.LeafKind.LeafKind, node.NodeId.NodeId, part.Presence.Presence, part.Row.Row, value.Value.Value}
-use Rattle.ill_schema.specs.declared.node.NodeId.TheVariants.{Integer, Expired}
+use Rattle.ill_tables.specs.declared.{node.Kind.Kind, node.LeafKind.LeafKind, node.NodeId.NodeId, part.Presence.Presence, part.Row.Row}
+use Rattle.ill_schema.specs.declared.{value.Value.Value}
+use Rattle.ill_tables.specs.declared.node.NodeId.TheVariants.{Integer, Expired}
 use Rattle.ill_schema.specs.Content.{Content, simple, sequence, list, alternative, Items, no_items, item}
 use Rattle.ill_schema.specs.Fits.{Fits}
-use Rattle.ill_schema.specs.Table.{kind_of, rows_of}
+use Rattle.ill_tables.specs.Table.{kind_of, rows_of}
 use Rattle.ill_schema.specs.Value.{content_of, entries_of, items_of}
 
 -- the contents of leaves

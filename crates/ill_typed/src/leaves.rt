@@ -3,7 +3,7 @@ ghost use Rattle.std.specs.Prelude.{◌≡◌};
 ghost use Rattle.ber_leaf.specs.Profile.{profile_two};
 ghost use Rattle.ill_schema.specs.Fits.{Fits};
 ghost use Rattle.ill_schema.specs.Value.{content_of};
-ghost use Rattle.ill_schema.specs.declared.node.NodeId.TheVariants.{Integer};
+ghost use Rattle.ill_tables.specs.declared.node.NodeId.TheVariants.{Integer};
 ghost use Rattle.ill_typed.specs.Shape.{number_content};
 
 use crate::part::Part;
@@ -12,7 +12,7 @@ use ill_schema::Value;
 use std::alloc::{AllocError, Global};
 
 impl Part for bool {
-    ghost use Rattle.ill_schema.specs.declared.node.NodeId.TheVariants.{Boolean};
+    ghost use Rattle.ill_tables.specs.declared.node.NodeId.TheVariants.{Boolean};
     ghost use Rattle.ill_typed.specs.Shape.{Is, flag_content};
 
     ghost content = { flag_content };
@@ -36,7 +36,7 @@ impl Part for bool {
 }
 
 impl Part for i64 {
-    ghost use Rattle.ill_schema.specs.declared.node.NodeId.TheVariants.{Integer};
+    ghost use Rattle.ill_tables.specs.declared.node.NodeId.TheVariants.{Integer};
     ghost use Rattle.ill_typed.specs.Shape.{Is, number_content};
 
     ghost content = { number_content };
@@ -60,7 +60,7 @@ impl Part for i64 {
 }
 
 impl Part for DateText {
-    ghost use Rattle.ill_schema.specs.declared.node.NodeId.TheVariants.{IsoDate};
+    ghost use Rattle.ill_tables.specs.declared.node.NodeId.TheVariants.{IsoDate};
     ghost use Rattle.ill_typed.specs.Shape.{Is, date_content};
 
     ghost content = { date_content };
@@ -84,7 +84,7 @@ impl Part for DateText {
 }
 
 impl Part for TimeText {
-    ghost use Rattle.ill_schema.specs.declared.node.NodeId.TheVariants.{IsoTime};
+    ghost use Rattle.ill_tables.specs.declared.node.NodeId.TheVariants.{IsoTime};
     ghost use Rattle.ill_typed.specs.Shape.{Is, time_content};
 
     ghost content = { time_content };
@@ -108,7 +108,7 @@ impl Part for TimeText {
 }
 
 impl Part for PrintableText {
-    ghost use Rattle.ill_schema.specs.declared.node.NodeId.TheVariants.{PrintableString};
+    ghost use Rattle.ill_tables.specs.declared.node.NodeId.TheVariants.{PrintableString};
     ghost use Rattle.ill_typed.specs.Shape.{Is, printable_content};
 
     ghost content = { printable_content };
@@ -132,7 +132,7 @@ impl Part for PrintableText {
 }
 
 impl Part for IllString {
-    ghost use Rattle.ill_schema.specs.declared.node.NodeId.TheVariants.{IllString as StringNode};
+    ghost use Rattle.ill_tables.specs.declared.node.NodeId.TheVariants.{IllString as StringNode};
     ghost use Rattle.ill_typed.specs.Shape.{Is, string_content};
 
     ghost content = { string_content };

@@ -1,10 +1,10 @@
 //! The traits of typed parts: they are written as values and read from them.
 ghost use Rattle.std.specs.Prelude.{◌≡◌, ◌↔◌, ◌⊎◌, ◌++◌, IfOk, IfErr, OnOk, IsTrue, List, [], map, Option, option_map, MatchOption, Ok, Err};
 ghost use Rattle.ber_leaf.specs.Profile.{profile_two};
-ghost use Rattle.ill_schema.specs.declared.node.NodeId.{NodeId};
+ghost use Rattle.ill_tables.specs.declared.node.NodeId.{NodeId};
 ghost use Rattle.ill_schema.specs.Content.{Content};
 ghost use Rattle.ill_schema.specs.Fits.{Fits};
-ghost use Rattle.ill_schema.specs.Table.{kind_of, rows_of};
+ghost use Rattle.ill_tables.specs.Table.{kind_of, rows_of};
 ghost use Rattle.ill_schema.specs.Value.{content_of};
 ghost use Rattle.ill_typed.specs.Shape.{Is, Must, May, RowsHold, record_of, option_of, entry_at, AreReady, AreBuilt, entries_from, AltHolds};
 

@@ -7,10 +7,10 @@ use Rattle.ber_core.specs.Tree.{Tree, Trees, primitive, constructed, none, more}
 use Rattle.ber_leaf.specs.Leaf.{normal_content}
 use Rattle.ber_leaf.specs.Profile.{profile_two}
 use Rattle.ber_leaf.specs.Simple.{Simple}
-use Rattle.ill_schema.specs.declared.node.NodeId.{NodeId}
+use Rattle.ill_tables.specs.declared.node.NodeId.{NodeId}
 use Rattle.ill_schema.specs.Content.{Content, simple}
 use Rattle.ill_schema.specs.Elements.{tag_at, joined, element_tag, element_tree}
-use Rattle.ill_schema.specs.Table.{kind_of}
+use Rattle.ill_tables.specs.Table.{kind_of}
 use Rattle.ill_schema.proofs.Trees.{sizes-joined, simple_tree}
 use Rattle.ill_write.specs.ContentSizes.{content_sizes, all_content_sizes}
 use Rattle.ill_write.specs.code.Measured.{Measures, MeasuresOne}

@@ -4,13 +4,13 @@ use Rattle.ber_core.specs.Der.{size}
 use Rattle.ber_core.proofs.Encodings.{length-encoding}
 use Rattle.ber_leaf.specs.Profile.{profile_two}
 use Rattle.ill_schema.specs.declared.message.Message.{Message}
-use Rattle.ill_schema.specs.declared.node.NodeId.TheVariants.{IllApdu}
-use Rattle.ill_schema.specs.declared.part.Row.{Row}
+use Rattle.ill_tables.specs.declared.node.NodeId.TheVariants.{IllApdu}
+use Rattle.ill_tables.specs.declared.part.Row.{Row}
 use Rattle.ill_schema.specs.Apdu.{normal_form}
 use Rattle.ill_schema.specs.Content.{Content}
 use Rattle.ill_schema.specs.Elements.{row_tree}
 use Rattle.ill_schema.specs.Message.{apdu_of}
-use Rattle.ill_schema.specs.Table.{rows_of}
+use Rattle.ill_tables.specs.Table.{rows_of}
 use Rattle.ill_schema.proofs.Trees.{chosen_tree}
 use Rattle.ill_write.specs.ContentSizes.{tree_of}
 

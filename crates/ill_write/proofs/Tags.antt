@@ -6,13 +6,13 @@ use Rattle.std.proofs.lemmas.Bool.{and_parts}
 use Rattle.ber_core.specs.declared.id.Class.{Class}
 use Rattle.ber_core.specs.Identifier.{HasIdentifier}
 use Rattle.ber_leaf.specs.Leaf.{Leaf, boolean, integer, enumerated, general_string, visible_string, printable_string, iso_date, iso_time, null_type, object_identifier, octet_string, bit_string, object_descriptor}
-use Rattle.ill_schema.specs.declared.node.Kind.{Kind}
-use Rattle.ill_schema.specs.declared.node.NodeId.{NodeId}
-use Rattle.ill_schema.specs.declared.node.NodeId.TheVariants.{Boolean}
-use Rattle.ill_schema.specs.declared.part.Row.{Row}
+use Rattle.ill_tables.specs.declared.node.Kind.{Kind}
+use Rattle.ill_tables.specs.declared.node.NodeId.{NodeId}
+use Rattle.ill_tables.specs.declared.node.NodeId.TheVariants.{Boolean}
+use Rattle.ill_tables.specs.declared.part.Row.{Row}
 use Rattle.ill_schema.specs.Content.{Content, simple, sequence, list, alternative, foreign}
 use Rattle.ill_schema.specs.Elements.{element_tag, own_number}
-use Rattle.ill_schema.specs.Table.{kind_of, rows_of}
+use Rattle.ill_tables.specs.Table.{kind_of, rows_of}
 use Rattle.ill_schema.specs.Tagging.{leaf_of, leaf_tag, universal}
 use Rattle.ill_write.specs.code.Valid.{is_universal, is_valid, is_valid_tag, is_valid_place}
 

@@ -22,7 +22,7 @@ use Rattle.ber_leaf.specs.declared.text.ill_string.IllString.TheVariants.{Genera
 use Rattle.std.specs.Prelude.{IsErr}
 use Rattle.ber_core.specs.declared.source.Broken.{Broken}
 use Rattle.ill_write.specs.declared.buffered_sink.BufferedSink.{BufferedSink}
-use Rattle.ill_schema.specs.declared.part.Row.{Row}
+use Rattle.ill_tables.specs.declared.part.Row.{Row}
 use Rattle.ill_schema.specs.declared.value.Value.{Value}
 
 pub next_left : (all : List ℕ) (at : ℕ) (xs ys : List ℕ) → NextAre all at (xs ++ ys) → NextAre all at xs

@@ -3,7 +3,7 @@ use Rattle.std.specs.Prelude.{ℕ, List, [], ◌∷◌, ◌++◌}
 use Rattle.ber_core.specs.Der.{sizes}
 use Rattle.ber_core.specs.Tree.{Tree, Trees, primitive, constructed, none, more}
 use Rattle.ill_schema.specs.declared.message.Message.{Message}
-use Rattle.ill_schema.specs.declared.node.NodeId.TheVariants.{IllApdu}
+use Rattle.ill_tables.specs.declared.node.NodeId.TheVariants.{IllApdu}
 use Rattle.ill_schema.specs.Apdu.{choice_of}
 use Rattle.ill_schema.specs.Message.{apdu_of}
 use Rattle.ill_schema.specs.Normal.{normal_tree}

@@ -6,7 +6,7 @@ ghost use Rattle.ber_core.specs.Identifier.{HasIdentifier};
 ghost use Rattle.ber_leaf.specs.Profile.{profile_two};
 ghost use Rattle.ill_schema.specs.Elements.{own_number, element_tag, tag_at};
 ghost use Rattle.ill_schema.specs.Message.{apdu_of};
-ghost use Rattle.ill_schema.specs.Table.{kind_of, rows_of};
+ghost use Rattle.ill_tables.specs.Table.{kind_of, rows_of};
 ghost use Rattle.ill_schema.specs.Value.{content_of};
 
 use ber_core::{Class, Id, header_size, universal};

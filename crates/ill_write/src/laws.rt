@@ -3,7 +3,7 @@ ghost use Rattle.std.specs.Prelude.{◌≡◌, Some};
 ghost use Rattle.ill_schema.specs.Apdu.{Apdu, normal_form};
 ghost use Rattle.ill_schema.specs.Names.{apdu_node_of};
 ghost use Rattle.ill_schema.specs.Sizes.{node_form};
-ghost use Rattle.ill_schema.specs.declared.node.NodeId.{NodeId};
+ghost use Rattle.ill_tables.specs.declared.node.NodeId.{NodeId};
 
 /// The size that `ill_schema::normal_size` counts at the node of an APDU's body is that of the normal form of the
 /// APDU, which [`Sizes::total`](crate::Sizes::total) returns.

@@ -8,7 +8,7 @@ ghost use Rattle.ber_leaf.specs.Profile.{profile_two};
 ghost use Rattle.ber_leaf.specs.Strings.{string_value};
 ghost use Rattle.ill_schema.specs.Elements.{tag_at, row_tree, element_tree, place_trees, item_trees};
 ghost use Rattle.ill_schema.specs.Normal.{normal_trees, normal_items};
-ghost use Rattle.ill_schema.specs.Table.{rows_of};
+ghost use Rattle.ill_tables.specs.Table.{rows_of};
 ghost use Rattle.ill_schema.specs.Value.{content_of, entries_content, items_content};
 ghost use Rattle.ill_write.specs.code.Measured.{Measures, MeasuresOne};
 ghost use Rattle.ill_write.specs.code.Valid.{is_valid, is_valid_tag, is_valid_place};

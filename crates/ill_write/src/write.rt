@@ -4,7 +4,7 @@ ghost use Rattle.ber_core.specs.Der.{encoding, encodings, size, sizes};
 ghost use Rattle.ber_leaf.specs.Profile.{profile_two};
 ghost use Rattle.ill_schema.specs.Elements.{row_tree, element_tree, place_trees, item_trees};
 ghost use Rattle.ill_schema.specs.Normal.{normal_trees, normal_items};
-ghost use Rattle.ill_schema.specs.Table.{rows_of};
+ghost use Rattle.ill_tables.specs.Table.{rows_of};
 ghost use Rattle.ill_schema.specs.Value.{content_of, entries_content, items_content};
 ghost use Rattle.ill_write.specs.code.NextAre.{NextAre};
 ghost use Rattle.ill_write.specs.ContentSizes.{content_sizes, all_content_sizes};

@@ -1,8 +1,8 @@
 -- How many octets were taken of a known input.
 use Rattle.std.proofs.Common.{◌+◌, ◌≤◌, ℕ, Bool, List, length, Some, ap, arith, length-append}
 use Rattle.std.specs.Io.KnownBytes.{Consumes}
-use Rattle.ill_normal.specs.Inputs.{IsUnread}
-use Rattle.ill_normal.specs.declared.run_fault.RunFault.{RunFault}
+use Rattle.ill_inputs.specs.Inputs.{IsUnread}
+use Rattle.ill_inputs.specs.declared.run_fault.RunFault.{RunFault}
 
 pub bounded : (n : ℕ) (s t b : List ℕ) → Consumes (Some s) (Some t) b → length b ≤ n → length s ≤ n + length t
 bounded n s t b h l = omega (arith, ap length h, length-append b t, l)

@@ -7,8 +7,8 @@ use Rattle.ill_schema.specs.Profiles.{profile_of}
 use Rattle.ill_schema.proofs.Streams.{parts_accept, spells_some, stream_fewer}
 use Rattle.ill_refusals.specs.Fault.{Fault, fault_of}
 use Rattle.ill_refusals.specs.Outcome.{OnlyRefuses}
-use Rattle.ill_normal.specs.Inputs.{IsResourceFault}
-use Rattle.ill_normal.specs.declared.run_fault.RunFault.{RunFault}
+use Rattle.ill_inputs.specs.Inputs.{IsResourceFault}
+use Rattle.ill_inputs.specs.declared.run_fault.RunFault.{RunFault}
 use Rattle.std.specs.Prelude.{IfErr, IfOk}
 use Rattle.ill_dump.specs.declared.run.DumpOptions.{DumpOptions}
 use Rattle.ill_dump.specs.Dumped.{AreDumped, DumpDone, DumpFails, DumpsUpTo, IsLastDumped, DumpStopsIn}

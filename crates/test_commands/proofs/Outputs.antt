@@ -9,17 +9,17 @@ use Rattle.ill_schema.proofs.Streams.{accepts_once, parts_accept, tails, take_fr
 use Rattle.ill_normal.specs.Calls.{taking, putting}
 use Rattle.ill_normal.specs.Messages.{AreSpelledIn, Spelling, first, output_from}
 use Rattle.ill_normal.specs.declared.messages.MessagePlace.{MessagePlace}
-use Rattle.ill_normal.specs.Hexadecimal.{hex_octets}
+use Rattle.ill_inputs.specs.Hexadecimal.{hex_octets}
 use Rattle.ill_commands.specs.Output.{message_output, message_text}
-use Rattle.ill_normal.specs.Inputs.{FailsText, IsResourceFault, TextOf}
+use Rattle.ill_inputs.specs.Inputs.{FailsText, IsResourceFault, TextOf}
 use Rattle.ill_commands.specs.Runs.{Done, IsUnnamed, JobDone, JobFails, RunFails, JobStopsAfter, WritesMessages}
-use Rattle.ill_normal.specs.declared.run_fault.RunFault.{RunFault}
+use Rattle.ill_inputs.specs.declared.run_fault.RunFault.{RunFault}
 use Rattle.ill_commands.specs.declared.job.Counts.{Counts}
 use Rattle.ill_commands.specs.declared.job.Job.{Job}
-use Rattle.ill_normal.specs.declared.verdict.Verdict.{Verdict}
+use Rattle.ill_inputs.specs.declared.verdict.Verdict.{Verdict}
 use Rattle.ill_commands.specs.declared.job.JobOptions.{JobOptions}
 use Rattle.ill_commands.proofs.JobAnswers.{one_reading, same_spelling, taken_of}
-use Rattle.ill_normal.proofs.HexAnswers.{is_fault, not_both, same_octets, same_ok}
+use Rattle.ill_inputs.proofs.HexAnswers.{is_fault, not_both, same_octets, same_ok}
 
 -- as many messages at the front of an input are the same ones
 same_front : (p : Profile) (s r t : List ℕ) (ms ns : List Spelling) → AreSpelledIn p s ms r → AreSpelledIn p s ns t → length ms ≡ length ns → ms ≡ ns

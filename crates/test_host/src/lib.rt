@@ -1,8 +1,14 @@
-//! A runtime for tests of the program. It is in a crate of its own, so that it is proved beside the program and not after it.
+//! A runtime for tests of the program, and runs of it in a folder with files. They are in a crate of their own, so that they are proved
+//! beside the program and not after it.
 #![tactic(auto)]
 
 mod fake;
 mod folders;
+mod runs;
 
 pub use fake::{Ended, Fake, FakeFile, Faults, NO_FAULTS, Start};
 pub use folders::folder;
+pub use runs::{
+    BEFORE, EXPIRED, INDEFINITE, Octets, Program, QUIET, Row, comes_true, enter, first_wrong,
+    holds, leave, run, run_line,
+};

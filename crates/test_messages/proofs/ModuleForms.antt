@@ -3,12 +3,12 @@ use Rattle.std.proofs.Common.{ℕ, ◌≤◌, length, None, refl, lit≤, slice_
 use Rattle.std.specs.Prelude.{unwrap_or}
 use Rattle.ber_leaf.specs.Leaf.{boolean, integer, enumerated, general_string, iso_date, null_type, object_identifier, octet_string, bit_string}
 use Rattle.ber_leaf.specs.Profile.{profile_three}
-use Rattle.ill_schema.specs.declared.node.NodeId.{NodeId}
-use Rattle.ill_schema.specs.declared.node.NodeId.TheVariants.{Integer, IsoDate, TransactionId, ServiceDateTime, ObjectIdentifier, Encoding, EDeliveryDetails, Externals, Extensions, ElectronicDeliveries, TaggedExternal, DamagedPortion, ModuleDeliveryService, ModuleResults, ModuleIllApdu}
-use Rattle.ill_schema.specs.declared.part.{Row.Row, Mode.Mode, Presence.Presence}
+use Rattle.ill_tables.specs.declared.node.NodeId.{NodeId}
+use Rattle.ill_tables.specs.declared.node.NodeId.TheVariants.{Integer, IsoDate, TransactionId, ServiceDateTime, ObjectIdentifier, Encoding, EDeliveryDetails, Externals, Extensions, ElectronicDeliveries, TaggedExternal, DamagedPortion, ModuleDeliveryService, ModuleResults, ModuleIllApdu}
+use Rattle.ill_tables.specs.declared.part.{Row.Row, Mode.Mode, Presence.Presence}
 use Rattle.ill_schema.specs.Apdu.{Apdu, normal_form_in}
 use Rattle.ill_schema.specs.Fits.{Fits, FitsApdu}
-use Rattle.ill_schema.specs.Table.{rows_of}
+use Rattle.ill_tables.specs.Table.{rows_of}
 use Rattle.ill_schema.specs.Worked.{number, service_date, transaction}
 use Rattle.ill_schema.proofs.Encodings.{normal_spells}
 use Rattle.test_messages.specs.Module.{IsModuleForm, arbitrary, damaged, day, extended, identifier, nested, octet_aligned, proposed, returned, supplied}

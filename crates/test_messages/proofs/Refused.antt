@@ -12,7 +12,7 @@ use Rattle.ill_read.specs.Answers.{ReadsNextIn}
 use Rattle.ill_read.specs.declared.failure.ReadFailure.{ReadFailure}
 use Rattle.ill_normal.specs.Compared.{RefusesSideIn}
 use Rattle.ill_normal.specs.Streamed.{PassesIn}
-use Rattle.ill_normal.specs.declared.compare.Side.{Side}
+use Rattle.ill_inputs.specs.declared.side.Side.{Side}
 use Rattle.ill_normal.specs.declared.failure.StreamFailure.{StreamFailure}
 use Rattle.ill_normal.proofs.Canonical.{refuses_once, refuses_whole}
 

@@ -2,11 +2,11 @@
 use Rattle.std.specs.Prelude.{ℕ, ◌+◌, Bool}
 use Rattle.ill_normal.specs.declared.messages.StreamError.{StreamError}
 use Rattle.ill_normal.specs.declared.messages.StreamErrorKind.{StreamErrorKind}
-use Rattle.ill_normal.specs.declared.run_fault.RunFault.{RunFault}
+use Rattle.ill_inputs.specs.declared.run_fault.RunFault.{RunFault}
 use Rattle.ill_commands.specs.declared.job.Counts.{Counts}
 use Rattle.ill_commands.specs.declared.job.Job.{Job}
-use Rattle.ill_normal.specs.declared.verdict.Verdict.{Verdict}
-use Rattle.ill_normal.specs.Inputs.{verdict_if}
+use Rattle.ill_inputs.specs.declared.verdict.Verdict.{Verdict}
+use Rattle.ill_inputs.specs.Inputs.{verdict_if}
 use Rattle.ill_commands.specs.Runs.{run_fault_at}
 
 -- after this many messages, and this many octets that were written

@@ -8,7 +8,7 @@ use Rattle.ill_normal.specs.Messages.{Spelling}
 use Rattle.ill_normal.specs.Skipping.{Reporting}
 use Rattle.ill_normal.specs.code.SkippingEnds.{HasSkipped}
 use Rattle.ill_normal.specs.declared.messages.MessagePlace.{MessagePlace}
-use Rattle.ill_normal.specs.declared.run_fault.RunFault.{RunFault}
+use Rattle.ill_inputs.specs.declared.run_fault.RunFault.{RunFault}
 use Rattle.ill_normal.specs.declared.visit.MessageCounts.{MessageCounts}
 use Rattle.ill_dump.specs.Dumped.{BreaksSink, BreaksSource, WritesDump, DumpsUpTo, DumpStopsIn}
 use Rattle.ill_dump.specs.declared.skipping.DumpCounts.{DumpCounts}

@@ -1,10 +1,10 @@
 -- The fault that follows from a failure to read a message.
 use Rattle.std.specs.Prelude.{◌≡◌, ℕ}
-use Rattle.ill_normal.specs.declared.input_end.EndError.{EndError}
+use Rattle.ill_inputs.specs.declared.input_end.EndError.{EndError}
 use Rattle.ill_normal.specs.declared.next_message.TakeError.{TakeError}
 use Rattle.ill_read.specs.declared.failure.ReadFailure.{ReadFailure}
-use Rattle.ill_normal.specs.Inputs.{IsResourceFault}
-use Rattle.ill_normal.specs.declared.run_fault.RunFault.{RunFault}
+use Rattle.ill_inputs.specs.Inputs.{IsResourceFault}
+use Rattle.ill_inputs.specs.declared.run_fault.RunFault.{RunFault}
 
 -- message i was refused, or memory, the source or the sink failed
 abbrev pub FollowsFrom : ℕ → ReadFailure → RunFault → Type 0

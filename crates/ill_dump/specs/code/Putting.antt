@@ -1,7 +1,7 @@
 -- What a sink gets of the lines of a message.
 use Rattle.std.specs.Prelude.{◌≡◌, ℕ, Bool, true, false, nat_eq, List, ◌++◌, Option, Some, None}
 use Rattle.std.specs.Io.KnownBytes.{Appends}
-use Rattle.ill_normal.specs.declared.run_fault.RunFault.{RunFault}
+use Rattle.ill_inputs.specs.declared.run_fault.RunFault.{RunFault}
 
 -- the head that waited and then more was written; or the head waits still
 pub record Puts (held held' : Option (List ℕ)) (head head' : List ℕ) : Type 0 where

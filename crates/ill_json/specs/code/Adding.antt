@@ -3,12 +3,12 @@ use Rattle.std.specs.Prelude.{◌≡◌, ℕ, false, List, [], ◌∷◌, ◌++�
 use Rattle.json.specs.Token.{Token, begin_array, end_array, key, string, number, boolean}
 use Rattle.json.specs.Tree.{json_tokens}
 use Rattle.ill_schema.specs.Content.{Content}
-use Rattle.ill_schema.specs.declared.node.NodeId.{NodeId}
-use Rattle.ill_schema.specs.Names.{row_name, row_node}
+use Rattle.ill_tables.specs.declared.node.NodeId.{NodeId}
+use Rattle.ill_tables.specs.Names.{row_name, row_node}
 use Rattle.ill_schema.specs.Texts.{hexadecimal}
 use Rattle.ill_json.specs.Json.{value_json}
 use Rattle.ill_json.specs.declared.line.LineHead.{LineHead}
-use Rattle.ill_json.specs.declared.place.RefusalPlace.{RefusalPlace}
+use Rattle.ill_inputs.specs.declared.place.RefusalPlace.{RefusalPlace}
 use Rattle.ill_json.specs.declared.writing.LineWriter.{LineWriter}
 
 -- these tokens were put, unless memory was refused

@@ -1,7 +1,7 @@
 -- How far the lines are between two octets.
 use Rattle.std.specs.Prelude.{◌≡◌, ◌++◌, ◌&&◌, ℕ, Bool, false, List, [], codes, map, take, Option}
 use Rattle.std.specs.Io.KnownBytes.{Appends}
-use Rattle.ill_normal.specs.Hexadecimal.{hex_octets}
+use Rattle.ill_inputs.specs.Hexadecimal.{hex_octets}
 use Rattle.ill_lines.specs.Lines.{Answer, AreAnswers, IsResult, all_results_good, has_line_end, lines, result_lines}
 use Rattle.ill_lines.specs.declared.job.LineOptions.{LineOptions}
 use Rattle.ill_lines.specs.declared.lines.LineReader.{LineReader}

@@ -4,7 +4,7 @@ use Rattle.ber_leaf.specs.Profile.{Profile}
 use Rattle.ill_read.specs.declared.failure.ReadFailure.{ReadFailure}
 use Rattle.ill_normal.specs.declared.failure.NormalFailure.{NormalFailure}
 use Rattle.ill_normal.specs.declared.failure.StreamCause.{StreamCause}
-use Rattle.ill_normal.specs.declared.input_end.EndError.{EndError}
+use Rattle.ill_inputs.specs.declared.input_end.EndError.{EndError}
 use Rattle.ill_normal.specs.declared.messages.StreamCounts.{StreamCounts}
 use Rattle.ill_normal.specs.declared.messages.StreamError.{StreamError}
 use Rattle.ill_normal.specs.declared.messages.StreamErrorKind.{StreamErrorKind}

@@ -13,9 +13,9 @@ use Rattle.ill_schema.specs.Apdu.{Apdu, choice_of, Encodes, normal_form_in}
 use Rattle.ill_schema.specs.Causes.{cause_of}
 use Rattle.ill_schema.specs.Content.{Content, simple}
 use Rattle.ill_schema.specs.Content as content
-use Rattle.ill_schema.specs.Table.{rows_of}
+use Rattle.ill_tables.specs.Table.{rows_of}
 use Rattle.ill_schema.specs.Value.{entries_of, items_of}
-use Rattle.ill_schema.specs.declared.part.Row.{Row}
+use Rattle.ill_tables.specs.declared.part.Row.{Row}
 use Rattle.ill_refusals.specs.Fault.{fault, element_fault, fault_of}
 use Rattle.ill_grammar.specs.Places.{alternative_of}
 use Rattle.ill_grammar.specs.Due.{IsDueIn, behind, first_of, next_place, shape, shape_at, read_as, slot_in, due_with}

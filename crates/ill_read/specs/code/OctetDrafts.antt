@@ -11,7 +11,7 @@ use Rattle.ill_schema.specs.Apdu.{Apdu, normal_form_in}
 use Rattle.ill_schema.specs.Content.{Content}
 use Rattle.ill_schema.specs.Content as content
 use Rattle.ill_schema.specs.Normal.{normal_tree, normal_trees, normal_items}
-use Rattle.ill_schema.specs.Table.{rows_of}
+use Rattle.ill_tables.specs.Table.{rows_of}
 use Rattle.ill_schema.specs.Tagging.{untagged, sequence_tag}
 use Rattle.ill_schema.specs.Value.{entries_of, items_of}
 use Rattle.ill_grammar.specs.Due.{read_as}

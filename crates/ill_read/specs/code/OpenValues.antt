@@ -6,7 +6,7 @@ use Rattle.ber_core.specs.Tree.{Trees}
 use Rattle.ill_schema.specs.Content.{Content, alternative}
 use Rattle.ill_schema.specs.Content as content
 use Rattle.ill_schema.specs.Value.{content_of, entries_content, items_content}
-use Rattle.ill_schema.specs.declared.part.Row.{Row}
+use Rattle.ill_tables.specs.declared.part.Row.{Row}
 use Rattle.ill_schema.specs.declared.value.Value.{Value}
 use Rattle.ill_grammar.specs.Standing.{Level, level_of, IsHeld}
 use Rattle.ill_read.specs.Paths.{AreValues}

@@ -1,10 +1,10 @@
 -- What the draft of an outline holds of the elements that have been read.
 use Rattle.std.specs.Prelude.{◌≡◌, ℕ, Bool, true, false, List, [], ◌∷◌, ◌++◌, drop, map, Option, Some, None, slice_get}
 use Rattle.ber_core.specs.Identifier.{Tag}
-use Rattle.ill_schema.specs.declared.part.PartId.{PartId}
-use Rattle.ill_schema.specs.declared.part.Row.{Row}
+use Rattle.ill_tables.specs.declared.part.PartId.{PartId}
+use Rattle.ill_tables.specs.declared.part.Row.{Row}
 use Rattle.ill_schema.specs.Apdu.{Apdu, choice_of}
-use Rattle.ill_schema.specs.Table.{kind_of, rows_of}
+use Rattle.ill_tables.specs.Table.{kind_of, rows_of}
 use Rattle.ill_schema.specs.Value.{entries_of}
 use Rattle.ill_read.specs.Outline.{AreEntries, IsMarked, octets_marks}
 use Rattle.ill_grammar.specs.Standing.{Level}

@@ -1,7 +1,8 @@
 -- Which parts of a `Value` fit, in the final profile.
 use Rattle.std.specs.Prelude.{◌≡◌, List, Option, Some, None, slice_get}
 use Rattle.ber_leaf.specs.Profile.{profile_two}
-use Rattle.ill_schema.specs.declared.{node.Kind.Kind, node.LeafKind.LeafKind, part.Row.Row, value.Value.Value}
+use Rattle.ill_tables.specs.declared.{node.Kind.Kind, node.LeafKind.LeafKind, part.Row.Row}
+use Rattle.ill_schema.specs.declared.{value.Value.Value}
 use Rattle.ill_schema.specs.Fits.{Fits, FitRows, FitItems}
 use Rattle.ill_schema.specs.Presence.{IsCarried, MayLack}
 use Rattle.ill_schema.specs.Value.{content_of, entries_content, items_content}

@@ -1,6 +1,6 @@
 -- The octets of a field path.
 use Rattle.std.specs.Prelude.{ℕ, Bool, true, false, List, [], ◌∷◌, ◌++◌, codes, decimal}
-use Rattle.ill_schema.specs.declared.node.NodeId.{NodeId}
+use Rattle.ill_tables.specs.declared.node.NodeId.{NodeId}
 use Rattle.ill_text.specs.Shown.{Place, within}
 use Rattle.ill_text.specs.declared.field_path.FieldPath.{FieldPath, fold-FieldPath}
 use Rattle.ill_text.specs.declared.field_path.FieldPath.TheOpen.{FieldPath-F}

@@ -2,7 +2,7 @@
 use Rattle.std.specs.Prelude.{◌≡◌, ℕ, ◌-◌, ◌^◌, min, Bool, List, ◌∷◌, nat_lt}
 use Rattle.std.specs.List.{list_all}
 use Rattle.ill_read.specs.declared.mark.Mark.{Mark}
-use Rattle.ill_read.specs.Marks.{octets_in}
+use Rattle.ill_marks.specs.Marks.{octets_in}
 use Rattle.ill_schema.specs.Texts.{numbers_after}
 
 abbrev pub numbers_in : List Mark → List ℕ

@@ -1,15 +1,15 @@
 //! Outputs that are files with a mode, with more than one name, or with another file beside them.
-use super::runs::Octets::Repeated;
-use super::runs::{EXPIRED, INDEFINITE, enter, holds, leave, run};
+use super::program::Illcanon;
 use std::alloc::AllocError;
 use std::fs::{self, Permissions};
 use std::os::unix::fs::{MetadataExt, PermissionsExt, symlink};
 use std::test::Fail;
-use test_host::{Ended, Faults, NO_FAULTS, Start};
+use test_host::Octets::Repeated;
+use test_host::{EXPIRED, Ended, Faults, INDEFINITE, NO_FAULTS, Start, enter, holds, leave, run};
 
 fn canonicalise<'n>(rt: &HostRuntime, input: &'n [u8], output: &'n [u8]) -> Ended {
     let words: [&[u8]; 3] = [b"canonicalise", input, output];
-    run(
+    run::<Illcanon>(
         rt,
         Start {
             words: &words,
@@ -131,7 +131,7 @@ fn keeps_what_another_took(rt: &HostRuntime) -> Result<bool, Fail> {
         swapped: true,
         ..NO_FAULTS
     };
-    let ended = run(
+    let ended = run::<Illcanon>(
         rt,
         Start {
             words: &words,

@@ -1,7 +1,8 @@
 //! Results as lines of JSON.
-use super::runs::Octets::Text;
-use super::runs::{QUIET, Row, first_wrong};
+use super::program::Illcanon;
 use std::test::Fail;
+use test_host::Octets::Text;
+use test_host::{QUIET, Row, first_wrong};
 
 /// Results of messages, refused ones among them.
 static ROWS: [Row; 18] = [
@@ -145,7 +146,7 @@ static ROWS: [Row; 18] = [
 
 #[test]
 fn results_are_lines_of_json(rt: HostRuntime) -> Result<(), Fail> {
-    let wrong = first_wrong(&rt, &ROWS)?;
+    let wrong = first_wrong::<Illcanon>(&rt, &ROWS)?;
     assert!(rt; wrong.is_none(), "{wrong:?}");
     Ok(())
 }

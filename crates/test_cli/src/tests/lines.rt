@@ -1,8 +1,8 @@
 //! A result for each line.
-use super::runs::Octets::Text;
-use super::runs::{QUIET, Row, first_wrong, run_line};
+use super::program::Illcanon;
 use std::test::Fail;
-use test_host::{Faults, NO_FAULTS};
+use test_host::Octets::Text;
+use test_host::{Faults, NO_FAULTS, QUIET, Row, first_wrong, run_line};
 
 /// Lines: a message three times, in other spellings, two blank lines, and what is refused.
 const LINES: &[u8] = b"\
@@ -147,7 +147,7 @@ static ROWS: [Row; 10] = [
 
 #[test]
 fn each_line_has_its_result(rt: HostRuntime) -> Result<(), Fail> {
-    let wrong = first_wrong(&rt, &ROWS)?;
+    let wrong = first_wrong::<Illcanon>(&rt, &ROWS)?;
     assert!(rt; wrong.is_none(), "{wrong:?}");
     Ok(())
 }
@@ -158,7 +158,7 @@ fn has_result(rt: &HostRuntime, blanks: usize, want: &str) -> Result<bool, Fail>
     input.extend_from_slice(
         b"\n741f301d800102a10aa1031b0147a2031b0151a20ca00a80083230323430323239\n",
     )?;
-    let ended = run_line(rt, "check --lines -", &input)?;
+    let ended = run_line::<Illcanon>(rt, "check --lines -", &input)?;
     Ok(
         ended.status == 1
             && ended.errors.is_empty()

@@ -1,7 +1,8 @@
 //! Files that a list names.
-use super::runs::Octets::{Repeated, Text};
-use super::runs::{INDEFINITE, QUIET, Row, first_wrong};
+use super::program::Illcanon;
 use std::test::Fail;
+use test_host::Octets::{Repeated, Text};
+use test_host::{INDEFINITE, QUIET, Row, first_wrong};
 
 /// Lists by the names of their files. O is absent.
 static ROWS: [Row; 15] = [
@@ -108,7 +109,7 @@ static ROWS: [Row; 15] = [
 
 #[test]
 fn lists_name_files(rt: HostRuntime) -> Result<(), Fail> {
-    let wrong = first_wrong(&rt, &ROWS)?;
+    let wrong = first_wrong::<Illcanon>(&rt, &ROWS)?;
     assert!(rt; wrong.is_none(), "{wrong:?}");
     Ok(())
 }

@@ -1,9 +1,9 @@
 //! Names of files as they are printed, and words that are long.
-use super::runs::run;
+use super::program::Illcanon;
 use ill_files::FileName;
 use std::alloc::{AllocError, Global};
 use std::test::Fail;
-use test_host::{NO_FAULTS, Start};
+use test_host::{NO_FAULTS, Start, run};
 
 /// Names, and their form in a fault's line, as bash reads it back.
 static NAMES: [(&[u8], &[u8]); 13] = [
@@ -42,7 +42,7 @@ fn names_have_one_line(rt: HostRuntime) -> Result<(), Fail> {
 /// Runs `check` on a name that no file has.
 fn check_absent(rt: &HostRuntime, name: &[u8]) -> (u8, usize) {
     let words: [&[u8]; 2] = [b"check", name];
-    let ended = run(
+    let ended = run::<Illcanon>(
         rt,
         Start {
             words: &words,
@@ -68,7 +68,7 @@ fn words_are_read_whole(rt: HostRuntime) -> Result<(), Fail> {
 
 /// Tells whether a run on these words ends with this status, and prints this on standard error.
 fn ends_with(rt: &HostRuntime, words: &[&[u8]], status: u8, errors: &[u8]) -> bool {
-    let ended = run(
+    let ended = run::<Illcanon>(
         rt,
         Start {
             words,

@@ -1,8 +1,8 @@
 //! Outputs of normal forms: each is whole, or as it was.
-use super::runs::Octets::{Repeated, Text};
-use super::runs::{BEFORE, EXPIRED, INDEFINITE, QUIET, Row, first_wrong};
+use super::program::Illcanon;
 use std::test::Fail;
-use test_host::{Faults, NO_FAULTS};
+use test_host::Octets::{Repeated, Text};
+use test_host::{BEFORE, EXPIRED, Faults, INDEFINITE, NO_FAULTS, QUIET, Row, first_wrong};
 
 /// Commands with an output. O is absent, and `none` is no folder.
 static ROWS: [Row; 55] = [
@@ -397,7 +397,7 @@ static ROWS: [Row; 55] = [
 
 #[test]
 fn outputs_are_whole_or_as_they_were(rt: HostRuntime) -> Result<(), Fail> {
-    let wrong = first_wrong(&rt, &ROWS)?;
+    let wrong = first_wrong::<Illcanon>(&rt, &ROWS)?;
     assert!(rt; wrong.is_none(), "{wrong:?}");
     Ok(())
 }

@@ -1,7 +1,8 @@
 //! Commands in the module profile, and in profile 2 on the same messages.
-use super::runs::Octets::Text;
-use super::runs::{QUIET, Row, first_wrong};
+use super::program::Illcanon;
 use std::test::Fail;
+use test_host::Octets::Text;
+use test_host::{QUIET, Row, first_wrong};
 
 /// The file E: an EXPIRED with an extension, in normal form.
 const EXTENDED: &[u8] =
@@ -118,7 +119,7 @@ static ROWS: [Row; 18] = [
 
 #[test]
 fn each_command_reads_the_profile_that_is_named(rt: HostRuntime) -> Result<(), Fail> {
-    let wrong = first_wrong(&rt, &ROWS)?;
+    let wrong = first_wrong::<Illcanon>(&rt, &ROWS)?;
     assert!(rt; wrong.is_none(), "{wrong:?}");
     Ok(())
 }

@@ -1,7 +1,8 @@
 //! The line on a terminal that says how far the work is.
-use super::runs::Octets::{Repeated, Text};
-use super::runs::{QUIET, Row, first_wrong};
+use super::program::Illcanon;
 use std::test::Fail;
+use test_host::Octets::{Repeated, Text};
+use test_host::{QUIET, Row, first_wrong};
 
 /// Each file is read twice, its octets and then its end. A second goes by between two readings of the clock, so the first line is due
 /// at the second reading after the work begins. A has 33 octets, `first` 82. Shares, rates and times are rounded down.
@@ -52,7 +53,7 @@ static ROWS: [Row; 5] = [
 
 #[test]
 fn a_terminal_shows_how_far_the_work_is(rt: HostRuntime) -> Result<(), Fail> {
-    let wrong = first_wrong(&rt, &ROWS)?;
+    let wrong = first_wrong::<Illcanon>(&rt, &ROWS)?;
     assert!(rt; wrong.is_none(), "{wrong:?}");
     Ok(())
 }

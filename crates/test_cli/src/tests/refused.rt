@@ -1,8 +1,9 @@
 //! The file of refused messages.
-use super::runs::Octets::Text;
-use super::runs::{BEFORE, EXPIRED, Octets, QUIET, Row, comes_true, enter, holds, leave};
+use super::program::Illcanon;
 use std::fs;
 use std::test::Fail;
+use test_host::Octets::Text;
+use test_host::{BEFORE, EXPIRED, Octets, QUIET, Row, comes_true, enter, holds, leave};
 
 /// The content of R before each run.
 const OLD: &[u8] = b"old";
@@ -147,7 +148,7 @@ static ROWS: [Kept; 12] = [
 fn first_wrong_here(rt: &HostRuntime) -> Result<Option<&'static str>, Fail> {
     for kept in &ROWS {
         fs::write(rt, "R", OLD)?;
-        if !comes_true(rt, &kept.row)? || !holds(rt, "R", Text(kept.kept))? {
+        if !comes_true::<Illcanon>(rt, &kept.row)? || !holds(rt, "R", Text(kept.kept))? {
             return Ok(Some(kept.row.words));
         }
         if fs::exists(rt, "R.part")? {

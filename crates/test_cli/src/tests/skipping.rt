@@ -1,7 +1,8 @@
 //! Work that goes on after a message that is refused.
-use super::runs::Octets::{Begins, Text};
-use super::runs::{EXPIRED, QUIET, Row, first_wrong};
+use super::program::Illcanon;
 use std::test::Fail;
+use test_host::Octets::{Begins, Text};
+use test_host::{EXPIRED, QUIET, Row, first_wrong};
 
 /// Files with messages that are refused, and others.
 static ROWS: [Row; 23] = [
@@ -184,7 +185,7 @@ static ROWS: [Row; 23] = [
 
 #[test]
 fn work_goes_on_after_a_refused_message(rt: HostRuntime) -> Result<(), Fail> {
-    let wrong = first_wrong(&rt, &ROWS)?;
+    let wrong = first_wrong::<Illcanon>(&rt, &ROWS)?;
     assert!(rt; wrong.is_none(), "{wrong:?}");
     Ok(())
 }

@@ -4,8 +4,8 @@ ghost use Rattle.std.specs.Prelude.{◌≡◌, ℕ, List, [], length, false, Ok,
 ghost use Rattle.ill_schema.specs.Apdu.{Apdu, IsStream};
 ghost use Rattle.ill_schema.specs.Profiles.{profile_of};
 ghost use Rattle.ill_dump.specs.Dumped.{WritesDump};
-ghost use Rattle.ill_normal.specs.Inputs.{IsResourceFault};
-ghost use Rattle.ill_normal.specs.declared.run_fault.RunFault.{RunFault};
+ghost use Rattle.ill_inputs.specs.Inputs.{IsResourceFault};
+ghost use Rattle.ill_inputs.specs.declared.run_fault.RunFault.{RunFault};
 
 use ber_core::{Pieces, Room, Sink, Source, Unbuffered};
 use ill_commands::RunFault;

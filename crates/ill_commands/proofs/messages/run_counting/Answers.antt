@@ -1,5 +1,5 @@
 use Rattle.std.proofs.Common.{◌≡◌, ◌∙◌, true, false, sym, subst, rules}
-use Rattle.ill_normal.specs.Inputs.{TextOf}
+use Rattle.ill_inputs.specs.Inputs.{TextOf}
 use Rattle.ill_commands.proofs.TextAnswers.{plain_does, plain_refuses, plain_more, text_does, text_refuses, text_more}
 use Rattle.ill_commands.proofs.messages.run_counting.Goals as goal
 

@@ -4,7 +4,7 @@ use Rattle.std.proofs.lemmas.Result.{IfErr-weaker, IfOk-weaker}
 use Rattle.ill_normal.specs.Calls.{taking, putting}
 use Rattle.ill_normal.specs.Skipping.{reporting}
 use Rattle.ill_commands.specs.Skipping.{RunsSkipping, RunsSkippingFails}
-use Rattle.ill_normal.specs.Inputs.{TextOf}
+use Rattle.ill_inputs.specs.Inputs.{TextOf}
 use Rattle.ill_commands.proofs.skipping.run_skipping_peeking.Goals as goal
 
 pub returns-clause-done : goal.returns-clause-done

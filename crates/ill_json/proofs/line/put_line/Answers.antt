@@ -1,7 +1,7 @@
 use Rattle.std.proofs.Common.{◌≡◌, ◌∙◌, ◌-◌, [], ap, sym, append-nil, Some, None, drop}
 use Rattle.ill_schema.specs.Profiles.{profile_of}
-use Rattle.ill_read.specs.Marks.{alternative_in}
-use Rattle.ill_schema.specs.Names.{row_name, row_node}
+use Rattle.ill_marks.specs.Marks.{alternative_in}
+use Rattle.ill_tables.specs.Names.{row_name, row_node}
 use Rattle.ill_json.proofs.Added.{adds_as, adds_then}
 use Rattle.ill_json.proofs.Tokens.{line_same}
 use Rattle.ill_json.proofs.line.put_line.Goals as goal

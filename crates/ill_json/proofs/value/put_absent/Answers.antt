@@ -1,5 +1,5 @@
 use Rattle.std.proofs.Common.{◌≡◌, ◌∙◌, sym, true, false, rules}
-use Rattle.ill_schema.specs.Names.{row_node}
+use Rattle.ill_tables.specs.Names.{row_node}
 use Rattle.ill_json.proofs.Added.{adds_as, adds_nothing, adds_then}
 use Rattle.ill_json.proofs.Tokens.{entry_default, entry_nothing}
 use Rattle.ill_json.proofs.value.put_absent.Goals as goal

@@ -5,7 +5,8 @@ use Rattle.std.proofs.lemmas.Slice.Eq.{slice_eq-Decides}
 use Rattle.ill_schema.specs.Apdu.{normal_form_in}
 use Rattle.ill_schema.specs.Profiles.{profile_of}
 use Rattle.ill_normal.proofs.NormalTest.{tests_equality}
-use Rattle.ill_schema.specs.Names.{apdu_name_in, name_or_none}
+use Rattle.ill_tables.specs.Names.{name_or_none}
+use Rattle.ill_schema.specs.Names.{apdu_name_in}
 use Rattle.ill_normal.specs.CheckWords.{check_words}
 use Rattle.ill_lines.proofs.result.check_result.Goals as goal
 

@@ -1,5 +1,5 @@
 use Rattle.std.proofs.Common.{◌≡◌, ◌++◌, [], sym, ap, ◌∙◌, subst, map, Ok, List, Option, rules}
-use Rattle.ill_schema.specs.declared.part.Row.{Row}
+use Rattle.ill_tables.specs.declared.part.Row.{Row}
 use Rattle.ill_schema.specs.Content.{Content}
 use Rattle.ill_typed.specs.Shape.{AreBuilt, AreReady, head_rows, other_rows, record_of}
 use Rattle.ill_parts.specs.Views.{headed}

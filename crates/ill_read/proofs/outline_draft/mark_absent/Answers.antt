@@ -1,5 +1,5 @@
 use Rattle.std.proofs.Common.{◌<◌, arith, length, min}
-use Rattle.ill_schema.specs.Table.{rows_of}
+use Rattle.ill_tables.specs.Table.{rows_of}
 use Rattle.ill_read.proofs.Outlines.{passed_more}
 use Rattle.ill_read.proofs.outline_draft.mark_absent.Goals as goal
 

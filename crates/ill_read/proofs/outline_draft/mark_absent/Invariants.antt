@@ -1,5 +1,5 @@
 use Rattle.std.proofs.Common.{[], ◌<◌, ◌≤◌, drop, length, min, take}
-use Rattle.ill_schema.specs.Table.{rows_of}
+use Rattle.ill_tables.specs.Table.{rows_of}
 use Rattle.ill_read.specs.code.Outlines.{HasAbsent}
 use Rattle.ill_read.proofs.outline_draft.mark_absent.Given as goal
 

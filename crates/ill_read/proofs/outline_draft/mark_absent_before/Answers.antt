@@ -1,7 +1,7 @@
 use Rattle.std.proofs.Common.{◌∙◌, ◌++◌, [], ◌∷◌, append_assoc, ap, drop, min, subst, subst₂, sym, take}
 use Rattle.std.proofs.lemmas.List.{take_min}
 use Rattle.std.proofs.lemmas.Result.{IfOk-weaker}
-use Rattle.ill_schema.specs.Table.{rows_of}
+use Rattle.ill_tables.specs.Table.{rows_of}
 use Rattle.ill_read.specs.code.Drafts.{rows_before}
 use Rattle.ill_read.specs.code.Outlines.{AreAbsent, HasAbsent, start_marks}
 use Rattle.ill_read.specs.declared.mark.Mark.TheVariants as mark

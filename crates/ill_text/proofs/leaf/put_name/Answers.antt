@@ -1,6 +1,6 @@
 use Rattle.std.proofs.Common.{Some, sym, ap, ◌∙◌, ℤ, rules, FitsSigned, w64}
 use Rattle.std.proofs.lemmas.Int.{to_z-of_z}
-use Rattle.ill_schema.specs.Numbers.{number_name}
+use Rattle.ill_tables.specs.Numbers.{number_name}
 use Rattle.ill_text.specs.Shown.{in_brackets}
 use Rattle.ill_text.proofs.Sent.{adds_as, adds_nothing, adds_then}
 use Rattle.ill_text.proofs.leaf.put_name.Goals as goal

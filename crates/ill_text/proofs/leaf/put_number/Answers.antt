@@ -1,7 +1,7 @@
 use Rattle.std.proofs.Common.{◌≡◌, ◌∙◌, ◌++◌, ap, ap₂, List, ℕ, ℤ, codes, rules, FitsSigned, w64}
 use Rattle.std.specs.Fmt.{signed_decimal}
 use Rattle.std.proofs.lemmas.Int.{to_z-of_z}
-use Rattle.ill_schema.specs.Numbers.{number_name}
+use Rattle.ill_tables.specs.Numbers.{number_name}
 use Rattle.ill_text.specs.Shown.{in_brackets}
 use Rattle.ill_text.specs.code.FieldPaths.{path_of}
 use Rattle.ill_text.proofs.Lines.{line_join}

@@ -1,6 +1,6 @@
 use Rattle.std.proofs.Common.{◌≡◌, ℕ, ◌-◌, ◌^◌, min, List, drop}
 use Rattle.ill_read.specs.declared.mark.Mark.{Mark}
-use Rattle.ill_read.specs.Marks.{octets_in}
+use Rattle.ill_marks.specs.Marks.{octets_in}
 use Rattle.ill_schema.specs.Texts.{numbers_after}
 use Rattle.ill_text.specs.code.ObjectIdentifiers.{numbers_in}
 use Rattle.ill_text.proofs.module_leaf.first_number.Given as goal

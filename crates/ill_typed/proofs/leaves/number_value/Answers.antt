@@ -2,7 +2,7 @@ use Rattle.std.proofs.Common.{rules}
 use Rattle.ber_leaf.specs.Profile.{profile_two}
 use Rattle.ber_leaf.specs.Simple.{whole}
 use Rattle.ill_schema.specs.Fits.{FitsSimple}
-use Rattle.ill_schema.specs.declared.node.NodeId.TheVariants.{Integer}
+use Rattle.ill_tables.specs.declared.node.NodeId.TheVariants.{Integer}
 use Rattle.ill_schema.proofs.Contents.{content_of-Whole}
 use Rattle.ill_schema.proofs.LeafFits.{whole_fits}
 use Rattle.ill_typed.proofs.leaves.number_value.Goals as goal

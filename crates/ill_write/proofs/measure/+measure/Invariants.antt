@@ -2,7 +2,7 @@ use Rattle.std.proofs.Common.{◌≡◌, ◌+◌, ◌++◌, drop}
 use Rattle.ill_schema.specs.Value.{entries_content, items_content}
 use Rattle.ill_schema.specs.Normal.{normal_trees, normal_items}
 use Rattle.ber_core.specs.Der.{sizes}
-use Rattle.ill_schema.specs.Table.{rows_of}
+use Rattle.ill_tables.specs.Table.{rows_of}
 use Rattle.ill_write.specs.ContentSizes.{all_content_sizes}
 use Rattle.ill_write.proofs.measure.+measure.Given as goal
 

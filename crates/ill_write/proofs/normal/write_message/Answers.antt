@@ -1,6 +1,6 @@
 use Rattle.std.proofs.Common.{◌-◌, [], Ok, append-nil, sym, subst, ap}
 use Rattle.ber_core.specs.Der.{encoding}
-use Rattle.ill_schema.specs.declared.node.NodeId.TheVariants.{IllApdu}
+use Rattle.ill_tables.specs.declared.node.NodeId.TheVariants.{IllApdu}
 use Rattle.ill_schema.specs.Apdu.{normal_form}
 use Rattle.ill_schema.specs.Message.{apdu_of}
 use Rattle.ill_write.specs.code.Puts.{Puts}

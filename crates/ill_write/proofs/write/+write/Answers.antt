@@ -5,7 +5,7 @@ use Rattle.ber_leaf.specs.Strings.{string_value}
 use Rattle.ill_schema.specs.Value.{content_of, entries_content, items_content}
 use Rattle.ill_schema.specs.Normal.{normal_trees, normal_items}
 use Rattle.ber_core.specs.Der.{encoding, encodings, size, sizes}
-use Rattle.ill_schema.specs.Table.{kind_of, rows_of}
+use Rattle.ill_tables.specs.Table.{kind_of, rows_of}
 use Rattle.ill_schema.proofs.Contents.{content_of-Flag, content_of-Whole, content_of-Date, content_of-Time, content_of-Print, content_of-Str, content_of-Seq, content_of-List, content_of-Alt}
 use Rattle.ill_schema.specs.Elements.{tag_at, row_tree, element_tree, element_tag, place_trees, item_trees}
 use Rattle.ill_write.specs.ContentSizes.{content_sizes, all_content_sizes}

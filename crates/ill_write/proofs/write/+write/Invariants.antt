@@ -1,6 +1,6 @@
 use Rattle.std.proofs.Common.{IsTrue, drop}
 use Rattle.ill_schema.specs.Normal.{normal_trees, normal_items}
-use Rattle.ill_schema.specs.Table.{rows_of}
+use Rattle.ill_tables.specs.Table.{rows_of}
 use Rattle.ill_schema.specs.Value.{entries_content, items_content}
 use Rattle.ill_write.proofs.Writing.{Reached}
 use Rattle.ill_write.proofs.write.+write.Given as goal

@@ -1,7 +1,7 @@
 use Rattle.std.proofs.Common.{◌≢◌, ℕ, rules, sym, ap, ◌∙◌}
 use Rattle.ill_schema.specs.Message.{apdu_of}
 use Rattle.ill_schema.specs.Names.{apdu_node_of}
-use Rattle.ill_schema.specs.declared.node.NodeId.{NodeId}
+use Rattle.ill_tables.specs.declared.node.NodeId.{NodeId}
 use Rattle.ill_apdu.proofs.Apdus.{body_is, is_in, view_is}
 use Rattle.ill_apdu.proofs.apdu.Apdu.from_message.Goals as goal
 

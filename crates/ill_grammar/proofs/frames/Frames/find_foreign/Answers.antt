@@ -1,8 +1,8 @@
 use Rattle.std.proofs.Common.{◌≡◌, ◌<◌, ℕ, Bool, true, length, refl, sym, ap, subst, arith, IsTrue, IfSome, MatchOption, Option, Some, None}
 use Rattle.ber_core.specs.Id.{form_of_id, tag_of_id}
 use Rattle.ber_leaf.specs.Profile.{profile_two}
-use Rattle.ill_schema.specs.Table.{kind_of}
-use Rattle.ill_schema.specs.declared.node.Kind.{Kind}
+use Rattle.ill_tables.specs.Table.{kind_of}
+use Rattle.ill_tables.specs.declared.node.Kind.{Kind}
 use Rattle.ill_schema.proofs.Tags.{two_not_any}
 use Rattle.ill_refusals.specs.Next.{due}
 use Rattle.ill_refusals.specs.Place.{allows}

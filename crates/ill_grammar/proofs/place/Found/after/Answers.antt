@@ -1,5 +1,5 @@
 use Rattle.std.proofs.Common.{◌≡◌, sym, ap, subst, ◌∙◌, refl, rules, IsTrue}
-use Rattle.ill_schema.specs.Table.{kind_of}
+use Rattle.ill_tables.specs.Table.{kind_of}
 use Rattle.ill_refusals.specs.Next.{next_of}
 use Rattle.ill_grammar.specs.Cells.{due_at, is_placed, next_from}
 use Rattle.ill_grammar.specs.Places.{PlaceView, due_of, element_found, place_after, slot_of}

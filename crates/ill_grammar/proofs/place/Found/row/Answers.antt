@@ -1,6 +1,6 @@
 use Rattle.std.proofs.Common.{◌-◌, sym, subst, IsTrue}
 use Rattle.ber_leaf.specs.Profile.{profile_two}
-use Rattle.ill_schema.specs.Table.{kind_of}
+use Rattle.ill_tables.specs.Table.{kind_of}
 use Rattle.ill_refusals.specs.Element.{components}
 use Rattle.ill_grammar.specs.Cells.{due_at, is_placed}
 use Rattle.ill_grammar.specs.code.Meant.{row_there}

@@ -1,6 +1,6 @@
 use Rattle.std.proofs.Common.{◌≡◌, Option, Some, None, IfSome, IsTrue}
-use Rattle.ill_schema.specs.Table.{kind_of}
-use Rattle.ill_schema.specs.declared.node.Kind.{Kind}
+use Rattle.ill_tables.specs.Table.{kind_of}
+use Rattle.ill_tables.specs.declared.node.Kind.{Kind}
 use Rattle.ill_schema.proofs.Tags.{two_not_any}
 use Rattle.ill_grammar.specs.Places.{is_two}
 use Rattle.ill_grammar.specs.declared.place.Found.{Found}

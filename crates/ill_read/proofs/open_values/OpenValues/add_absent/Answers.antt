@@ -1,5 +1,5 @@
 use Rattle.std.proofs.Common.{take, drop, arith, sym, ap, ◌∙◌, subst}
-use Rattle.ill_schema.specs.Table.{rows_of}
+use Rattle.ill_tables.specs.Table.{rows_of}
 use Rattle.ill_read.specs.code.OpenValues.{HasAddedAbsent}
 use Rattle.ill_read.specs.declared.open_values.OpenValues.{OpenValues}
 use Rattle.ill_read.proofs.HeldEntries.{passed-more, passed-past}

@@ -1,5 +1,5 @@
 use Rattle.std.proofs.Common.{◌<◌, ◌≤◌, drop, take}
-use Rattle.ill_schema.specs.Table.{rows_of}
+use Rattle.ill_tables.specs.Table.{rows_of}
 use Rattle.ill_read.specs.code.OpenValues.{HasAddedAbsent}
 use Rattle.ill_read.proofs.open_values.OpenValues.add_absent.Given as goal
 

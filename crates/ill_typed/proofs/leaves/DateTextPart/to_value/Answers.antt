@@ -1,5 +1,5 @@
 use Rattle.std.proofs.Common.{refl}
-use Rattle.ill_schema.specs.declared.node.NodeId.TheVariants.{IsoDate}
+use Rattle.ill_tables.specs.declared.node.NodeId.TheVariants.{IsoDate}
 use Rattle.ill_schema.proofs.Contents.{content_of-Date}
 use Rattle.ill_schema.proofs.LeafFits.{date_fits}
 use Rattle.ill_typed.specs.Shape.{Is}

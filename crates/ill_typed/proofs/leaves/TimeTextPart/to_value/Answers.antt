@@ -1,5 +1,5 @@
 use Rattle.std.proofs.Common.{refl}
-use Rattle.ill_schema.specs.declared.node.NodeId.TheVariants.{IsoTime}
+use Rattle.ill_tables.specs.declared.node.NodeId.TheVariants.{IsoTime}
 use Rattle.ill_schema.proofs.Contents.{content_of-Time}
 use Rattle.ill_schema.proofs.LeafFits.{time_fits}
 use Rattle.ill_typed.specs.Shape.{Is}

@@ -1,6 +1,6 @@
 use Rattle.std.proofs.Common.{◌-◌, sym, ap, ◌∙◌}
 use Rattle.ber_core.specs.Der.{size}
-use Rattle.ill_schema.specs.declared.node.NodeId.TheVariants.{IllApdu}
+use Rattle.ill_tables.specs.declared.node.NodeId.TheVariants.{IllApdu}
 use Rattle.ill_schema.specs.Message.{apdu_of}
 use Rattle.ill_write.proofs.Messages.{message_tree, message_small, length-normal_form}
 use Rattle.ill_write.proofs.Tags.{row_valid}

@@ -3,9 +3,9 @@ use Rattle.std.specs.Prelude.{IfErr, IfOk}
 use Rattle.ill_schema.specs.declared.profile.Profile.{Profile as Named}
 use Rattle.ill_normal.specs.Calls.{taking, putting}
 use Rattle.ill_commands.specs.Runs.{JobDone, JobFails}
-use Rattle.ill_normal.specs.declared.run_fault.RunFault.{RunFault}
+use Rattle.ill_inputs.specs.declared.run_fault.RunFault.{RunFault}
 use Rattle.ill_commands.specs.declared.job.Job.{Job}
-use Rattle.ill_normal.specs.declared.verdict.Verdict.{Verdict}
+use Rattle.ill_inputs.specs.declared.verdict.Verdict.{Verdict}
 use Rattle.test_commands.proofs.Outputs.{one_output}
 use Rattle.test_commands.proofs.jobs.contracts.inputs_have_one_output.Goals as goal
 

@@ -2,16 +2,16 @@ use Rattle.std.proofs.Common.{◌≡◌, ◌++◌, ℕ, [], Bool, true, false, L
 use Rattle.ill_schema.specs.Profiles.{profile_of}
 use Rattle.ill_schema.specs.declared.profile.Profile.{Profile as Named}
 use Rattle.ill_normal.specs.Messages.{AreSpelledIn, Spelling}
-use Rattle.ill_normal.specs.Hexadecimal.{hex_octets}
+use Rattle.ill_inputs.specs.Hexadecimal.{hex_octets}
 use Rattle.ill_normal.specs.Calls.{taking, putting}
 use Rattle.ill_commands.specs.Output.{verdict_of}
 use Rattle.ill_commands.specs.Runs.{AnswersVerdict, DoesMessages, IsUnnamed, JobDone, RunDone}
-use Rattle.ill_normal.specs.declared.run_fault.RunFault.{RunFault}
+use Rattle.ill_inputs.specs.declared.run_fault.RunFault.{RunFault}
 use Rattle.ill_commands.specs.declared.job.Counts.{Counts}
 use Rattle.ill_commands.specs.declared.job.Job.{Job}
-use Rattle.ill_normal.specs.declared.verdict.Verdict.{Verdict}
+use Rattle.ill_inputs.specs.declared.verdict.Verdict.{Verdict}
 use Rattle.ill_commands.specs.declared.job.JobOptions.{JobOptions}
-use Rattle.ill_normal.proofs.HexAnswers.{same_octets}
+use Rattle.ill_inputs.proofs.HexAnswers.{same_octets}
 use Rattle.test_commands.proofs.jobs.contracts.inputs_have_one_verdict.Goals as goal
 
 -- the verdict of a work's messages is that of its job in its profile

@@ -2,8 +2,8 @@ use Rattle.std.proofs.Common.{◌≡◌, ◌++◌, ℕ, Bool, List, [], ◌∷�
 use Rattle.ill_normal.proofs.Canonical.{refuses_once, refuses_whole, spells_once}
 use Rattle.ill_schema.specs.Profiles.{profile_of}
 use Rattle.ill_normal.specs.Messages.{spelling}
-use Rattle.ill_normal.specs.Hexadecimal.{hex_octets}
-use Rattle.ill_normal.specs.declared.run_fault.RunFault.{RunFault}
+use Rattle.ill_inputs.specs.Hexadecimal.{hex_octets}
+use Rattle.ill_inputs.specs.declared.run_fault.RunFault.{RunFault}
 use Rattle.ill_lines.specs.Lines.{Answer, AreAnswers, IsResult, LinesDone, all_results_good, is_good_message, line_options, lines, message_words, result_lines}
 use Rattle.ill_lines.specs.Words.{refusal_words}
 use Rattle.ill_lines.specs.declared.job.LineOptions.{LineOptions}

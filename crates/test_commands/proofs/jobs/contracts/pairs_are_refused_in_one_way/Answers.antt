@@ -4,11 +4,11 @@ use Rattle.ill_schema.specs.Profiles.{profile_of}
 use Rattle.ill_schema.specs.declared.refusal.Refusal.{Refusal}
 use Rattle.ill_refusals.specs.Fault.{fault_of}
 use Rattle.ill_refusals.proofs.Refusals.{same_refusal}
-use Rattle.ill_normal.specs.declared.compare.Side.{Side}
+use Rattle.ill_inputs.specs.declared.side.Side.{Side}
 use Rattle.ill_normal.specs.Calls.{taking, putting}
 use Rattle.ill_commands.specs.Compared.{AnswersSide, RefusesOne, SameDone, SameFails, SameStops}
-use Rattle.ill_normal.specs.declared.run_fault.RunFault.{RunFault}
-use Rattle.ill_normal.specs.declared.verdict.Verdict.{Verdict}
+use Rattle.ill_inputs.specs.declared.run_fault.RunFault.{RunFault}
+use Rattle.ill_inputs.specs.declared.verdict.Verdict.{Verdict}
 use Rattle.ill_commands.proofs.PairAnswers.{side_is}
 use Rattle.test_commands.proofs.Bounds.{bounded, unread_bound}
 use Rattle.test_commands.proofs.jobs.contracts.pairs_are_refused_in_one_way.Goals as goal

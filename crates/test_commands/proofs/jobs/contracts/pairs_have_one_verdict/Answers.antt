@@ -2,9 +2,9 @@ use Rattle.std.proofs.Common.{◌≡◌, ◌↔◌, ◌++◌, ◌∙◌, ℕ, Bo
 use Rattle.ber_leaf.specs.Profile.{Profile}
 use Rattle.ill_schema.specs.Profiles.{profile_of}
 use Rattle.ill_commands.specs.Compared.{ComparesBoth, SameDone, SaysSame, verdict_line}
-use Rattle.ill_normal.specs.Inputs.{IsResourceFault}
-use Rattle.ill_normal.specs.declared.run_fault.RunFault.{RunFault}
-use Rattle.ill_normal.specs.declared.verdict.Verdict.{Verdict}
+use Rattle.ill_inputs.specs.Inputs.{IsResourceFault}
+use Rattle.ill_inputs.specs.declared.run_fault.RunFault.{RunFault}
+use Rattle.ill_inputs.specs.declared.verdict.Verdict.{Verdict}
 use Rattle.ill_commands.proofs.PairAnswers.{side_is}
 use Rattle.test_commands.proofs.jobs.contracts.pairs_have_one_verdict.Goals as goal
 

@@ -3,10 +3,10 @@ use Rattle.ber_leaf.specs.Profile.{Profile}
 use Rattle.ill_schema.specs.Profiles.{profile_of}
 use Rattle.ill_normal.specs.Calls.{taking, putting}
 use Rattle.ill_commands.specs.Compared.{RefusesTexts, SameFails, SameStops}
-use Rattle.ill_normal.specs.Inputs.{IsResourceFault}
+use Rattle.ill_inputs.specs.Inputs.{IsResourceFault}
 use Rattle.ill_commands.specs.Runs.{AnswersFault}
-use Rattle.ill_normal.specs.declared.run_fault.RunFault.{RunFault}
-use Rattle.ill_normal.specs.declared.verdict.Verdict.{Verdict}
+use Rattle.ill_inputs.specs.declared.run_fault.RunFault.{RunFault}
+use Rattle.ill_inputs.specs.declared.verdict.Verdict.{Verdict}
 use Rattle.ill_commands.proofs.PairAnswers.{no_text, side_is}
 use Rattle.test_commands.proofs.jobs.contracts.texts_are_refused_in_order.Goals as goal
 

@@ -1,10 +1,10 @@
 use Rattle.std.proofs.Common.{◌+◌, ◌≤◌, ℕ, Bool, true, List, length, Option, Some, Result, Ok, Err, IfOk, IfErr, inl, inr, subst}
 use Rattle.ill_normal.specs.Calls.{taking, putting}
-use Rattle.ill_normal.specs.Inputs.{FailsText}
+use Rattle.ill_inputs.specs.Inputs.{FailsText}
 use Rattle.ill_commands.specs.Runs.{RunDone, RunFails}
-use Rattle.ill_normal.specs.declared.run_fault.RunFault.{RunFault}
+use Rattle.ill_inputs.specs.declared.run_fault.RunFault.{RunFault}
 use Rattle.ill_commands.specs.declared.job.Counts.{Counts}
-use Rattle.ill_normal.specs.declared.verdict.Verdict.{Verdict}
+use Rattle.ill_inputs.specs.declared.verdict.Verdict.{Verdict}
 use Rattle.ill_commands.specs.declared.job.JobOptions.{JobOptions}
 use Rattle.test_commands.proofs.Bounds.{bounded, unread_bound}
 use Rattle.test_commands.proofs.jobs.contracts.texts_are_taken_to_their_bound.Goals as goal

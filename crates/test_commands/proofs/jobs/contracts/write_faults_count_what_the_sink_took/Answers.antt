@@ -1,7 +1,7 @@
 use Rattle.std.proofs.Common.{◌≡◌, ◌++◌, ◌<◌, ℕ, Bool, List, [], length, take, Option, Some, IfErr, ap, subst, arith, length-append, length-take}
 use Rattle.ill_normal.specs.Calls.{taking, putting}
 use Rattle.ill_commands.specs.Runs.{RunFails, JobStopsAfter}
-use Rattle.ill_normal.specs.declared.run_fault.RunFault.{RunFault}
+use Rattle.ill_inputs.specs.declared.run_fault.RunFault.{RunFault}
 use Rattle.ill_commands.specs.declared.job.Counts.{Counts}
 use Rattle.ill_commands.specs.declared.job.JobOptions.{JobOptions}
 use Rattle.test_commands.proofs.jobs.contracts.write_faults_count_what_the_sink_took.Goals as goal

@@ -6,7 +6,7 @@ use Rattle.ill_refusals.proofs.Refusals.{same_refusal}
 use Rattle.ill_read.specs.Answers.{IfRefused}
 use Rattle.ill_read.specs.declared.failure.Failure.{Failure}
 use Rattle.ill_normal.specs.Compared.{RefusesSideIn}
-use Rattle.ill_normal.specs.declared.compare.Side.{Side}
+use Rattle.ill_inputs.specs.declared.side.Side.{Side}
 use Rattle.ill_normal.proofs.Canonical.{spells_once}
 use Rattle.test_messages.proofs.Accepted.{if_ok}
 use Rattle.test_messages.proofs.Refused.{one_side}

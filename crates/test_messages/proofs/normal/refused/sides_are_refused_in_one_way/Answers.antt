@@ -5,7 +5,7 @@ use Rattle.ill_refusals.proofs.Refusals.{same_refusal}
 use Rattle.ill_read.specs.Answers.{IfRefused}
 use Rattle.ill_read.specs.declared.failure.Failure.{Failure}
 use Rattle.ill_normal.specs.Compared.{RefusesSide}
-use Rattle.ill_normal.specs.declared.compare.Side.{Side}
+use Rattle.ill_inputs.specs.declared.side.Side.{Side}
 use Rattle.test_messages.proofs.Refused.{one_side}
 use Rattle.test_messages.proofs.normal.refused.sides_are_refused_in_one_way.Goals as goal
 

@@ -1,0 +1,4 @@
+pub mod TakenOctets
+pub mod PlainTexts
+pub mod DigitErrors
+pub mod HexAnswers

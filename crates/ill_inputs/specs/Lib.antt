@@ -1,0 +1,4 @@
+pub mod ReadErrors
+pub mod Hexadecimal
+pub mod Inputs
+pub mod InputEnds

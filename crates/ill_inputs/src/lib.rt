@@ -1,0 +1,24 @@
+//! Inputs as jobs read them: whole in memory, as hexadecimal text, and to their ends; and what jobs say of them: verdicts, faults and places of refusals.
+//! Use it to read an input before a message is read; `ill_normal` passes all of it on.
+//!
+//! ```
+//! // the octets that the hexadecimal text of a source stands for
+//! let octets = read_hex(alloc, &mut source)?;
+//! ```
+#![tactic(auto)]
+
+mod hexadecimal;
+mod input_end;
+mod place;
+mod run_fault;
+mod side;
+mod verdict;
+mod whole_input;
+
+pub use hexadecimal::{MAX_HEX_TEXT, read_hex, text_octets};
+pub use input_end::{EndError, end_of_input};
+pub use place::RefusalPlace;
+pub use run_fault::RunFault;
+pub use side::Side;
+pub use verdict::Verdict;
+pub use whole_input::{ReadError, read_at_most};

@@ -1,0 +1,3 @@
+pub mod MarkedValues
+pub mod Identifiers
+pub mod OctetTexts

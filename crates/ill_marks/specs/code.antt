@@ -1,0 +1,2 @@
+pub mod MarkedOctets
+pub mod Identifiers

@@ -1,6 +1,0 @@
-use Rattle.std.proofs.Common.{◌≡◌, take}
-use Rattle.ill_normal.specs.Hexadecimal.{without_blanks}
-use Rattle.ill_normal.proofs.hexadecimal.without_blanks.Given as goal
-
-abbrev pub invariant-loop-octet : goal.invariant-loop-octet
-invariant-loop-octet l = l.digits.items ≡ without_blanks (take l.octet-index l.text)

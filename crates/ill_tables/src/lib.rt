@@ -1,0 +1,25 @@
+//! The tables of ILL messages: the types of ISO 10161-1, their components in order, and their names. Use it to go through the tables;
+//! `ill_schema` passes all of it on, and says what octets mean by them.
+//!
+//! ```
+//! let part = PartId { node: NodeId::EXPIRED, row: 2 };
+//! // Some(("Expired", "service-date-time"))
+//! let names = part_name(part);
+//! ```
+#![tactic(auto)]
+
+mod lookup;
+mod module_rows;
+mod names;
+mod node;
+mod node_rows;
+mod number;
+mod part;
+mod table;
+
+pub use lookup::{kind, row, row_name, row_node, rows, twin};
+pub use names::{node_name, part_name, row_names};
+pub use node::{Kind, LeafKind, NodeId};
+pub use number::number_name;
+pub use part::{Mode, PartId, Presence, Row};
+pub use table::rows_of;

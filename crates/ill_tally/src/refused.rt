@@ -1,0 +1,148 @@
+//! The file that gets the octets of refused messages.
+use crate::tally::Tally;
+use ber_core::{ToWrite, put_all};
+use ill_files::{
+    Count, FileId, FileNameRef, Host, Output, OutputDestination, OutputOf, ProgramError, ToOutput,
+    are_one_target, close_output, open_output, print_error_of,
+};
+use ill_inputs::Verdict;
+use ill_normal::RefusalReport;
+use std::io::Write;
+use std::rt::Files;
+use std::str;
+
+/// The file of refused messages: its name, and what is done with it at the end.
+#[derive(Drop)]
+pub struct RefusedFile<'a> {
+    name: &'a str,
+    destination: OutputDestination,
+}
+
+/// The other files of a command: those that are read, by their names, their list, and the output.
+#[derive(Clone, Copy)]
+pub struct OtherFiles<'a> {
+    pub inputs: &'a [&'a [u8]],
+    pub list: Option<FileId>,
+    pub output: &'a str,
+}
+
+impl OtherFiles<'_> {
+    /// Tells whether one of the files is that of this name.
+    fn contain<R: Files>(&self, rt: &R, name: &str) -> bool {
+        let file = FileId::of_output(rt, name);
+        let is_read = file.is_some() && (file == self.list || is_one_of(rt, self.inputs, file));
+        is_read || are_one_target(rt, name, self.output)
+    }
+}
+
+/// Tells whether one of the files is this one.
+pub fn is_one_of<R: Files>(rt: &R, names: &[&[u8]], file: Option<FileId>) -> bool {
+    for name in names {
+        if let Ok(name) = str::from_utf8(name) {
+            if FileId::of_input(rt, name) == file {
+                return true;
+            }
+        }
+    }
+    false
+}
+
+/// Opens the file of refused messages, where there is one, as OUT is opened.
+///
+/// # Errors
+///
+/// It is one of the other files, or can't be opened.
+pub fn open_refused<'a, 'r, R: Print + Eprint + Files + AllocGlobal + Host>(
+    rt: &'r R,
+    name: Option<&'a str>,
+    others: OtherFiles<'_>,
+    output: &OutputOf<'r, R>,
+) -> Result<Option<RefusedFile<'a>>, ProgramError> {
+    let Some(name) = name else {
+        return Ok(None);
+    };
+    if others.contain(rt, name) {
+        return Err(ProgramError::RefusedIsShared);
+    }
+    let destination = open_output(rt, output, name, false)?;
+    Ok(Some(RefusedFile { name, destination }))
+}
+
+/// Ends the file of refused messages, where there is one: it takes its name, unless no input could be opened. Returns the exit status, which was
+/// `status` before.
+pub fn close_refused<'r, R: Print + Eprint + Files + AllocGlobal + Host>(
+    rt: &'r R,
+    file: Option<RefusedFile<'_>>,
+    output: &OutputOf<'r, R>,
+    tally: &Tally<'_>,
+    status: u8,
+) -> u8 {
+    let Some(RefusedFile { name, destination }) = file else {
+        return status;
+    };
+    let written = if tally.is_refused_lost {
+        Err(ProgramError::Flush)
+    } else {
+        Ok(Verdict::Good)
+    };
+    let keep = tally.summary.files == 0;
+    tally.progress.clear(rt);
+    if let Err(error) = close_output(rt, output, destination, name, keep, written) {
+        // A line that can't be written changes nothing of the work.
+        let _ = print_error_of(rt, name.as_bytes(), &error);
+        return 3;
+    }
+    if tally.not_kept > 0 {
+        let name = FileNameRef(name.as_bytes());
+        let count = Count(tally.not_kept, "refused message");
+        let _ = eprintln!(rt;
+            "illcanon: {name} is without {count}: too long, or of an unknown end"
+        );
+    }
+    status
+}
+
+/// Writes the octets of refused messages to their file, where there is one.
+#[derive(Drop)]
+pub struct KeepRefused<'o, S: Write + Drop, F: Write + Drop> {
+    output: Option<&'o Output<S, F>>,
+    /// The number of messages that were not written.
+    not_kept: u64,
+    /// True if a write failed.
+    is_lost: bool,
+}
+
+impl<'o, S: Write + Drop, F: Write + Drop> KeepRefused<'o, S, F> {
+    /// Writes to this output.
+    pub fn to(output: Option<&'o Output<S, F>>) -> KeepRefused<'o, S, F> {
+        KeepRefused {
+            output,
+            not_kept: 0,
+            is_lost: false,
+        }
+    }
+
+    /// Writes the octets of a message, if they are all there and its end is known: so the next one begins after it.
+    pub fn keep(&mut self, report: RefusalReport, octets: &[u8]) {
+        let Some(output) = self.output else {
+            return;
+        };
+        if report.octets != Some(octets.len() as u64) {
+            self.not_kept = self.not_kept.saturating_add(1);
+            return;
+        }
+        let mut sink = ToWrite::new(ToOutput {
+            output,
+            is_direct: false,
+        });
+        if put_all(&mut sink, octets).is_err() {
+            self.is_lost = true;
+        }
+    }
+
+    /// Adds its counts to those of the command.
+    pub fn add_to(&self, tally: &mut Tally<'_>) {
+        tally.not_kept = tally.not_kept.saturating_add(self.not_kept);
+        tally.is_refused_lost = tally.is_refused_lost | self.is_lost;
+    }
+}

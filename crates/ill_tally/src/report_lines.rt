@@ -1,0 +1,66 @@
+//! The lines of messages that are refused, where the work goes on after them.
+use crate::refused::KeepRefused;
+use crate::summary::LeftAt;
+use ill_files::{FileNameRef, ProgressLine, RunLine};
+use ill_inputs::RunFault;
+use ill_normal::{RefusalReport, ReportRefusals};
+use std::fmt;
+use std::io::Write;
+
+/// A message that is refused, as one line.
+#[derive(Clone, Copy)]
+pub struct ReportLine(pub RefusalReport);
+
+impl fmt::Display for ReportLine {
+    fn fmt<W: fmt::Write>(&self, f: &mut fmt::Formatter<W>) -> fmt::Result {
+        let ReportLine(
+            RefusalReport {
+                message,
+                refusal,
+                octets,
+                ..
+            },
+        ) = *self;
+        let line = RunLine(RunFault::Refused { message, refusal });
+        if octets.is_some() {
+            write!(f, "{line}")
+        } else {
+            write!(f, "{line}; its end is unknown")
+        }
+    }
+}
+
+/// Prints the line of each message that is refused, with the name of its file where there are several.
+#[derive(Drop)]
+pub struct PrintReports<'a, R, S: Write + Drop, F: Write + Drop> {
+    pub rt: &'a R,
+    pub name: Option<&'a str>,
+    /// True if the name is the file's own, and not yet as names are printed.
+    pub is_raw: bool,
+    pub progress: &'a ProgressLine,
+    /// Gets the octets of the messages.
+    pub kept: KeepRefused<'a, S, F>,
+    /// The place of the last message, if its end is unknown.
+    pub endless: Option<LeftAt>,
+}
+
+impl<R: Eprint, S: Write + Drop, F: Write + Drop> ReportRefusals for PrintReports<'_, R, S, F> {
+    ghost use Rattle.std.specs.Prelude.{None};
+
+    ghost reported = { λ _. None };
+
+    fn report(&mut self, report: RefusalReport, octets: &[u8]) {
+        self.kept.keep(report, octets);
+        self.endless = LeftAt::of_endless(report);
+        let line = ReportLine(report);
+        self.progress.clear(self.rt);
+        // A line that can't be written changes nothing of the work.
+        let _ = match self.name {
+            Some(name) if self.is_raw => {
+                eprintln!(self.rt; "illcanon: {}: {line}", FileNameRef(name.as_bytes()))
+            }
+            Some(name) => eprintln!(self.rt; "illcanon: {name}: {line}"),
+            None => eprintln!(self.rt; "illcanon: {line}"),
+        };
+    }
+}

@@ -1,0 +1,158 @@
+//! A refusal in words: its cause, where it is, what was found there, and what was due.
+use crate::cause::put_refusal;
+use crate::due::{Due, is_foreign};
+use crate::found::read_start;
+use crate::lines::LineBuffer;
+use crate::refused_place::{RefusedPlace, first_of};
+use crate::walk::ElementWalk;
+use ill_grammar::ElementType;
+use ill_schema::{Cause, NodeId, Profile, Refusal};
+use std::alloc::{AllocError, Global};
+
+/// The line for what is refused by a limit.
+const OUR_LIMIT: &str = "    a limit of illcanon, not of ISO 10161-1\n";
+
+/// The number of octets that an identifier has at most: the first one, and four of the tag number.
+const MAX_IDENTIFIER: usize = 5;
+
+/// Makes the lines of a refusal, of a message that was read up to its place.
+pub fn put_refusal_lines(
+    alloc: Global,
+    lines: &mut LineBuffer,
+    walk: &ElementWalk,
+    octets: &[u8],
+    refusal: Refusal,
+) -> Result<(), AllocError> {
+    walk.close_all(lines)?;
+    lines.tags("<div class=\"refused\">")?;
+    put_refusal(lines, refusal)?;
+    lines.text("    ")?;
+    lines.text(text_of(walk, refusal.cause))?;
+    lines.text("\n")?;
+    if refusal.cause == Cause::NormalTooLong {
+        lines.text(OUR_LIMIT)?;
+    } else {
+        put_place(alloc, lines, walk, octets, refusal)?;
+    }
+    lines.tags("</div>")
+}
+
+/// The lines for the place of a refusal, and for what is there.
+fn put_place<'a>(
+    alloc: Global,
+    lines: &mut LineBuffer,
+    walk: &'a ElementWalk,
+    octets: &'a [u8],
+    refusal: Refusal,
+) -> Result<(), AllocError> {
+    let place = RefusedPlace::new(walk, octets, refusal);
+    lines.text("    path ")?;
+    let some = place.put_path(lines)?;
+    lines.text(if some { "\n" } else { "none\n" })?;
+    lines.text("    found ")?;
+    place.put_found(lines)?;
+    lines.text("\n")?;
+    put_due(lines, &place.due(alloc)?)?;
+    if refusal.cause == Cause::WrongForm {
+        lines.text("    due ")?;
+        place.put_other_form(lines)?;
+        lines.text("\n")?;
+    }
+    let rest = octets.get(refusal.at as usize..).unwrap_or(&[]);
+    put_hint(lines, walk, rest, refusal.cause)
+}
+
+/// The lines for what was due, one for each thing.
+fn put_due(lines: &mut LineBuffer, due: &[Due]) -> Result<(), AllocError> {
+    for due in due {
+        lines.text("    due ")?;
+        due.put(lines)?;
+        lines.text("\n")?;
+    }
+    if has_left_out(due) {
+        lines.text("    --profile module reads what is marked as not read\n")?;
+    }
+    Ok(())
+}
+
+/// Tells whether a part that is left out is among what was due.
+fn has_left_out(due: &[Due]) -> bool {
+    let mut some = false;
+    for due in due {
+        some |= due.is_left_out();
+    }
+    some
+}
+
+/// The text of a cause, at the place that was reached.
+fn text_of(walk: &ElementWalk, cause: Cause) -> &'static str {
+    match cause {
+        Cause::TooDeep if is_foreign(walk.place()) => {
+            "a value of an open type would have more than 20 levels"
+        }
+        cause => cause.text(),
+    }
+}
+
+/// Puts a hint that the message is not wrong by ISO 10161-1, where this is or may be so. The module profile reads what profile 2 leaves
+/// out or tags in another way; there are things that neither reads.
+fn put_hint(
+    lines: &mut LineBuffer,
+    walk: &ElementWalk,
+    rest: &[u8],
+    cause: Cause,
+) -> Result<(), AllocError> {
+    match cause {
+        Cause::IntegerTooLong | Cause::TooLong | Cause::TooDeep => return lines.text(OUR_LIMIT),
+        Cause::BadTag if has_long_number(rest) => return lines.text(OUR_LIMIT),
+        _ => {}
+    }
+    if walk.profile() != Profile::Two {
+        return Ok(());
+    }
+    let node = walk.place().node();
+    match cause {
+        Cause::LeftOut(_) => lines.text("    --profile module reads this part\n"),
+        Cause::WrongForm | Cause::UnexpectedTag if is_retagged(node) => {
+            lines.text("    --profile module has other tags here\n")
+        }
+        // No other octets of a GeneralString are refused.
+        Cause::BadText if is_general(walk, rest) => {
+            lines.text("    --profile module reads escape sequences\n")
+        }
+        _ => Ok(()),
+    }
+}
+
+/// Tells whether a tag begins with these octets whose number goes on after four of them (X.690, 8.1.2.4).
+fn has_long_number(rest: &[u8]) -> bool {
+    match rest {
+        [first, number, ..] => {
+            let octets = first_of(rest, MAX_IDENTIFIER);
+            first & 0x1F == 0x1F
+                && *number != 0x80
+                && octets.len() == MAX_IDENTIFIER
+                && octets[1..].iter().all(|octet| *octet >= 0x80)
+        }
+        _ => false,
+    }
+}
+
+/// Tells whether a GeneralString is due here with the tag that the octets begin with.
+fn is_general(walk: &ElementWalk, rest: &[u8]) -> bool {
+    let Some((id, _)) = read_start(rest).id else {
+        return false;
+    };
+    match walk.place().find(id) {
+        Some(found) => found.element_type() == ElementType::General,
+        None => false,
+    }
+}
+
+/// Tells whether the module profile has other tags in a node of profile 2, or a row more.
+fn is_retagged(node: NodeId) -> bool {
+    matches!(
+        &node,
+        NodeId::UnitsPerMedium | NodeId::WillSupply | NodeId::Conditional
+    )
+}

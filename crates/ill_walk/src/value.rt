@@ -1,0 +1,127 @@
+//! The values of leaves.
+use crate::lines::LineBuffer;
+use ber_leaf::{BitString, Leaf, ObjectIdentifier};
+use ill_grammar::{Element, ModuleLeaf};
+use ill_marks::add_identifier;
+use ill_read::{LeafType, Mark};
+use ill_schema::{PartId, Profile, Value, is_default, row};
+use std::alloc::{AllocError, Global};
+
+/// The value of a leaf with this content, and whether it is the default of its row.
+pub fn put_leaf(
+    lines: &mut LineBuffer,
+    alloc: Global,
+    leaf: LeafType,
+    part: PartId,
+    content: &[u8],
+) -> Result<bool, AllocError> {
+    match leaf {
+        LeafType::Boolean | LeafType::Integer | LeafType::Enumerated => {
+            put_value(lines, alloc, leaf, part, content)
+        }
+        LeafType::Date | LeafType::Time => {
+            lines.raw(content)?;
+            Ok(false)
+        }
+        LeafType::General | LeafType::Visible | LeafType::Printable => {
+            lines.quoted(content)?;
+            Ok(false)
+        }
+    }
+}
+
+/// The value of a BOOLEAN or a number, and whether it is the default of its row.
+fn put_value(
+    lines: &mut LineBuffer,
+    alloc: Global,
+    leaf: LeafType,
+    part: PartId,
+    content: &[u8],
+) -> Result<bool, AllocError> {
+    if leaf.fault(Profile::Two, content).is_some() {
+        lines.hex(content)?;
+        return Ok(false);
+    }
+    let value = leaf.value(content.to_vec(alloc)?);
+    put_value_text(lines, &value)?;
+    match row(part) {
+        Some(row) => Ok(is_default(row, &value)),
+        None => Ok(false),
+    }
+}
+
+fn put_value_text(lines: &mut LineBuffer, value: &Value) -> Result<(), AllocError> {
+    match value {
+        Value::Flag(true) => lines.text("TRUE"),
+        Value::Flag(false) => lines.text("FALSE"),
+        Value::Whole(number) => lines.number(*number),
+        _ => Ok(()),
+    }
+}
+
+/// The content of a primitive element that is no leaf of profile 2.
+pub fn put_module_leaf(
+    lines: &mut LineBuffer,
+    alloc: Global,
+    element: Element,
+    content: &[u8],
+) -> Result<(), AllocError> {
+    match element {
+        Element::ModuleLeaf(ModuleLeaf::Null) if content.is_empty() => lines.text("NULL"),
+        Element::ModuleLeaf(ModuleLeaf::ObjectIdentifier)
+            if ObjectIdentifier::check(content).is_none() => {
+            put_identifier(lines, alloc, content)
+        }
+        Element::BitString | Element::BitSegment if BitString::check(content).is_none() => {
+            put_bits(lines, content)
+        }
+        Element::ModuleLeaf(ModuleLeaf::Null | ModuleLeaf::ObjectIdentifier)
+        | Element::BitString
+        | Element::BitSegment => lines.hex(content),
+        Element::ModuleLeaf(ModuleLeaf::OctetString) | Element::Foreign(_) => {
+            lines.content(content)
+        }
+        _ => lines.quoted(content),
+    }
+}
+
+/// An OBJECT IDENTIFIER, its numbers with dots between them.
+fn put_identifier(lines: &mut LineBuffer, alloc: Global, content: &[u8]) -> Result<(), AllocError> {
+    let mut marks = Vec::new(alloc);
+    for octet in content {
+        marks.push(Mark::Octet(*octet))?;
+    }
+    let mut text = String::new(alloc);
+    add_identifier(&mut text, &marks)?;
+    lines.text(&text)
+}
+
+/// The number of bits, and the octets that they fill.
+fn put_bits(lines: &mut LineBuffer, content: &[u8]) -> Result<(), AllocError> {
+    let Some((unused, filled)) = content.split_first() else {
+        return Ok(());
+    };
+    lines.text("bits ")?;
+    lines.count(
+        filled
+            .len()
+            .saturating_mul(8)
+            .saturating_sub(*unused as usize),
+    )?;
+    if filled.is_empty() {
+        return Ok(());
+    }
+    lines.text(" ")?;
+    for octet in filled {
+        lines.octet(*octet)?;
+    }
+    Ok(())
+}
+
+/// Tells whether unused bits of a BIT STRING with this content are not 0.
+pub fn has_unused_bits_set(content: &[u8]) -> bool {
+    match content {
+        [unused, .., last] if *unused < 8 => *last as u16 % (1 << *unused) != 0,
+        _ => false,
+    }
+}
