@@ -114,40 +114,82 @@ fn canonicalise_all<R: Print + Eprint + Input + Files + AllocGlobal + Host>(
     tally: &mut Tally<'_>,
 ) -> u8 {
     let output = Output::new();
-    let mut destination = None;
-    let mut status = 0;
-    let mut keep = false;
-    let mut lost = Ok(Verdict::Good);
-    for name in names {
-        match append_file(
-            rt,
-            action,
-            name,
-            names.len(),
-            &output,
-            name_of_output,
-            whole,
-            &mut destination,
-            kept,
-            tally,
-        ) {
-            Ok(done) => {
-                tally.add_end(rt, name, &done);
-                tally.print_of(rt, name, &done);
-                status = combined_status(status, status_of(&done));
-                keep = keep | keeps_output(whole, &done);
-            }
-            Err(error) => {
-                lost = Err(error);
-                break;
-            }
-        }
-    }
-    let ended = match destination {
-        Some(destination) => { close_output(rt, &output, destination, name_of_output, keep, lost) }
-        None => lost,
+    let mut to = OneOutput {
+        output: &output,
+        name: name_of_output,
+        whole,
+        destination: None,
+        keep: false,
+        status: 0,
     };
+    let done = append_files(rt, action, names, &mut to, kept, tally);
+    let status = to.status;
+    let ended = close_one(rt, to, done);
     combined_status(status, tally.end(rt, &ended))
+}
+
+/// The output of several files, and how they ended.
+#[derive(Drop)]
+struct OneOutput<'o, 'n, 'r, R: Print + Files> {
+    output: &'o OutputOf<'r, R>,
+    name: &'n str,
+    /// True if it is replaced only where each file was good.
+    whole: bool,
+    /// The place that it is written to, once it is open.
+    destination: Option<OutputDestination>,
+    /// True if it stays as it was.
+    keep: bool,
+    /// The exit status of the files.
+    status: u8,
+}
+
+impl<R: Print + Files> OneOutput<'_, '_, '_, R> {
+    /// Adds the end of a file.
+    fn add(&mut self, done: &Result<Verdict, ProgramError>) {
+        self.status = combined_status(self.status, status_of(done));
+        self.keep = self.keep | keeps_output(self.whole, done);
+    }
+}
+
+/// Closes the output, if it is open, with this result of the work.
+fn close_one<'o, 'r, R: Print + Eprint + Files + AllocGlobal + Host>(
+    rt: &'r R,
+    to: OneOutput<'o, '_, 'r, R>,
+    done: Result<Verdict, ProgramError>,
+) -> Result<Verdict, ProgramError> {
+    let OneOutput {
+        output,
+        name,
+        destination,
+        keep,
+        ..
+    } = to;
+    match destination {
+        Some(destination) => close_output(rt, output, destination, name, keep, done),
+        None => done,
+    }
+}
+
+/// Writes what is made of each file, and prints the line of its error.
+///
+/// # Errors
+///
+/// The output can't be opened or written.
+fn append_files<'o, 'r, R: Print + Eprint + Input + Files + AllocGlobal + Host>(
+    rt: &'r R,
+    action: Action,
+    names: &[&[u8]],
+    to: &mut OneOutput<'o, '_, 'r, R>,
+    kept: Option<&OutputOf<'_, R>>,
+    tally: &mut Tally<'_>,
+) -> Result<Verdict, ProgramError> {
+    for name in names {
+        let done = append_file(rt, action, name, names.len(), to, kept, tally)?;
+        tally.add_end(rt, name, &done);
+        tally.print_of(rt, name, &done);
+        to.add(&done);
+    }
+    Ok(Verdict::Good)
 }
 
 /// Writes what is made of the next file, one of `count`.
@@ -155,15 +197,12 @@ fn canonicalise_all<R: Print + Eprint + Input + Files + AllocGlobal + Host>(
 /// # Errors
 ///
 /// The output can't be opened or written.
-fn append_file<'r, R: Print + Eprint + Input + Files + AllocGlobal + Host>(
+fn append_file<'o, 'r, R: Print + Eprint + Input + Files + AllocGlobal + Host>(
     rt: &'r R,
     action: Action,
     name: &[u8],
     count: usize,
-    output: &OutputOf<'r, R>,
-    name_of_output: &str,
-    whole: bool,
-    destination: &mut Option<OutputDestination>,
+    to: &mut OneOutput<'o, '_, 'r, R>,
     kept: Option<&OutputOf<'_, R>>,
     tally: &mut Tally<'_>,
 ) -> Result<Result<Verdict, ProgramError>, ProgramError> {
@@ -172,32 +211,58 @@ fn append_file<'r, R: Print + Eprint + Input + Files + AllocGlobal + Host>(
         Ok(file) => file,
         Err(error) => return Ok(Err(error)),
     };
-    let Ok(name) = printed(alloc, file) else {
-        return Ok(Err(ProgramError::out_of_memory()));
-    };
-    let mut source = match open_input(rt, file, output, tally.progress) {
+    match printed(alloc, file) {
+        Ok(name) => append_input(
+            rt,
+            InputAction::new(action, &name, count),
+            file,
+            to,
+            kept,
+            tally,
+        ),
+        Err(_) => Ok(Err(ProgramError::out_of_memory())),
+    }
+}
+
+/// Opens an input, and then the output, and writes what is made of the input.
+///
+/// # Errors
+///
+/// The output can't be opened or written.
+fn append_input<'o, 'r, R: Print + Eprint + Input + Files + AllocGlobal + Host>(
+    rt: &'r R,
+    task: InputAction<'_>,
+    file: &str,
+    to: &mut OneOutput<'o, '_, 'r, R>,
+    kept: Option<&OutputOf<'_, R>>,
+    tally: &mut Tally<'_>,
+) -> Result<Result<Verdict, ProgramError>, ProgramError> {
+    let mut source = match open_input(rt, file, to.output, tally.progress) {
         Ok(source) => source,
         Err(error) => return Ok(Err(error)),
     };
-    open_once(rt, output, name_of_output, whole, destination)?;
-    let task = InputAction::new(action, &name, count);
-    let done = put_all(rt, task, &mut source, output, kept, tally);
+    open_once(rt, to)?;
+    of_input(put_all(rt, task, &mut source, to.output, kept, tally))
+}
+
+/// The end of the work on an input, unless the output is lost.
+fn of_input(
+    done: Result<Verdict, ProgramError>,
+) -> Result<Result<Verdict, ProgramError>, ProgramError> {
     if is_output_lost(&done) {
-        return done.map(Ok);
+        done.map(Ok)
+    } else {
+        Ok(done)
     }
-    Ok(done)
 }
 
 /// Opens the output, if it is not open yet.
-fn open_once<'r, R: Print + Eprint + AllocGlobal + Host>(
+fn open_once<'o, 'r, R: Print + Eprint + Files + AllocGlobal + Host>(
     rt: &'r R,
-    output: &OutputOf<'r, R>,
-    name: &str,
-    whole: bool,
-    destination: &mut Option<OutputDestination>,
+    to: &mut OneOutput<'o, '_, 'r, R>,
 ) -> Result<(), ProgramError> {
-    if destination.is_none() {
-        *destination = Some(open_output(rt, output, name, whole)?);
+    if to.destination.is_none() {
+        to.destination = Some(open_output(rt, to.output, to.name, to.whole)?);
     }
     Ok(())
 }

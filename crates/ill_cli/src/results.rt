@@ -145,25 +145,42 @@ where
     let stop = Cell::new(false);
     let mut reports = reports_to(alloc, work, refused, kept, Some(&stop));
     let ran = if work.hex {
-        let octets = match read_hex(alloc, source) {
-            Ok(octets) => octets,
-            Err(fault) => {
-                tally.left_at = left_at(fault, 0, 0);
-                return Err(ProgramError::from(fault));
-            }
-        };
-        let work = JobOptions { hex: false, ..work };
-        let mut octets = FromSlice::new(&octets);
-        let mut messages = UntilStopped::new(&mut octets, &stop);
-        run_skipping(alloc, work, &mut messages, sink, &mut reports)
+        run_hex(alloc, work, source, sink, &mut reports, &stop)
     } else {
-        let mut messages = UntilStopped::new(source, &stop);
-        run_skipping(alloc, work, &mut messages, sink, &mut reports)
+        run_until(alloc, work, source, sink, &mut reports, &stop)
     };
     match ran {
         Ok(counts) => ended(work, counts, &reports, tally),
         Err(error) => Err(stopped(error, &reports, tally)),
     }
+}
+
+/// Does a job with the messages of a hexadecimal text, up to where `stop` is set.
+fn run_hex<S: Source, W: Sink, T: ReportRefusals>(
+    alloc: Global,
+    work: JobOptions<'_>,
+    source: &mut S,
+    sink: &mut W,
+    reports: &mut T,
+    stop: &Cell<bool>,
+) -> Result<SkippingCounts, JobError> {
+    let octets = read_hex(alloc, source).map_err(JobError::at_start)?;
+    let work = JobOptions { hex: false, ..work };
+    let mut messages = FromSlice::new(&octets);
+    run_until(alloc, work, &mut messages, sink, reports, stop)
+}
+
+/// Does a job with messages up to where `stop` is set.
+fn run_until<S: Source, W: Sink, T: ReportRefusals>(
+    alloc: Global,
+    work: JobOptions<'_>,
+    source: &mut S,
+    sink: &mut W,
+    reports: &mut T,
+    stop: &Cell<bool>,
+) -> Result<SkippingCounts, JobError> {
+    let mut messages = UntilStopped::new(source, stop);
+    run_skipping(alloc, work, &mut messages, sink, reports)
 }
 
 /// No message was refused yet.

@@ -1,5 +1,5 @@
-//! Inputs as jobs read them: whole in memory, as hexadecimal text, and to their ends; and what jobs say of them: verdicts, faults and places of refusals.
-//! Use it to read an input before a message is read; `ill_normal` passes all of it on.
+//! Inputs, and what jobs say of them. An input is read whole, as hexadecimal text, or to its end; a job ends with a verdict or a fault, and
+//! says the place of a refusal in words. Use it to read an input that isn't messages in BER; `ill_normal` re-exports its calls.
 //!
 //! ```
 //! // the octets that the hexadecimal text of a source stands for

@@ -1,5 +1,5 @@
 //! The tables of ILL messages: the types of ISO 10161-1, their components in order, and their names. Use it to go through the tables;
-//! `ill_schema` passes all of it on, and says what octets mean by them.
+//! `ill_schema` re-exports its calls, and says what octets mean.
 //!
 //! ```
 //! let part = PartId { node: NodeId::EXPIRED, row: 2 };

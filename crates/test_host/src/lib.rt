@@ -3,12 +3,14 @@
 #![tactic(auto)]
 
 mod fake;
+mod file_outputs;
 mod folders;
 mod runs;
 
 pub use fake::{Ended, Fake, FakeFile, Faults, NO_FAULTS, Start};
+pub use file_outputs::first_wrong_output;
 pub use folders::folder;
 pub use runs::{
-    BEFORE, EXPIRED, INDEFINITE, Octets, Program, QUIET, Row, comes_true, enter, first_wrong,
-    holds, leave, run, run_line,
+    BEFORE, EXPIRED, INDEFINITE, Octets, Program, QUIET, Row, comes_true, enter, fail_with, holds,
+    leave, run, run_line, test_rows,
 };

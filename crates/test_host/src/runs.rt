@@ -279,7 +279,7 @@ fn first_wrong_here<P: Program>(
 }
 
 /// The words of the first row that doesn't come true.
-pub fn first_wrong<P: Program>(
+fn first_wrong<P: Program>(
     rt: &HostRuntime,
     rows: &'static [Row],
 ) -> Result<Option<&'static str>, Fail> {
@@ -287,4 +287,21 @@ pub fn first_wrong<P: Program>(
     let wrong = first_wrong_here::<P>(rt, rows)?;
     leave(rt, folder.as_str())?;
     Ok(wrong)
+}
+
+/// Does a test of rows, which fails with the words of the first row that doesn't come true.
+///
+/// # Errors
+///
+/// The words of that row, or a fault of the host.
+pub fn test_rows<P: Program>(rt: &HostRuntime, rows: &'static [Row]) -> Result<(), Fail> {
+    fail_with(first_wrong::<P>(rt, rows)?)
+}
+
+/// Fails with a text, if there is one.
+pub fn fail_with(wrong: Option<&'static str>) -> Result<(), Fail> {
+    match wrong {
+        Some(text) => Err(Fail::from(text)),
+        None => Ok(()),
+    }
 }

@@ -2,7 +2,7 @@
 use super::program::Illcanon;
 use std::test::Fail;
 use test_host::Octets::Text;
-use test_host::{Faults, INDEFINITE, NO_FAULTS, QUIET, Row, first_wrong};
+use test_host::{Faults, INDEFINITE, NO_FAULTS, QUIET, Row, test_rows};
 
 /// Commands with no output of their own. O is absent.
 static ROWS: [Row; 33] = [
@@ -244,7 +244,5 @@ static ROWS: [Row; 33] = [
 
 #[test]
 fn each_command_ends_as_it_must(rt: HostRuntime) -> Result<(), Fail> {
-    let wrong = first_wrong::<Illcanon>(&rt, &ROWS)?;
-    assert!(rt; wrong.is_none(), "{wrong:?}");
-    Ok(())
+    test_rows::<Illcanon>(&rt, &ROWS)
 }

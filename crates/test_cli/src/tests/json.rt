@@ -2,7 +2,7 @@
 use super::program::Illcanon;
 use std::test::Fail;
 use test_host::Octets::Text;
-use test_host::{QUIET, Row, first_wrong};
+use test_host::{QUIET, Row, test_rows};
 
 /// Results of messages, refused ones among them.
 static ROWS: [Row; 18] = [
@@ -146,7 +146,5 @@ static ROWS: [Row; 18] = [
 
 #[test]
 fn results_are_lines_of_json(rt: HostRuntime) -> Result<(), Fail> {
-    let wrong = first_wrong::<Illcanon>(&rt, &ROWS)?;
-    assert!(rt; wrong.is_none(), "{wrong:?}");
-    Ok(())
+    test_rows::<Illcanon>(&rt, &ROWS)
 }

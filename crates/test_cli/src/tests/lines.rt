@@ -2,7 +2,7 @@
 use super::program::Illcanon;
 use std::test::Fail;
 use test_host::Octets::Text;
-use test_host::{Faults, NO_FAULTS, QUIET, Row, first_wrong, run_line};
+use test_host::{Faults, NO_FAULTS, QUIET, Row, run_line, test_rows};
 
 /// Lines: a message three times, in other spellings, two blank lines, and what is refused.
 const LINES: &[u8] = b"\
@@ -147,9 +147,7 @@ static ROWS: [Row; 10] = [
 
 #[test]
 fn each_line_has_its_result(rt: HostRuntime) -> Result<(), Fail> {
-    let wrong = first_wrong::<Illcanon>(&rt, &ROWS)?;
-    assert!(rt; wrong.is_none(), "{wrong:?}");
-    Ok(())
+    test_rows::<Illcanon>(&rt, &ROWS)
 }
 
 /// Tells whether a line of this many blanks has this result, and the line after it its own.

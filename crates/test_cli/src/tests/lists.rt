@@ -2,7 +2,7 @@
 use super::program::Illcanon;
 use std::test::Fail;
 use test_host::Octets::{Repeated, Text};
-use test_host::{INDEFINITE, QUIET, Row, first_wrong};
+use test_host::{INDEFINITE, QUIET, Row, test_rows};
 
 /// Lists by the names of their files. O is absent.
 static ROWS: [Row; 15] = [
@@ -109,7 +109,5 @@ static ROWS: [Row; 15] = [
 
 #[test]
 fn lists_name_files(rt: HostRuntime) -> Result<(), Fail> {
-    let wrong = first_wrong::<Illcanon>(&rt, &ROWS)?;
-    assert!(rt; wrong.is_none(), "{wrong:?}");
-    Ok(())
+    test_rows::<Illcanon>(&rt, &ROWS)
 }

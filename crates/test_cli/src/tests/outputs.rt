@@ -2,7 +2,7 @@
 use super::program::Illcanon;
 use std::test::Fail;
 use test_host::Octets::{Repeated, Text};
-use test_host::{BEFORE, EXPIRED, Faults, INDEFINITE, NO_FAULTS, QUIET, Row, first_wrong};
+use test_host::{BEFORE, EXPIRED, Faults, INDEFINITE, NO_FAULTS, QUIET, Row, test_rows};
 
 /// Commands with an output. O is absent, and `none` is no folder.
 static ROWS: [Row; 55] = [
@@ -397,7 +397,5 @@ static ROWS: [Row; 55] = [
 
 #[test]
 fn outputs_are_whole_or_as_they_were(rt: HostRuntime) -> Result<(), Fail> {
-    let wrong = first_wrong::<Illcanon>(&rt, &ROWS)?;
-    assert!(rt; wrong.is_none(), "{wrong:?}");
-    Ok(())
+    test_rows::<Illcanon>(&rt, &ROWS)
 }

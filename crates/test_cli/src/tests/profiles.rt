@@ -2,7 +2,7 @@
 use super::program::Illcanon;
 use std::test::Fail;
 use test_host::Octets::Text;
-use test_host::{QUIET, Row, first_wrong};
+use test_host::{QUIET, Row, test_rows};
 
 /// The file E: an EXPIRED with an extension, in normal form.
 const EXTENDED: &[u8] =
@@ -119,7 +119,5 @@ static ROWS: [Row; 18] = [
 
 #[test]
 fn each_command_reads_the_profile_that_is_named(rt: HostRuntime) -> Result<(), Fail> {
-    let wrong = first_wrong::<Illcanon>(&rt, &ROWS)?;
-    assert!(rt; wrong.is_none(), "{wrong:?}");
-    Ok(())
+    test_rows::<Illcanon>(&rt, &ROWS)
 }

@@ -2,7 +2,7 @@
 use super::program::Illcanon;
 use std::test::Fail;
 use test_host::Octets::{Repeated, Text};
-use test_host::{QUIET, Row, first_wrong};
+use test_host::{QUIET, Row, test_rows};
 
 /// Each file is read twice, its octets and then its end. A second goes by between two readings of the clock, so the first line is due
 /// at the second reading after the work begins. A has 33 octets, `first` 82. Shares, rates and times are rounded down.
@@ -53,7 +53,5 @@ static ROWS: [Row; 5] = [
 
 #[test]
 fn a_terminal_shows_how_far_the_work_is(rt: HostRuntime) -> Result<(), Fail> {
-    let wrong = first_wrong::<Illcanon>(&rt, &ROWS)?;
-    assert!(rt; wrong.is_none(), "{wrong:?}");
-    Ok(())
+    test_rows::<Illcanon>(&rt, &ROWS)
 }

@@ -3,7 +3,7 @@ use super::program::Illcanon;
 use std::fs;
 use std::test::Fail;
 use test_host::Octets::Text;
-use test_host::{BEFORE, EXPIRED, Octets, QUIET, Row, comes_true, enter, holds, leave};
+use test_host::{BEFORE, EXPIRED, Octets, QUIET, Row, comes_true, enter, fail_with, holds, leave};
 
 /// The content of R before each run.
 const OLD: &[u8] = b"old";
@@ -163,6 +163,5 @@ fn refused_messages_go_to_their_file(rt: HostRuntime) -> Result<(), Fail> {
     let folder = enter(&rt)?;
     let wrong = first_wrong_here(&rt)?;
     leave(&rt, folder.as_str())?;
-    assert!(rt; wrong.is_none(), "{wrong:?}");
-    Ok(())
+    fail_with(wrong)
 }
