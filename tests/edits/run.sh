@@ -21,8 +21,10 @@ cd "$copy" || exit 2
 # shellcheck disable=SC2086
 rt ci $names >log 2>&1
 status=$?
-grep 'must-fail ' log | sed 's/^rt: //'
-refused=$(grep -c ': refused, as it must be' log)
+# The crates below have edits of their own, which `rt ci` tries too.
+for name in $names; do grep "must-fail $name/" log; done | sed 's/^rt: //' >tried
+cat tried
+refused=$(grep -c ': refused, as it must be' tried)
 [ $status = 0 ] && [ "$refused" = "$expected" ] && echo "edits: the prover refuses all $expected" && exit
 tail -n 20 log
 echo "edits: the prover refuses $refused of $expected"
