@@ -1,4 +1,4 @@
-//! What a command counts, and what it says of refused messages: the summary, the lines on standard error, and the file of refused messages.
+//! Counts of a command, and reports of refused messages: the summary, the lines on standard error, and the file of refused messages.
 //! Use it in a program that reads several files and goes on after a refused message.
 //!
 //! ```
