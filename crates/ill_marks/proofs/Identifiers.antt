@@ -7,7 +7,7 @@ use Rattle.std.proofs.lemmas.Bool.Decides.{nat_tests}
 use Rattle.ill_read.specs.declared.mark.Mark.{Mark}
 use Rattle.ill_marks.specs.Marks.{octets_in}
 use Rattle.ill_schema.specs.Texts.{after_dot, numbers_after, oid_components, with_dots}
-use Rattle.ill_marks.specs.code.Identifiers.{IsFirstNumber, is_short}
+use Rattle.ill_marks.specs.Identifiers.{IsFirstNumber, is_short}
 
 -- the numbers from mark i on are those of all marks, where this one goes on
 pub record Numbering (octets : List Mark) (number i : ℕ) : Type 0 where

@@ -1,9 +1,9 @@
 //! The text of an OBJECT IDENTIFIER.
 ghost use Rattle.std.specs.Prelude.{◌≡◌, ◌<◌, ◌++◌, [], ℕ, length, min, decimal, string_bytes, IfSome, IsTrue, MatchOption, OnOk};
-ghost use Rattle.std.specs.List.{list_all};
+ghost use Rattle.ill_marks.specs.Identifiers.{IsFirstNumber, are_short, numbers_in};
 ghost use Rattle.ill_marks.specs.Marks.{octets_in};
-ghost use Rattle.ill_schema.specs.Texts.{after_dot, numbers_after, oid_components, oid_text, with_dots};
-ghost use Rattle.ill_marks.specs.code.Identifiers.{IsFirstNumber, is_short, number_with};
+ghost use Rattle.ill_schema.specs.Texts.{after_dot, oid_components, oid_text, with_dots};
+ghost use Rattle.ill_marks.specs.code.Identifiers.{number_with};
 
 use crate::hexadecimal::add_hexadecimal;
 use crate::marks::ends_number;
@@ -37,8 +37,14 @@ pub fn add_identifier(text: &mut String, octets: &[Mark]) -> Result<(), AllocErr
 }
 
 /// Tells whether each subidentifier is below 2 to the power 63.
+///
+/// # Examples
+///
+/// ```
+/// let is_short = are_short(&[Mark::Octet(0x2A), Mark::Octet(0x03)]); // true
+/// ```
 pub fn are_short(octets: &[Mark]) -> bool
-    ensures { result ≡ list_all is_short (numbers_after 0 (octets_in octets.now)) }
+    ensures { result ≡ are_short (numbers_in octets.now) }
 {
     let mut left = octets;
     'numbers: while let Some((number, rest)) = next_number(left) {
@@ -52,9 +58,9 @@ pub fn are_short(octets: &[Mark]) -> bool
 
 /// Adds the components of an OBJECT IDENTIFIER whose subidentifiers are short, with dots between them.
 fn add_components(text: &mut String, octets: &[Mark]) -> Result<(), AllocError>
-    requires { IsTrue (list_all is_short (numbers_after 0 (octets_in octets.now))) }
+    requires { IsTrue (are_short (numbers_in octets.now)) }
     ensures { OnOk result (string_bytes text.new ≡ string_bytes text.old
-        ++ with_dots (oid_components (numbers_after 0 (octets_in octets.now)))) }
+        ++ with_dots (oid_components (numbers_in octets.now))) }
 {
     let Some((first, rest)) = next_number(octets) else {
         return Ok(());
@@ -87,8 +93,14 @@ fn add_number(text: &mut String, number: u64) -> Result<(), AllocError>
 
 /// The number of the first subidentifier, or 2 ^ 64 - 1 where it is greater, and the marks after it; None where no
 /// subidentifier ends.
-fn next_number(octets: &[Mark]) -> Option<(u64, &[Mark])>
-    ensures number { MatchOption result (numbers_after 0 (octets_in octets.now) ≡ [])
+///
+/// # Examples
+///
+/// ```
+/// let next = next_number(&[Mark::Octet(0x86), Mark::Octet(0x48), Mark::Octet(0x03)]); // 840, and the mark of 03
+/// ```
+pub fn next_number(octets: &[Mark]) -> Option<(u64, &[Mark])>
+    ensures number { MatchOption result (numbers_in octets.now ≡ [])
         (λ next. IsFirstNumber (octets_in octets.now) next.0 (octets_in next.1.now)) }
     ensures shorter { IfSome result (λ next. length next.1.now < length octets.now) }
 {

@@ -11,7 +11,7 @@ mod identifier;
 mod marks;
 
 pub use hexadecimal::{add_hexadecimal, add_octets};
-pub use identifier::add_identifier;
+pub use identifier::{add_identifier, are_short, next_number};
 pub use marks::{
     absent_row, after_leading_mark, alternative, ends_number, has_default, is_at_end, is_octet,
     is_set, leading_mark, leading_octets, number_in,

@@ -11,7 +11,7 @@ use Rattle.ber_core.specs.Tree.{Tree, Trees, primitive, constructed, none, more}
 use Rattle.ber_leaf.specs.Profile.{is_graphic}
 use Rattle.ill_schema.specs.Texts.{after_dot, digits, hexadecimal, numbers_after, oid_components, oid_text, with_dots}
 use Rattle.ill_text.specs.Shown.{content_text, escaped, quoted, tree_text, trees_text}
-use Rattle.ill_text.specs.code.ObjectIdentifiers.{are_small}
+use Rattle.ill_marks.specs.Identifiers.{are_short}
 use Rattle.ill_text.proofs.Subidentifiers.{two_and_others}
 
 -- ---- in quotes, and in hexadecimal
@@ -59,12 +59,12 @@ numbers_few n (a ∷ o) = go (nat_lt a 0x80) (numbers_few 0 o) (numbers_few (128
 dotted_size : (n : ℕ) → n < 2 ^ 64 → length (after_dot n) ≤ 40
 dotted_size n h = omega (arith, length_wide n (omega (arith, h)), length-append (codes ".") (decimal n))
 
-small_parts : (n : ℕ) (numbers : List ℕ) → IsTrue (are_small (n ∷ numbers)) → (n < 2 ^ 63) × IsTrue (are_small numbers)
+small_parts : (n : ℕ) (numbers : List ℕ) → IsTrue (are_short (n ∷ numbers)) → (n < 2 ^ 63) × IsTrue (are_short numbers)
 small_parts n numbers h =
-    let parts = and_parts (nat_lt n 9_223_372_036_854_775_808) (are_small numbers) h in
+    let parts = and_parts (nat_lt n 9_223_372_036_854_775_808) (are_short numbers) h in
     (ltb-true n 9_223_372_036_854_775_808 parts.0, parts.1)
 
-all_dotted_size : (numbers : List ℕ) → IsTrue (are_small numbers) → length (flat_map after_dot numbers) ≤ 40 * length numbers
+all_dotted_size : (numbers : List ℕ) → IsTrue (are_short numbers) → length (flat_map after_dot numbers) ≤ 40 * length numbers
 all_dotted_size [] h = omega arith
 all_dotted_size (n ∷ numbers) h =
     let parts = small_parts n numbers h in
@@ -75,7 +75,7 @@ two_size : (a b : ℕ) (others : List ℕ) → a < 2 ^ 64 → b < 2 ^ 64 → len
 two_size a b others h k =
     omega (arith, length_wide a (omega (arith, h)), dotted_size b k, length-append (decimal a) (after_dot b), length-append (decimal a ++ after_dot b) others)
 
-components_size : (numbers : List ℕ) → IsTrue (are_small numbers) → length (with_dots (oid_components numbers)) ≤ 40 * length numbers + 40
+components_size : (numbers : List ℕ) → IsTrue (are_short numbers) → length (with_dots (oid_components numbers)) ≤ 40 * length numbers + 40
 components_size [] h = omega arith
 components_size (n ∷ numbers) h =
     let parts = small_parts n numbers h in
@@ -84,9 +84,9 @@ components_size (n ∷ numbers) h =
     omega (arith, two, all_dotted_size numbers parts.1, ap length (two_and_others n numbers))
 
 pub oid_size : (o : List ℕ) → length (oid_text o) ≤ 40 * length o + 40
-oid_size o = go (are_small (numbers_after 0 o)) refl
+oid_size o = go (are_short (numbers_after 0 o)) refl
   where
-    go : (b : Bool) → are_small (numbers_after 0 o) ≡ b → length (if b then with_dots (oid_components (numbers_after 0 o)) else codes "oid " ++ hexadecimal o) ≤ 40 * length o + 40
+    go : (b : Bool) → are_short (numbers_after 0 o) ≡ b → length (if b then with_dots (oid_components (numbers_after 0 o)) else codes "oid " ++ hexadecimal o) ≤ 40 * length o + 40
     go true e = omega (arith, components_size (numbers_after 0 o) e, numbers_few 0 o)
     go false e = omega (arith, hexadecimal_size o, length-append (codes "oid ") (hexadecimal o))
 

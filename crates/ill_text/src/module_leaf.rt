@@ -8,9 +8,9 @@ ghost use Rattle.ill_grammar.specs.LeafTypes.{IsContentIn, module_leaf_is};
 ghost use Rattle.ill_read.specs.declared.mark.Mark.{Mark};
 ghost use Rattle.ill_schema.specs.Texts.{after_dot, hexadecimal, oid_components, oid_text, with_dots};
 ghost use Rattle.ill_text.specs.Shown.{content_text, leaf_text, line};
+ghost use Rattle.ill_marks.specs.Identifiers.{are_short, numbers_in};
 ghost use Rattle.ill_marks.specs.Marks.{leading_octets, octets_in};
 ghost use Rattle.ill_text.specs.code.Bits.{filled_text};
-ghost use Rattle.ill_text.specs.code.ObjectIdentifiers.{IsFirst, are_small, numbers_in};
 ghost use Rattle.ill_text.specs.code.Sending.{Adds, sending};
 ghost use Rattle.ill_text.specs.code.FieldPaths.{path_of};
 
@@ -19,7 +19,7 @@ use crate::leaf::{put_escaped, put_quoted};
 use crate::text_sink::TextSink;
 use ber_core::Sink;
 use ill_grammar::ModuleLeaf;
-use ill_marks::leading_octets;
+use ill_marks::{are_short, leading_octets, next_number};
 use ill_read::Mark;
 use ill_schema::hexadecimal_digits;
 use itoa::Buffer;
@@ -260,7 +260,7 @@ fn put_oid<W: Sink>(marks: &[Mark], out: &mut TextSink, sink: &mut W)
         (sending (W.contents sink.new) (W.is_broken sink.new) out.new) }
     ensures stays { IsTrue (W.is_broken sink.old) → IsTrue (W.is_broken sink.new) }
 {
-    if are_small(marks) {
+    if are_short(marks) {
         put_components(marks, out, sink);
         return;
     }
@@ -268,29 +268,15 @@ fn put_oid<W: Sink>(marks: &[Mark], out: &mut TextSink, sink: &mut W)
     put_hexadecimal(marks, out, sink);
 }
 
-/// Tells whether each number is below 2 to the power 63.
-fn are_small(marks: &[Mark]) -> bool
-    ensures { result ≡ are_small (numbers_in marks.now) }
-{
-    let mut left = marks;
-    'numbers: while let Some((number, rest)) = first_number(left) {
-        if number >= 1 << 63 {
-            return false;
-        }
-        left = rest;
-    }
-    true
-}
-
 /// Puts the components, of which the first number stands for two.
 fn put_components<W: Sink>(marks: &[Mark], out: &mut TextSink, sink: &mut W)
-    ensures adds { are_small (numbers_in marks.now) ≡ true
+    ensures adds { are_short (numbers_in marks.now) ≡ true
         → Adds (with_dots (oid_components (numbers_in marks.now)))
         (sending (W.contents sink.old) (W.is_broken sink.old) out.old)
         (sending (W.contents sink.new) (W.is_broken sink.new) out.new) }
     ensures stays { IsTrue (W.is_broken sink.old) → IsTrue (W.is_broken sink.new) }
 {
-    let Some((number, rest)) = first_number(marks) else {
+    let Some((number, rest)) = next_number(marks) else {
         return;
     };
     put_first_two(number, out, sink);
@@ -313,14 +299,14 @@ fn put_first_two<W: Sink>(number: u64, out: &mut TextSink, sink: &mut W)
 
 /// Puts each number after a dot.
 fn put_numbers<W: Sink>(marks: &[Mark], out: &mut TextSink, sink: &mut W)
-    ensures adds { are_small (numbers_in marks.now) ≡ true
+    ensures adds { are_short (numbers_in marks.now) ≡ true
         → Adds (flat_map after_dot (numbers_in marks.now))
         (sending (W.contents sink.old) (W.is_broken sink.old) out.old)
         (sending (W.contents sink.new) (W.is_broken sink.new) out.new) }
     ensures stays { IsTrue (W.is_broken sink.old) → IsTrue (W.is_broken sink.new) }
 {
     let mut left = marks;
-    'numbers: while let Some((number, rest)) = first_number(left) {
+    'numbers: while let Some((number, rest)) = next_number(left) {
         put_dotted(number, out, sink);
         left = rest;
     }
@@ -335,32 +321,4 @@ fn put_dotted<W: Sink>(number: u64, out: &mut TextSink, sink: &mut W)
     let mut buffer = Buffer::new();
     out.put(sink, b".");
     out.put(sink, buffer.format(number).as_bytes());
-}
-
-/// The number of the subidentifier that the octets begin with, as far as 64 bits hold it, and the marks after it.
-fn first_number(marks: &[Mark]) -> Option<(u64, &[Mark])>
-    ensures first { MatchOption result (numbers_in marks.now ≡ [])
-        (λ r. IsFirst (numbers_in marks.now) r.0 (numbers_in r.1.now)) }
-    ensures shorter { IfSome result (λ r. length r.1.now < length marks.now) }
-{
-    let mut number = 0;
-    let mut count = 0;
-    for mark in marks {
-        count += 1;
-        match *mark {
-            Mark::Octet(octet) if octet < 128 => {
-                return Some((extended(number, octet), &marks[count..]));
-            }
-            Mark::Octet(octet) => number = extended(number, octet - 128),
-            _ => {}
-        }
-    }
-    None
-}
-
-/// The number with seven bits more.
-fn extended(number: u64, bits: u8) -> u64
-    ensures { result ≡ min (128 * number + bits) (2 ^ 64 - 1) }
-{
-    number.saturating_mul(128).saturating_add(u64::from(bits))
 }

@@ -3,7 +3,7 @@ use Rattle.std.specs.Prelude.{string_bytes}
 use Rattle.std.specs.List.{list_all}
 use Rattle.ill_marks.specs.Marks.{octets_in}
 use Rattle.ill_schema.specs.Texts.{after_dot, numbers_after, oid_components, with_dots}
-use Rattle.ill_marks.specs.code.Identifiers.{is_short}
+use Rattle.ill_marks.specs.Identifiers.{is_short}
 use Rattle.ill_marks.proofs.identifier.add_components.Given as goal
 
 abbrev pub invariant-numbers : goal.invariant-numbers

@@ -2,7 +2,7 @@ use Rattle.std.proofs.Common.{◌≡◌, length}
 use Rattle.std.specs.List.{list_all}
 use Rattle.ill_marks.specs.Marks.{octets_in}
 use Rattle.ill_schema.specs.Texts.{numbers_after}
-use Rattle.ill_marks.specs.code.Identifiers.{is_short}
+use Rattle.ill_marks.specs.Identifiers.{is_short}
 use Rattle.ill_marks.proofs.identifier.are_short.Given as goal
 
 abbrev pub invariant-numbers : goal.invariant-numbers
