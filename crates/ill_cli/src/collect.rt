@@ -124,7 +124,7 @@ fn canonicalise_all<R: Print + Eprint + Input + Files + AllocGlobal + Host>(
     };
     let done = append_files(rt, action, names, &mut to, kept, tally);
     let status = to.status;
-    let ended = close_one(rt, to, done);
+    let ended = close_if_open(rt, to, done);
     combined_status(status, tally.end(rt, &ended))
 }
 
@@ -152,7 +152,7 @@ impl<R: Print + Files> OneOutput<'_, '_, '_, R> {
 }
 
 /// Closes the output, if it is open, with this result of the work.
-fn close_one<'o, 'r, R: Print + Eprint + Files + AllocGlobal + Host>(
+fn close_if_open<'o, 'r, R: Print + Eprint + Files + AllocGlobal + Host>(
     rt: &'r R,
     to: OneOutput<'o, '_, 'r, R>,
     done: Result<Verdict, ProgramError>,
@@ -242,11 +242,11 @@ fn append_input<'o, 'r, R: Print + Eprint + Input + Files + AllocGlobal + Host>(
         Err(error) => return Ok(Err(error)),
     };
     open_once(rt, to)?;
-    of_input(put_all(rt, task, &mut source, to.output, kept, tally))
+    fail_if_lost(put_all(rt, task, &mut source, to.output, kept, tally))
 }
 
-/// The end of the work on an input, unless the output is lost.
-fn of_input(
+/// Fails if the output is lost. Any other error is of the input alone.
+fn fail_if_lost(
     done: Result<Verdict, ProgramError>,
 ) -> Result<Result<Verdict, ProgramError>, ProgramError> {
     if is_output_lost(&done) {

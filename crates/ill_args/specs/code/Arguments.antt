@@ -15,7 +15,7 @@ rule_for Argument.Refused = refused_rule
 rule_for Argument.Output = output_rule
 rule_for Argument.Message = message_rule
 
--- a command with arguments more
+-- a command to which these arguments are added
 abbrev pub with_rules : App → List Rule → App
 with_rules a [] = a
 with_rules a (r ∷ rs) = with_rules (with_rule a r) rs
