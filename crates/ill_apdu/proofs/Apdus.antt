@@ -16,7 +16,7 @@ use Rattle.ill_tables.specs.Table.{rows_of}
 use Rattle.ill_schema.specs.Unfit.{IsUnfit}
 use Rattle.ill_schema.specs.Value.{content_of, apdu_with}
 use Rattle.ill_schema.specs.declared.value.Value.{Value}
-use Rattle.ill_typed.specs.Shape.{Is}
+use Rattle.ill_parts.specs.Shape.{Is}
 use Rattle.ill_apdu.specs.declared.apdu.Apdu.{Apdu}
 use Rattle.ill_apdu.specs.Carried.{number_of, body_node_of, body_of, view_of}
 

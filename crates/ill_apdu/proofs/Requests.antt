@@ -3,7 +3,7 @@ use Rattle.std.proofs.Common.{◌≡◌, ℕ, List, ◌∷◌, Option, Some, Non
 use Rattle.ill_schema.specs.Content.{Content}
 use Rattle.ill_tables.specs.declared.node.NodeId.TheVariants.{IllRequest as RequestNode}
 use Rattle.ill_tables.specs.Table.{rows_of}
-use Rattle.ill_typed.specs.Shape.{record_of, listed, RowsHold, entries_from, flag_content, number_content, string_content}
+use Rattle.ill_parts.specs.Shape.{record_of, listed, RowsHold, entries_from, flag_content, number_content, string_content}
 use Rattle.ill_parts.specs.Views.{client_id, cost_info, delivery_address, delivery_service, item_id, requester_optional_messages, search_type, service_date_time, supply_medium_info, system_id, third_party_info, transaction_id}
 use Rattle.ill_apdu.specs.declared.request.IllRequest.{IllRequest}
 use Rattle.ill_apdu.specs.Views.{ill_request}

@@ -1,7 +1,7 @@
 -- The content that each result and each APDU stands for: field by field the entry of the same row.
 use Rattle.std.specs.Prelude.{List, [], ◌∷◌, Option, Some, None, option_map}
 use Rattle.ill_schema.specs.Content.{Content}
-use Rattle.ill_typed.specs.Shape.{record_of, listed, option_of, number_content, date_content, string_content, flag_content}
+use Rattle.ill_parts.specs.Shape.{record_of, listed, option_of, number_content, date_content, string_content, flag_content}
 use Rattle.ill_parts.specs.Views.{system_id, postal_address, system_address, headed, delivery_address, client_id, delivery_service, requester_optional_messages, responder_optional_messages, search_type, supply_medium_info, item_id, cost_info, third_party_info, send_to, amount, supply_details, date_due}
 use Rattle.ill_apdu.specs.declared.location.LocationInfo.{LocationInfo}
 use Rattle.ill_apdu.specs.declared.results.Conditional.{Conditional}

@@ -45,7 +45,7 @@ impl Node for IllAnswer {
 #[tactic(auto, unfolding(crate::specs::Views::ill_answer))]
 impl Part for IllAnswer {
     ghost use Rattle.ill_tables.specs.declared.node.NodeId.TheVariants.{IllAnswer as TheNode};
-    ghost use Rattle.ill_typed.specs.Shape.{Is};
+    ghost use Rattle.ill_parts.specs.Shape.{Is};
     ghost use Rattle.ill_apdu.specs.Views.{ill_answer};
 
     ghost content = { ill_answer };

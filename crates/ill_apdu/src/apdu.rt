@@ -4,7 +4,7 @@ ghost use Rattle.ber_leaf.specs.Profile.{profile_two};
 ghost use Rattle.ill_schema.specs.Apdu.{normal_form};
 ghost use Rattle.ill_schema.specs.Message.{apdu_of, octets_of};
 ghost use Rattle.ill_schema.specs.Value.{content_of};
-ghost use Rattle.ill_typed.specs.Shape.{Is};
+ghost use Rattle.ill_parts.specs.Shape.{Is};
 ghost use Rattle.ill_apdu.specs.Carried.{number_of, body_node_of, body_of, view_of};
 
 use crate::answer::IllAnswer;

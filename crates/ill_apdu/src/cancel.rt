@@ -32,7 +32,7 @@ impl Node for Cancel {
 #[tactic(auto, unfolding(crate::specs::Views::cancel))]
 impl Part for Cancel {
     ghost use Rattle.ill_tables.specs.declared.node.NodeId.TheVariants.{Cancel as TheNode};
-    ghost use Rattle.ill_typed.specs.Shape.{Is};
+    ghost use Rattle.ill_parts.specs.Shape.{Is};
     ghost use Rattle.ill_apdu.specs.Views.{cancel};
 
     ghost content = { cancel };
@@ -90,7 +90,7 @@ impl Node for CancelReply {
 #[tactic(auto, unfolding(crate::specs::Views::cancel_reply))]
 impl Part for CancelReply {
     ghost use Rattle.ill_tables.specs.declared.node.NodeId.TheVariants.{CancelReply as TheNode};
-    ghost use Rattle.ill_typed.specs.Shape.{Is};
+    ghost use Rattle.ill_parts.specs.Shape.{Is};
     ghost use Rattle.ill_apdu.specs.Views.{cancel_reply};
 
     ghost content = { cancel_reply };

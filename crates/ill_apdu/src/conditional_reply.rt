@@ -34,7 +34,7 @@ impl Node for ConditionalReply {
 #[tactic(auto, unfolding(crate::specs::Views::conditional_reply))]
 impl Part for ConditionalReply {
     ghost use Rattle.ill_tables.specs.declared.node.NodeId.TheVariants.{ConditionalReply as TheNode};
-    ghost use Rattle.ill_typed.specs.Shape.{Is};
+    ghost use Rattle.ill_parts.specs.Shape.{Is};
     ghost use Rattle.ill_apdu.specs.Views.{conditional_reply};
 
     ghost content = { conditional_reply };

@@ -26,7 +26,7 @@ impl Node for Expired {
 #[tactic(auto, unfolding(crate::specs::Views::expired))]
 impl Part for Expired {
     ghost use Rattle.ill_tables.specs.declared.node.NodeId.TheVariants.{Expired as TheNode};
-    ghost use Rattle.ill_typed.specs.Shape.{Is};
+    ghost use Rattle.ill_parts.specs.Shape.{Is};
     ghost use Rattle.ill_apdu.specs.Views.{expired};
 
     ghost content = { expired };

@@ -32,7 +32,7 @@ impl Node for LocationInfo {
 #[tactic(auto, unfolding(crate::specs::Views::location_info))]
 impl Part for LocationInfo {
     ghost use Rattle.ill_tables.specs.declared.node.NodeId.TheVariants.{LocationInfo as TheNode};
-    ghost use Rattle.ill_typed.specs.Shape.{Is};
+    ghost use Rattle.ill_parts.specs.Shape.{Is};
     ghost use Rattle.ill_apdu.specs.Views.{location_info};
 
     ghost content = { location_info };
@@ -92,7 +92,7 @@ impl Node for Locations {
 #[tactic(auto, unfolding(crate::specs::Views::locations))]
 impl Part for Locations {
     ghost use Rattle.ill_tables.specs.declared.node.NodeId.TheVariants.{Locations as TheNode};
-    ghost use Rattle.ill_typed.specs.Shape.{Is};
+    ghost use Rattle.ill_parts.specs.Shape.{Is};
     ghost use Rattle.ill_apdu.specs.Views.{locations};
 
     ghost content = { locations };

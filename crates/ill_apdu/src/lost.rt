@@ -31,7 +31,7 @@ impl Node for Lost {
 #[tactic(auto, unfolding(crate::specs::Views::lost))]
 impl Part for Lost {
     ghost use Rattle.ill_tables.specs.declared.node.NodeId.TheVariants.{Lost as TheNode};
-    ghost use Rattle.ill_typed.specs.Shape.{Is};
+    ghost use Rattle.ill_parts.specs.Shape.{Is};
     ghost use Rattle.ill_apdu.specs.Views.{lost};
 
     ghost content = { lost };
@@ -84,7 +84,7 @@ impl Node for Damaged {
 #[tactic(auto, unfolding(crate::specs::Views::damaged))]
 impl Part for Damaged {
     ghost use Rattle.ill_tables.specs.declared.node.NodeId.TheVariants.{Damaged as TheNode};
-    ghost use Rattle.ill_typed.specs.Shape.{Is};
+    ghost use Rattle.ill_parts.specs.Shape.{Is};
     ghost use Rattle.ill_apdu.specs.Views.{damaged};
 
     ghost content = { damaged };

@@ -34,7 +34,7 @@ impl Node for Overdue {
 #[tactic(auto, unfolding(crate::specs::Views::overdue))]
 impl Part for Overdue {
     ghost use Rattle.ill_tables.specs.declared.node.NodeId.TheVariants.{Overdue as TheNode};
-    ghost use Rattle.ill_typed.specs.Shape.{Is};
+    ghost use Rattle.ill_parts.specs.Shape.{Is};
     ghost use Rattle.ill_apdu.specs.Views.{overdue};
 
     ghost content = { overdue };

@@ -31,7 +31,7 @@ impl Node for Recall {
 #[tactic(auto, unfolding(crate::specs::Views::recall))]
 impl Part for Recall {
     ghost use Rattle.ill_tables.specs.declared.node.NodeId.TheVariants.{Recall as TheNode};
-    ghost use Rattle.ill_typed.specs.Shape.{Is};
+    ghost use Rattle.ill_parts.specs.Shape.{Is};
     ghost use Rattle.ill_apdu.specs.Views.{recall};
 
     ghost content = { recall };

@@ -38,7 +38,7 @@ impl Node for Received {
 #[tactic(auto, unfolding(crate::specs::Views::received))]
 impl Part for Received {
     ghost use Rattle.ill_tables.specs.declared.node.NodeId.TheVariants.{Received as TheNode};
-    ghost use Rattle.ill_typed.specs.Shape.{Is};
+    ghost use Rattle.ill_parts.specs.Shape.{Is};
     ghost use Rattle.ill_apdu.specs.Views.{received};
 
     ghost content = { received };

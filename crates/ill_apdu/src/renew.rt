@@ -34,7 +34,7 @@ impl Node for Renew {
 #[tactic(auto, unfolding(crate::specs::Views::renew))]
 impl Part for Renew {
     ghost use Rattle.ill_tables.specs.declared.node.NodeId.TheVariants.{Renew as TheNode};
-    ghost use Rattle.ill_typed.specs.Shape.{Is};
+    ghost use Rattle.ill_parts.specs.Shape.{Is};
     ghost use Rattle.ill_apdu.specs.Views.{renew};
 
     ghost content = { renew };
@@ -100,7 +100,7 @@ impl Node for RenewAnswer {
 #[tactic(auto, unfolding(crate::specs::Views::renew_answer))]
 impl Part for RenewAnswer {
     ghost use Rattle.ill_tables.specs.declared.node.NodeId.TheVariants.{RenewAnswer as TheNode};
-    ghost use Rattle.ill_typed.specs.Shape.{Is};
+    ghost use Rattle.ill_parts.specs.Shape.{Is};
     ghost use Rattle.ill_apdu.specs.Views.{renew_answer};
 
     ghost content = { renew_answer };

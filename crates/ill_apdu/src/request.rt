@@ -1,7 +1,7 @@
 //! ILL-REQUEST.
 ghost use Rattle.std.specs.Prelude.{◌≡◌, IfOk, Some, option_map};
 ghost use Rattle.ill_tables.specs.declared.node.NodeId.TheVariants.{Boolean, Integer, IllString as StringNode, DeliveryAddress as DeliveryAddressNode, DeliveryService as DeliveryServiceNode, RequesterOptionalMessages as RequesterOptionalMessagesNode, SearchType as SearchTypeNode, SupplyMediumInfo as SupplyMediumInfoNode, ClientId as ClientIdNode, ItemId as ItemIdNode, CostInfo as CostInfoNode, ThirdPartyInfo as ThirdPartyInfoNode};
-ghost use Rattle.ill_typed.specs.Shape.{Is, IsListOf, Must, May, entry_at, listed, flag_content, number_content, string_content};
+ghost use Rattle.ill_parts.specs.Shape.{Is, IsListOf, Must, May, entry_at, listed, flag_content, number_content, string_content};
 ghost use Rattle.ill_parts.specs.Views.{delivery_address, delivery_service, requester_optional_messages, search_type, supply_medium_info, client_id, item_id, cost_info, third_party_info};
 
 use ber_leaf::IllString;
@@ -75,7 +75,7 @@ impl Node for IllRequest {
 #[tactic(auto, unfolding(crate::specs::Views::ill_request))]
 impl Part for IllRequest {
     ghost use Rattle.ill_tables.specs.declared.node.NodeId.TheVariants.{IllRequest as TheNode};
-    ghost use Rattle.ill_typed.specs.Shape.{Is};
+    ghost use Rattle.ill_parts.specs.Shape.{Is};
     ghost use Rattle.ill_apdu.specs.Views.{ill_request};
 
     ghost content = { ill_request };

@@ -33,7 +33,7 @@ impl Node for Conditional {
 #[tactic(auto, unfolding(crate::specs::Views::conditional))]
 impl Part for Conditional {
     ghost use Rattle.ill_tables.specs.declared.node.NodeId.TheVariants.{Conditional as TheNode};
-    ghost use Rattle.ill_typed.specs.Shape.{Is};
+    ghost use Rattle.ill_parts.specs.Shape.{Is};
     ghost use Rattle.ill_apdu.specs.Views.{conditional};
 
     ghost content = { conditional };
@@ -98,7 +98,7 @@ impl Node for Retry {
 #[tactic(auto, unfolding(crate::specs::Views::retry))]
 impl Part for Retry {
     ghost use Rattle.ill_tables.specs.declared.node.NodeId.TheVariants.{Retry as TheNode};
-    ghost use Rattle.ill_typed.specs.Shape.{Is};
+    ghost use Rattle.ill_parts.specs.Shape.{Is};
     ghost use Rattle.ill_apdu.specs.Views.{retry};
 
     ghost content = { retry };
@@ -161,7 +161,7 @@ impl Node for Unfilled {
 #[tactic(auto, unfolding(crate::specs::Views::unfilled))]
 impl Part for Unfilled {
     ghost use Rattle.ill_tables.specs.declared.node.NodeId.TheVariants.{Unfilled as TheNode};
-    ghost use Rattle.ill_typed.specs.Shape.{Is};
+    ghost use Rattle.ill_parts.specs.Shape.{Is};
     ghost use Rattle.ill_apdu.specs.Views.{unfilled};
 
     ghost content = { unfilled };
@@ -223,7 +223,7 @@ impl Node for WillSupply {
 #[tactic(auto, unfolding(crate::specs::Views::will_supply))]
 impl Part for WillSupply {
     ghost use Rattle.ill_tables.specs.declared.node.NodeId.TheVariants.{WillSupply as TheNode};
-    ghost use Rattle.ill_typed.specs.Shape.{Is};
+    ghost use Rattle.ill_parts.specs.Shape.{Is};
     ghost use Rattle.ill_apdu.specs.Views.{will_supply};
 
     ghost content = { will_supply };
@@ -290,7 +290,7 @@ impl Node for HoldPlaced {
 #[tactic(auto, unfolding(crate::specs::Views::hold_placed))]
 impl Part for HoldPlaced {
     ghost use Rattle.ill_tables.specs.declared.node.NodeId.TheVariants.{HoldPlaced as TheNode};
-    ghost use Rattle.ill_typed.specs.Shape.{Is};
+    ghost use Rattle.ill_parts.specs.Shape.{Is};
     ghost use Rattle.ill_apdu.specs.Views.{hold_placed};
 
     ghost content = { hold_placed };
@@ -353,7 +353,7 @@ impl Node for Estimate {
 #[tactic(auto, unfolding(crate::specs::Views::estimate))]
 impl Part for Estimate {
     ghost use Rattle.ill_tables.specs.declared.node.NodeId.TheVariants.{Estimate as TheNode};
-    ghost use Rattle.ill_typed.specs.Shape.{Is};
+    ghost use Rattle.ill_parts.specs.Shape.{Is};
     ghost use Rattle.ill_apdu.specs.Views.{estimate};
 
     ghost content = { estimate };
@@ -420,7 +420,7 @@ impl Node for Results {
 #[tactic(auto, unfolding(crate::specs::Views::results))]
 impl Part for Results {
     ghost use Rattle.ill_tables.specs.declared.node.NodeId.TheVariants.{Results as TheNode};
-    ghost use Rattle.ill_typed.specs.Shape.{Is};
+    ghost use Rattle.ill_parts.specs.Shape.{Is};
     ghost use Rattle.ill_apdu.specs.Views.{results};
 
     ghost content = { results };

@@ -38,7 +38,7 @@ impl Node for Returned {
 #[tactic(auto, unfolding(crate::specs::Views::returned))]
 impl Part for Returned {
     ghost use Rattle.ill_tables.specs.declared.node.NodeId.TheVariants.{Returned as TheNode};
-    ghost use Rattle.ill_typed.specs.Shape.{Is};
+    ghost use Rattle.ill_parts.specs.Shape.{Is};
     ghost use Rattle.ill_apdu.specs.Views.{returned};
 
     ghost content = { returned };
@@ -111,7 +111,7 @@ impl Node for CheckedIn {
 #[tactic(auto, unfolding(crate::specs::Views::checked_in))]
 impl Part for CheckedIn {
     ghost use Rattle.ill_tables.specs.declared.node.NodeId.TheVariants.{CheckedIn as TheNode};
-    ghost use Rattle.ill_typed.specs.Shape.{Is};
+    ghost use Rattle.ill_parts.specs.Shape.{Is};
     ghost use Rattle.ill_apdu.specs.Views.{checked_in};
 
     ghost content = { checked_in };

@@ -51,7 +51,7 @@ impl Node for Shipped {
 #[tactic(auto, unfolding(crate::specs::Views::shipped))]
 impl Part for Shipped {
     ghost use Rattle.ill_tables.specs.declared.node.NodeId.TheVariants.{Shipped as TheNode};
-    ghost use Rattle.ill_typed.specs.Shape.{Is};
+    ghost use Rattle.ill_parts.specs.Shape.{Is};
     ghost use Rattle.ill_apdu.specs.Views.{shipped};
 
     ghost content = { shipped };

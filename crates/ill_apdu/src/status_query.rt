@@ -31,7 +31,7 @@ impl Node for StatusQuery {
 #[tactic(auto, unfolding(crate::specs::Views::status_query))]
 impl Part for StatusQuery {
     ghost use Rattle.ill_tables.specs.declared.node.NodeId.TheVariants.{StatusQuery as TheNode};
-    ghost use Rattle.ill_typed.specs.Shape.{Is};
+    ghost use Rattle.ill_parts.specs.Shape.{Is};
     ghost use Rattle.ill_apdu.specs.Views.{status_query};
 
     ghost content = { status_query };

@@ -31,7 +31,7 @@ impl Node for MessageApdu {
 #[tactic(auto, unfolding(crate::specs::Views::message_apdu))]
 impl Part for MessageApdu {
     ghost use Rattle.ill_tables.specs.declared.node.NodeId.TheVariants.{MessageApdu as TheNode};
-    ghost use Rattle.ill_typed.specs.Shape.{Is};
+    ghost use Rattle.ill_parts.specs.Shape.{Is};
     ghost use Rattle.ill_apdu.specs.Views.{message_apdu};
 
     ghost content = { message_apdu };

@@ -1,1 +1,2 @@
+pub mod Shape
 pub mod Views

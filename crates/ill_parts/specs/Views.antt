@@ -1,7 +1,7 @@
 -- The content that each part stands for: field by field the entry of the same row.
 use Rattle.std.specs.Prelude.{List, [], ◌∷◌, Option, Some, None, option_map}
 use Rattle.ill_schema.specs.Content.{Content}
-use Rattle.ill_typed.specs.Shape.{record_of, listed, option_of, flag_content, number_content, date_content, time_content, printable_content, string_content}
+use Rattle.ill_parts.specs.Shape.{record_of, listed, option_of, flag_content, number_content, date_content, time_content, printable_content, string_content}
 use Rattle.ill_parts.specs.declared.party.Symbol.{Symbol}
 use Rattle.ill_parts.specs.declared.party.Name.{Name}
 use Rattle.ill_parts.specs.declared.party.SystemId.{SystemId}

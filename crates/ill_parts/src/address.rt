@@ -1,10 +1,10 @@
 //! Addresses.
+use crate::part::{
+    Node, Part, Typed, both, entries, four_optional, optional, optional_value, sequence,
+};
 use crate::party::Name;
 use ber_leaf::IllString;
 use ill_schema::{NodeId, Value};
-use ill_typed::{
-    Node, Part, Typed, both, entries, four_optional, optional, optional_value, sequence,
-};
 use std::alloc::{AllocError, Global};
 
 /// An address for mail (Postal-Address).
@@ -42,7 +42,7 @@ impl Node for PostalAddress {
 #[tactic(auto, unfolding(crate::specs::Views::postal_address))]
 impl Part for PostalAddress {
     ghost use Rattle.ill_tables.specs.declared.node.NodeId.TheVariants.{PostalAddress as TheNode};
-    ghost use Rattle.ill_typed.specs.Shape.{Is};
+    ghost use Rattle.ill_parts.specs.Shape.{Is};
     ghost use Rattle.ill_parts.specs.Views.{postal_address};
 
     ghost content = { postal_address };
@@ -113,7 +113,7 @@ impl Node for SystemAddress {
 #[tactic(auto, unfolding(crate::specs::Views::system_address))]
 impl Part for SystemAddress {
     ghost use Rattle.ill_tables.specs.declared.node.NodeId.TheVariants.{SystemAddress as TheNode};
-    ghost use Rattle.ill_typed.specs.Shape.{Is};
+    ghost use Rattle.ill_parts.specs.Shape.{Is};
     ghost use Rattle.ill_parts.specs.Views.{system_address};
 
     ghost content = { system_address };
@@ -174,7 +174,7 @@ impl Node for DeliveryAddress {
 #[tactic(auto, unfolding(crate::specs::Views::delivery_address))]
 impl Part for DeliveryAddress {
     ghost use Rattle.ill_tables.specs.declared.node.NodeId.TheVariants.{DeliveryAddress as TheNode};
-    ghost use Rattle.ill_typed.specs.Shape.{Is};
+    ghost use Rattle.ill_parts.specs.Shape.{Is};
     ghost use Rattle.ill_parts.specs.Views.{delivery_address};
 
     ghost content = { delivery_address };

@@ -1,7 +1,7 @@
 //! Clients of the requester.
+use crate::part::{Node, Part, Typed, both, entries, optional, optional_value, sequence};
 use ber_leaf::IllString;
 use ill_schema::{NodeId, Value};
-use ill_typed::{Node, Part, Typed, both, entries, optional, optional_value, sequence};
 use std::alloc::{AllocError, Global};
 
 /// The person for whom the requester wants the item (Client-Id).
@@ -29,7 +29,7 @@ impl Node for ClientId {
 #[tactic(auto, unfolding(crate::specs::Views::client_id))]
 impl Part for ClientId {
     ghost use Rattle.ill_tables.specs.declared.node.NodeId.TheVariants.{ClientId as TheNode};
-    ghost use Rattle.ill_typed.specs.Shape.{Is};
+    ghost use Rattle.ill_parts.specs.Shape.{Is};
     ghost use Rattle.ill_parts.specs.Views.{client_id};
 
     ghost content = { client_id };

@@ -1,9 +1,9 @@
 //! Money.
-use ber_leaf::{IllString, PrintableText};
-use ill_schema::{NodeId, Value};
-use ill_typed::{
+use crate::part::{
     Node, Part, Typed, both, entries, optional, optional_value, required, required_value, sequence,
 };
+use ber_leaf::{IllString, PrintableText};
+use ill_schema::{NodeId, Value};
 use std::alloc::{AllocError, Global};
 
 /// An amount of money (Amount).
@@ -29,7 +29,7 @@ impl Node for Amount {
 #[tactic(auto, unfolding(crate::specs::Views::amount))]
 impl Part for Amount {
     ghost use Rattle.ill_tables.specs.declared.node.NodeId.TheVariants.{Amount as TheNode};
-    ghost use Rattle.ill_typed.specs.Shape.{Is};
+    ghost use Rattle.ill_parts.specs.Shape.{Is};
     ghost use Rattle.ill_parts.specs.Views.{amount};
 
     ghost content = { amount };
@@ -95,7 +95,7 @@ impl Node for CostInfo {
 #[tactic(auto, unfolding(crate::specs::Views::cost_info))]
 impl Part for CostInfo {
     ghost use Rattle.ill_tables.specs.declared.node.NodeId.TheVariants.{CostInfo as TheNode};
-    ghost use Rattle.ill_typed.specs.Shape.{Is};
+    ghost use Rattle.ill_parts.specs.Shape.{Is};
     ghost use Rattle.ill_parts.specs.Views.{cost_info};
 
     ghost content = { cost_info };

@@ -1,7 +1,7 @@
 //! Means of delivery.
+use crate::part::{Node, Part, Typed, alternative, chosen};
 use ber_leaf::IllString;
 use ill_schema::{NodeId, Value};
-use ill_typed::{Node, Part, Typed, alternative, chosen};
 use std::alloc::{AllocError, Global};
 
 /// The service by which the item is to be delivered (Delivery-Service).
@@ -24,7 +24,7 @@ impl Node for DeliveryService {
 #[tactic(auto, unfolding(crate::specs::Views::delivery_service))]
 impl Part for DeliveryService {
     ghost use Rattle.ill_tables.specs.declared.node.NodeId.TheVariants.{DeliveryService as TheNode};
-    ghost use Rattle.ill_typed.specs.Shape.{Is};
+    ghost use Rattle.ill_parts.specs.Shape.{Is};
     ghost use Rattle.ill_parts.specs.Views.{delivery_service};
 
     ghost content = { delivery_service };
@@ -75,7 +75,7 @@ impl Node for ShippedVia {
 #[tactic(auto, unfolding(crate::specs::Views::shipped_via))]
 impl Part for ShippedVia {
     ghost use Rattle.ill_tables.specs.declared.node.NodeId.TheVariants.{ShippedVia as TheNode};
-    ghost use Rattle.ill_typed.specs.Shape.{Is};
+    ghost use Rattle.ill_parts.specs.Shape.{Is};
     ghost use Rattle.ill_parts.specs.Views.{shipped_via};
 
     ghost content = { shipped_via };

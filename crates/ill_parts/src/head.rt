@@ -4,13 +4,13 @@ ghost use Rattle.ill_tables.specs.declared.node.Kind.{Kind};
 ghost use Rattle.ill_tables.specs.declared.node.NodeId.TheVariants.{Integer, TransactionId as TransactionNode, ServiceDateTime as TimeNode, SystemId as SystemNode};
 ghost use Rattle.ill_tables.specs.Table.{kind_of, rows_of};
 ghost use Rattle.ill_schema.specs.Value.{content_of};
-ghost use Rattle.ill_typed.specs.Shape.{Is, Must, May, AreBuilt, AreReady, RowsHold, entries_seen, entry_at, head_rows, number_content, other_rows, record_of};
+ghost use Rattle.ill_parts.specs.Shape.{Is, Must, May, AreBuilt, AreReady, RowsHold, entries_seen, entry_at, head_rows, number_content, other_rows, record_of};
 ghost use Rattle.ill_parts.specs.Views.{headed, transaction_id, service_date_time, system_id};
 
+use crate::part::{Node, both, optional, optional_value, push_all, required, required_value};
 use crate::party::SystemId;
 use crate::transaction::{ServiceDateTime, TransactionId};
 use ill_schema::Value;
-use ill_typed::{Node, both, optional, optional_value, push_all, required, required_value};
 use std::alloc::{AllocError, Global};
 
 /// The head of each APDU: its first five rows.

@@ -1,9 +1,9 @@
 //! Items.
-use ber_leaf::IllString;
-use ill_schema::{NodeId, Value};
-use ill_typed::{
+use crate::part::{
     Node, Part, Typed, both, entries, four_optional, optional, optional_value, sequence,
 };
+use ber_leaf::IllString;
+use ill_schema::{NodeId, Value};
 use std::alloc::{AllocError, Global};
 
 /// The item that is asked for: a monograph, a serial or a part of one (Item-Id).
@@ -70,7 +70,7 @@ impl Node for ItemId {
 #[tactic(auto, unfolding(crate::specs::Views::item_id))]
 impl Part for ItemId {
     ghost use Rattle.ill_tables.specs.declared.node.NodeId.TheVariants.{ItemId as TheNode};
-    ghost use Rattle.ill_typed.specs.Shape.{Is};
+    ghost use Rattle.ill_parts.specs.Shape.{Is};
     ghost use Rattle.ill_parts.specs.Views.{item_id};
 
     ghost content = { item_id };

@@ -16,8 +16,11 @@ mod cost;
 mod delivery;
 mod head;
 mod item;
+mod leaves;
+mod list;
 mod medium;
 mod optional_messages;
+mod part;
 mod party;
 mod search_type;
 mod supply;
@@ -29,13 +32,13 @@ pub use client::ClientId;
 pub use cost::{Amount, CostInfo};
 pub use delivery::{DeliveryService, ShippedVia};
 pub use head::{Head, headed, read_head};
-pub use ill_typed::{
-    Node, Part, Typed, alternative, both, chosen, entries, four_optional, optional, optional_value,
-    required, required_value, sequence,
-};
 pub use item::ItemId;
 pub use medium::{SupplyMediumInfo, UnitsPerMedium};
 pub use optional_messages::{RequesterOptionalMessages, ResponderOptionalMessages};
+pub use part::{
+    Node, Part, Typed, alternative, both, chosen, entries, four_optional, optional, optional_value,
+    required, required_value, sequence,
+};
 pub use party::{Name, Symbol, SystemId};
 pub use search_type::SearchType;
 pub use supply::{DateDue, SupplyDetails};

@@ -1,9 +1,9 @@
 //! Media.
-use ber_leaf::IllString;
-use ill_schema::{NodeId, Value};
-use ill_typed::{
+use crate::part::{
     Node, Part, Typed, entries, optional, optional_value, required, required_value, sequence,
 };
+use ber_leaf::IllString;
+use ill_schema::{NodeId, Value};
 use std::alloc::{AllocError, Global};
 
 /// A medium in which the requester accepts the item (Supply-Medium-Info).
@@ -30,7 +30,7 @@ impl Node for SupplyMediumInfo {
 #[tactic(auto, unfolding(crate::specs::Views::supply_medium_info))]
 impl Part for SupplyMediumInfo {
     ghost use Rattle.ill_tables.specs.declared.node.NodeId.TheVariants.{SupplyMediumInfo as TheNode};
-    ghost use Rattle.ill_typed.specs.Shape.{Is};
+    ghost use Rattle.ill_parts.specs.Shape.{Is};
     ghost use Rattle.ill_parts.specs.Views.{supply_medium_info};
 
     ghost content = { supply_medium_info };
@@ -87,7 +87,7 @@ impl Node for UnitsPerMedium {
 #[tactic(auto, unfolding(crate::specs::Views::units_per_medium))]
 impl Part for UnitsPerMedium {
     ghost use Rattle.ill_tables.specs.declared.node.NodeId.TheVariants.{UnitsPerMedium as TheNode};
-    ghost use Rattle.ill_typed.specs.Shape.{Is};
+    ghost use Rattle.ill_parts.specs.Shape.{Is};
     ghost use Rattle.ill_parts.specs.Views.{units_per_medium};
 
     ghost content = { units_per_medium };

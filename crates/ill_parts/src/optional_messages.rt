@@ -1,6 +1,6 @@
 //! Which optional messages the parties can send and want.
+use crate::part::{Node, Part, Typed, entries, required, required_value, sequence};
 use ill_schema::{NodeId, Value};
-use ill_typed::{Node, Part, Typed, entries, required, required_value, sequence};
 use std::alloc::{AllocError, Global};
 
 /// The optional messages that the requester can send, and those that it wants
@@ -31,7 +31,7 @@ impl Node for RequesterOptionalMessages {
 #[tactic(auto, unfolding(crate::specs::Views::requester_optional_messages))]
 impl Part for RequesterOptionalMessages {
     ghost use Rattle.ill_tables.specs.declared.node.NodeId.TheVariants.{RequesterOptionalMessages as TheNode};
-    ghost use Rattle.ill_typed.specs.Shape.{Is};
+    ghost use Rattle.ill_parts.specs.Shape.{Is};
     ghost use Rattle.ill_parts.specs.Views.{requester_optional_messages};
 
     ghost content = { requester_optional_messages };
@@ -96,7 +96,7 @@ impl Node for ResponderOptionalMessages {
 #[tactic(auto, unfolding(crate::specs::Views::responder_optional_messages))]
 impl Part for ResponderOptionalMessages {
     ghost use Rattle.ill_tables.specs.declared.node.NodeId.TheVariants.{ResponderOptionalMessages as TheNode};
-    ghost use Rattle.ill_typed.specs.Shape.{Is};
+    ghost use Rattle.ill_parts.specs.Shape.{Is};
     ghost use Rattle.ill_parts.specs.Views.{responder_optional_messages};
 
     ghost content = { responder_optional_messages };

@@ -1,9 +1,9 @@
 //! Parties to a transaction.
-use ber_leaf::IllString;
-use ill_schema::{NodeId, Value};
-use ill_typed::{
+use crate::part::{
     Node, Part, Typed, alternative, both, chosen, entries, optional, optional_value, sequence,
 };
+use ber_leaf::IllString;
+use ill_schema::{NodeId, Value};
 use std::alloc::{AllocError, Global};
 
 /// The symbol by which a party is known (Symbol).
@@ -26,7 +26,7 @@ impl Node for Symbol {
 #[tactic(auto, unfolding(crate::specs::Views::symbol))]
 impl Part for Symbol {
     ghost use Rattle.ill_tables.specs.declared.node.NodeId.TheVariants.{Symbol as TheNode};
-    ghost use Rattle.ill_typed.specs.Shape.{Is};
+    ghost use Rattle.ill_parts.specs.Shape.{Is};
     ghost use Rattle.ill_parts.specs.Views.{symbol};
 
     ghost content = { symbol };
@@ -79,7 +79,7 @@ impl Node for Name {
 #[tactic(auto, unfolding(crate::specs::Views::name))]
 impl Part for Name {
     ghost use Rattle.ill_tables.specs.declared.node.NodeId.TheVariants.{Name as TheNode};
-    ghost use Rattle.ill_typed.specs.Shape.{Is};
+    ghost use Rattle.ill_parts.specs.Shape.{Is};
     ghost use Rattle.ill_parts.specs.Views.{name};
 
     ghost content = { name };
@@ -136,7 +136,7 @@ impl Node for SystemId {
 #[tactic(auto, unfolding(crate::specs::Views::system_id))]
 impl Part for SystemId {
     ghost use Rattle.ill_tables.specs.declared.node.NodeId.TheVariants.{SystemId as TheNode};
-    ghost use Rattle.ill_typed.specs.Shape.{Is};
+    ghost use Rattle.ill_parts.specs.Shape.{Is};
     ghost use Rattle.ill_parts.specs.Views.{system_id};
 
     ghost content = { system_id };

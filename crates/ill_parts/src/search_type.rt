@@ -1,9 +1,9 @@
 //! Search-Type: the way in which a request is searched.
-use ber_leaf::{DateText, IllString};
-use ill_schema::{NodeId, Value};
-use ill_typed::{
+use crate::part::{
     Node, Part, Typed, both, entries, optional, optional_value, required, required_value, sequence,
 };
+use ber_leaf::{DateText, IllString};
+use ill_schema::{NodeId, Value};
 use std::alloc::{AllocError, Global};
 
 /// The extent of the search, and its end (Search-Type).
@@ -34,7 +34,7 @@ impl Node for SearchType {
 #[tactic(auto, unfolding(crate::specs::Views::search_type))]
 impl Part for SearchType {
     ghost use Rattle.ill_tables.specs.declared.node.NodeId.TheVariants.{SearchType as TheNode};
-    ghost use Rattle.ill_typed.specs.Shape.{Is};
+    ghost use Rattle.ill_parts.specs.Shape.{Is};
     ghost use Rattle.ill_parts.specs.Views.{search_type};
 
     ghost content = { search_type };

@@ -2,12 +2,12 @@
 use crate::cost::Amount;
 use crate::delivery::ShippedVia;
 use crate::medium::UnitsPerMedium;
-use ber_leaf::DateText;
-use ill_schema::{NodeId, Value};
-use ill_typed::{
+use crate::part::{
     Node, Part, Typed, both, entries, four_optional, optional, optional_value, required,
     required_value, sequence,
 };
+use ber_leaf::DateText;
+use ill_schema::{NodeId, Value};
 use std::alloc::{AllocError, Global};
 
 /// The date when an item is due back (Date-Due).
@@ -33,7 +33,7 @@ impl Node for DateDue {
 #[tactic(auto, unfolding(crate::specs::Views::date_due))]
 impl Part for DateDue {
     ghost use Rattle.ill_tables.specs.declared.node.NodeId.TheVariants.{DateDue as TheNode};
-    ghost use Rattle.ill_typed.specs.Shape.{Is};
+    ghost use Rattle.ill_parts.specs.Shape.{Is};
     ghost use Rattle.ill_parts.specs.Views.{date_due};
 
     ghost content = { date_due };
@@ -103,7 +103,7 @@ impl Node for SupplyDetails {
 #[tactic(auto, unfolding(crate::specs::Views::supply_details))]
 impl Part for SupplyDetails {
     ghost use Rattle.ill_tables.specs.declared.node.NodeId.TheVariants.{SupplyDetails as TheNode};
-    ghost use Rattle.ill_typed.specs.Shape.{Is};
+    ghost use Rattle.ill_parts.specs.Shape.{Is};
     ghost use Rattle.ill_parts.specs.Views.{supply_details};
 
     ghost content = { supply_details };

@@ -1,11 +1,11 @@
 //! Third-Party-Info-Type: the rights of third parties.
 use crate::address::SystemAddress;
+use crate::part::{
+    Node, Part, Typed, both, entries, optional, optional_value, required, required_value, sequence,
+};
 use crate::party::SystemId;
 use ber_leaf::IllString;
 use ill_schema::{NodeId, Value};
-use ill_typed::{
-    Node, Part, Typed, both, entries, optional, optional_value, required, required_value, sequence,
-};
 use std::alloc::{AllocError, Global};
 
 /// A library to which the request may go (Send-To).
@@ -33,7 +33,7 @@ impl Node for SendTo {
 #[tactic(auto, unfolding(crate::specs::Views::send_to))]
 impl Part for SendTo {
     ghost use Rattle.ill_tables.specs.declared.node.NodeId.TheVariants.{SendTo as TheNode};
-    ghost use Rattle.ill_typed.specs.Shape.{Is};
+    ghost use Rattle.ill_parts.specs.Shape.{Is};
     ghost use Rattle.ill_parts.specs.Views.{send_to};
 
     ghost content = { send_to };
@@ -105,7 +105,7 @@ impl Node for ThirdPartyInfo {
 #[tactic(auto, unfolding(crate::specs::Views::third_party_info))]
 impl Part for ThirdPartyInfo {
     ghost use Rattle.ill_tables.specs.declared.node.NodeId.TheVariants.{ThirdPartyInfo as TheNode};
-    ghost use Rattle.ill_typed.specs.Shape.{Is};
+    ghost use Rattle.ill_parts.specs.Shape.{Is};
     ghost use Rattle.ill_parts.specs.Views.{third_party_info};
 
     ghost content = { third_party_info };

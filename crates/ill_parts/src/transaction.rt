@@ -1,10 +1,10 @@
 //! Transactions, and when their services are invoked.
+use crate::part::{
+    Node, Part, Typed, both, entries, optional, optional_value, required, required_value, sequence,
+};
 use crate::party::SystemId;
 use ber_leaf::{DateText, IllString, TimeText};
 use ill_schema::{NodeId, Value};
-use ill_typed::{
-    Node, Part, Typed, both, entries, optional, optional_value, required, required_value, sequence,
-};
 use std::alloc::{AllocError, Global};
 
 /// The transaction or subtransaction that a message belongs to (Transaction-Id).
@@ -34,7 +34,7 @@ impl Node for TransactionId {
 #[tactic(auto, unfolding(crate::specs::Views::transaction_id))]
 impl Part for TransactionId {
     ghost use Rattle.ill_tables.specs.declared.node.NodeId.TheVariants.{TransactionId as TheNode};
-    ghost use Rattle.ill_typed.specs.Shape.{Is};
+    ghost use Rattle.ill_parts.specs.Shape.{Is};
     ghost use Rattle.ill_parts.specs.Views.{transaction_id};
 
     ghost content = { transaction_id };
@@ -97,7 +97,7 @@ impl Node for DateTime {
 #[tactic(auto, unfolding(crate::specs::Views::date_time))]
 impl Part for DateTime {
     ghost use Rattle.ill_tables.specs.declared.node.NodeId.TheVariants.{DateTime as TheNode};
-    ghost use Rattle.ill_typed.specs.Shape.{Is};
+    ghost use Rattle.ill_parts.specs.Shape.{Is};
     ghost use Rattle.ill_parts.specs.Views.{date_time};
 
     ghost content = { date_time };
@@ -151,7 +151,7 @@ impl Node for ServiceDateTime {
 #[tactic(auto, unfolding(crate::specs::Views::service_date_time))]
 impl Part for ServiceDateTime {
     ghost use Rattle.ill_tables.specs.declared.node.NodeId.TheVariants.{ServiceDateTime as TheNode};
-    ghost use Rattle.ill_typed.specs.Shape.{Is};
+    ghost use Rattle.ill_parts.specs.Shape.{Is};
     ghost use Rattle.ill_parts.specs.Views.{service_date_time};
 
     ghost content = { service_date_time };

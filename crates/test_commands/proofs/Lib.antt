@@ -1,3 +1,5 @@
 pub mod Bounds
 pub mod Outputs
 pub mod Dumped
+pub mod OneOrder
+pub mod Profiles

@@ -1,9 +1,9 @@
 use Rattle.std.proofs.Common.{◌≡◌, ◌++◌, [], sym, ap, ◌∙◌, subst, map, Ok, List, Option, rules}
 use Rattle.ill_tables.specs.declared.part.Row.{Row}
 use Rattle.ill_schema.specs.Content.{Content}
-use Rattle.ill_typed.specs.Shape.{AreBuilt, AreReady, head_rows, other_rows, record_of}
+use Rattle.ill_parts.specs.Shape.{AreBuilt, AreReady, head_rows, other_rows, record_of}
 use Rattle.ill_parts.specs.Views.{headed}
-use Rattle.ill_typed.proofs.Shapes.{record_fits, built_seen, ready_holds, built_joined, ready_joined, seen_built, seen_ready, content_of-record}
+use Rattle.ill_parts.proofs.Shapes.{record_fits, built_seen, ready_holds, built_joined, ready_joined, seen_built, seen_ready, content_of-record}
 use Rattle.ill_parts.proofs.head.headed.Goals as goal
 
 pub returns-clause-value : goal.returns-clause-value

@@ -1,5 +1,5 @@
 use Rattle.std.proofs.Common.{rules}
-use Rattle.ill_typed.specs.Shape.{entry_at}
+use Rattle.ill_parts.specs.Shape.{entry_at}
 use Rattle.ill_apdu.proofs.Requests.{request_is}
 use Rattle.ill_apdu.proofs.request.IllRequestPart.read.Goals as goal
 

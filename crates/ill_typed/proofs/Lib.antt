@@ -1,2 +1,0 @@
-pub mod Shapes
-pub mod Exact

@@ -1,2 +1,0 @@
-pub mod OneOrder
-pub mod Profiles

@@ -1,5 +1,0 @@
-//! Laws and tests of the command line (`ill_args`) alone.
-#![tactic(auto)]
-
-#[cfg(test)]
-mod orders;
