@@ -259,7 +259,7 @@ fn by_hex<'a>(
         .arg(profile(alloc, profiles))
 }
 
-/// A command with these arguments more.
+/// The command with these arguments added.
 fn with_arguments<'a>(
     alloc: Global,
     command: Command<'a>,

@@ -1,4 +1,4 @@
-//! Which optional messages the parties can send and want.
+//! The optional messages that the parties can send and want.
 use crate::part::{Node, Part, Typed, entries, required, required_value, sequence};
 use ill_schema::{NodeId, Value};
 use std::alloc::{AllocError, Global};
