@@ -275,7 +275,7 @@ NAMES = {"feed": "Decoder::feed"}
 # Definitions that a law states in the words of others, so that nobody has to believe them: the law, and what they are.
 READING = "Rattle.ber_core.specs.Reading"
 LAWS = {(READING, name): ("ber_core", "headers_are_read") for name in ("class_of", "tagged", "read_digits", "read_number", "read_identifier", "read_length")}
-PRODUCT = "ber_core ber_framing ber_leaf ill_tables ill_schema ill_refusals ill_inputs ill_read ill_write ill_normal ill_marks ill_text ill_json ill_commands ill_walk ill_dump ill_lines ill_args ill_files ill_tally ill_cli ill_c ill_parts ill_apdu".split()
+PRODUCT = "ber_tree ber_core ber_framing ber_leaf ill_tables ill_schema ill_refusals ill_inputs ill_read ill_write ill_normal ill_marks ill_text ill_json ill_commands ill_walk ill_dump ill_lines ill_args ill_files ill_batch ill_cli ill_c ill_parts ill_apdu".split()
 
 
 def columns():

@@ -1,8 +1,8 @@
 -- The DER encoding of a tree spells it, and has the size that is said of it.
 use Rattle.std.proofs.Common.{◌≡◌, ℕ, ◌+◌, ◌<◌, ◌^◌, true, false, List, ◌++◌, length, refl, ap, ◌∙◌, inl, arith, length-append}
-use Rattle.ber_core.specs.Identifier.{identifier}
-use Rattle.ber_core.specs.Length.{IsLength, shortest_length}
-use Rattle.ber_core.specs.Tree.{Tree, Trees, primitive, constructed, none, more, Spells, SpellsAll}
+use Rattle.ber_tree.specs.Identifier.{identifier}
+use Rattle.ber_tree.specs.Length.{IsLength, shortest_length}
+use Rattle.ber_tree.specs.Tree.{Tree, Trees, primitive, constructed, none, more, Spells, SpellsAll}
 use Rattle.ber_core.specs.Der.{encoding, encodings, size, sizes, HasIdentifiers, HaveIdentifiers}
 use Rattle.ber_core.proofs.Shortest.{shortest_is}
 

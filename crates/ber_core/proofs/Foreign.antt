@@ -2,11 +2,11 @@
 use Rattle.std.proofs.Common.{◌≡◌, ℕ, zero, suc, ◌≤◌, Bool, true, false, not, ◌&&◌, ◌||◌, IsTrue, refl, subst, arith}
 use Rattle.std.specs.Prelude.{nat_eq, nat_le}
 use Rattle.std.proofs.lemmas.Bool.{and_parts}
-use Rattle.ber_core.specs.declared.id.Class.{Class}
-use Rattle.ber_core.specs.Identifier.{Tag, HasIdentifier, class_bits}
+use Rattle.ber_tree.specs.declared.class.Class.{Class}
+use Rattle.ber_tree.specs.Identifier.{Tag, HasIdentifier, class_bits}
 use Rattle.ber_core.specs.Der.{HasIdentifiers, HaveIdentifiers}
 use Rattle.ber_core.specs.Foreign.{is_identified, is_foreign, are_foreign}
-use Rattle.ber_core.specs.Tree.{Tree, Trees, primitive, constructed, none, more, depth, depth_all}
+use Rattle.ber_tree.specs.Tree.{Tree, Trees, primitive, constructed, none, more, depth, depth_all}
 
 no_end : (c : Class) (n : ℕ) (f : Bool) → IsTrue (f || not (nat_eq (class_bits c) 0 && nat_eq n 0)) → c ≡ Class.Universal → n ≡ 0 → f ≡ true
 no_end c n true h e z = refl

@@ -7,13 +7,13 @@ use Rattle.ber_core.specs.declared.header.Len.{Len}
 use Rattle.ber_core.specs.declared.header.Len.TheVariants.{Definite, Indefinite}
 use Rattle.ber_core.specs.Header.{SpellsLen, IsHeader, IsPartHeader, IsFault}
 use Rattle.ber_core.specs.Id.{tag_of_id, id_octets}
-use Rattle.ber_core.specs.Identifier.{Tag, identifier, HasIdentifier}
-use Rattle.ber_core.specs.Length.{IsLength, short}
+use Rattle.ber_tree.specs.Identifier.{Tag, identifier, HasIdentifier}
+use Rattle.ber_tree.specs.Length.{IsLength, short}
 use Rattle.ber_core.proofs.Identifiers.{identifier_unique}
 use Rattle.ber_core.proofs.Lengths.{length_unique}
-use Rattle.ber_core.proofs.Lists.{cells}
+use Rattle.ber_tree.proofs.Lists.{cells}
 use Rattle.ber_core.proofs.Trees.{no_length_128}
-use Rattle.ber_core.specs.Octets.{are_octets}
+use Rattle.ber_tree.specs.Octets.{are_octets}
 use Rattle.ber_core.specs.Reading.{IdentifierRead, identified, part_identifier, no_identifier, read_identifier, LengthRead, definite, indefinite, part_length, no_length, read_length}
 use Rattle.ber_core.proofs.PartHeaders.{completing, none_begins, part_begins, no_length_begins, part_begins_length}
 use Rattle.ber_core.proofs.ReadOctets.{identifier_read, read_is_identifier, read_is_length, read_is_indefinite, octets_right}

@@ -7,7 +7,7 @@ use Rattle.ber_core.specs.declared.header.Len.{Len}
 use Rattle.ber_core.specs.declared.header.Len.TheVariants.{Definite, Indefinite}
 use Rattle.ber_core.specs.Header.{IsHeader, IsPartHeader, IsFault, HasWholeId, BeginsWithId, SpellsLen}
 use Rattle.ber_core.specs.Id.{tag_of_id, form_of_id, id_octets}
-use Rattle.ber_core.specs.Octets.{are_octets}
+use Rattle.ber_tree.specs.Octets.{are_octets}
 use Rattle.ber_core.specs.HeaderRead.{IsWholeLength}
 use Rattle.ber_core.specs.Reading.{LengthRead, read_identifier, read_length, identified, no_identifier, part_identifier, definite, indefinite, no_length, part_length}
 use Rattle.ber_core.proofs.HeaderFaults.{bad_tag_read, bad_length_read, part_header_read}

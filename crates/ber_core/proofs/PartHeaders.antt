@@ -3,12 +3,12 @@ use Rattle.std.proofs.Common.{◌≡◌, ℕ, zero, suc, ◌+◌, ◌-◌, ◌*�
 use Rattle.std.specs.Prelude.{nat_eq, nat_lt, nat_le}
 use Rattle.std.proofs.lemmas.List.{length-replicate}
 use Rattle.std.specs.Int.Digits.{AllBelowBase, number_from_digits}
-use Rattle.ber_core.specs.Identifier.{Tag, identifier, HasIdentifier}
-use Rattle.ber_core.specs.Length.{IsLength, short, long}
-use Rattle.ber_core.specs.Octets.{are_octets}
+use Rattle.ber_tree.specs.Identifier.{Tag, identifier, HasIdentifier}
+use Rattle.ber_tree.specs.Length.{IsLength, short, long}
+use Rattle.ber_tree.specs.Octets.{are_octets}
 use Rattle.ber_core.specs.Reading.{IdentifierRead, identified, part_identifier, no_identifier, tagged, read_digits, read_number, read_identifier, LengthRead, definite, indefinite, part_length, no_length, read_length}
 use Rattle.ber_core.proofs.ReadOctets.{identifier_read, length_read, read_is_identifier, no_identifier_longer, no_length_longer, octets_join, octet_small, below_256}
-use Rattle.ber_core.proofs.Lists.{two_cases}
+use Rattle.ber_tree.proofs.Lists.{two_cases}
 
 -- no identifier begins with octets that are read as none
 pub none_begins : (w : List ℕ) (t : Tag) (f : Bool) (x y : List ℕ) → read_identifier w ≡ no_identifier → HasIdentifier t f → w ++ y ≡ identifier t f ++ x → ⊥

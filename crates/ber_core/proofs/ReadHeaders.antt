@@ -1,6 +1,6 @@
 -- What is read of headers is what identifiers and lengths are.
 use Rattle.std.proofs.Common.{◌≡◌, ℕ, Bool, true, List, [], ◌∷◌, IsTrue, refl, sym, ap, ◌∙◌, append-nil}
-use Rattle.ber_core.specs.Octets.{are_octets}
+use Rattle.ber_tree.specs.Octets.{are_octets}
 use Rattle.ber_core.specs.ReadHeaders.{IdentifiersAreRead, MatchesIdentifier, MatchesLength, LengthsAreRead}
 use Rattle.ber_core.specs.Reading.{IdentifierRead, identified, part_identifier, no_identifier, read_identifier, LengthRead, definite, indefinite, part_length, no_length, read_length}
 use Rattle.ber_core.proofs.ReadOctets.{indefinite_read, read_is_identifier, read_is_indefinite, read_is_length}

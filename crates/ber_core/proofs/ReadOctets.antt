@@ -2,14 +2,14 @@
 use Rattle.std.proofs.Common.{◌≡◌, ℕ, zero, suc, ◌+◌, ◌-◌, ◌*◌, ◌%◌, ◌<◌, ◌≤◌, Bool, true, false, ◌||◌, List, [], ◌∷◌, ◌++◌, length, take, drop, IsTrue, refl, sym, ap, ap₂, subst, ◌∙◌, inl, inr, arith, if◌then◌else◌, length-append, ltb-true, ltb-false}
 use Rattle.std.specs.Prelude.{nat_eq, nat_lt, nat_le}
 use Rattle.std.specs.Int.Digits.{AllBelowBase, number_from_digits}
-use Rattle.ber_core.specs.declared.id.Class.{Class}
-use Rattle.ber_core.specs.Identifier.{Tag, class_bits, form_bit, base_128, identifier, HasIdentifier}
-use Rattle.ber_core.specs.Length.{IsLength, short, long}
+use Rattle.ber_tree.specs.declared.class.Class.{Class}
+use Rattle.ber_tree.specs.Identifier.{Tag, class_bits, form_bit, base_128, identifier, HasIdentifier}
+use Rattle.ber_tree.specs.Length.{IsLength, short, long}
 use Rattle.ber_core.proofs.Identifiers.{Digits, one, two, three, four, digits, Identified, low, high, identified}
 use Rattle.std.proofs.lemmas.List.{take-append-drop, length-take-le, take-append-le, drop-append-le}
-use Rattle.ber_core.specs.Octets.{are_octets}
+use Rattle.ber_tree.specs.Octets.{are_octets}
 use Rattle.ber_core.specs.Reading.{IdentifierRead, identified as found, part_identifier, no_identifier, class_of, tagged, read_digits, read_number, read_identifier, LengthRead, definite, indefinite, part_length, no_length, read_length}
-use Rattle.ber_core.proofs.Lists.{two_cases}
+use Rattle.ber_tree.proofs.Lists.{two_cases}
 use Rattle.std.proofs.lemmas.Bool.{and_parts}
 
 -- the first octet

@@ -1,8 +1,8 @@
 -- DER: definite lengths in the fewest octets (X.690, 10.1).
 use Rattle.std.specs.Prelude.{ℕ, ◌+◌, Bool, true, false, List, [], ◌++◌, length}
-use Rattle.ber_core.specs.Identifier.{Tag, identifier, HasIdentifier}
-use Rattle.ber_core.specs.Length.{shortest_length}
-use Rattle.ber_core.specs.Tree.{Tree, Trees, primitive, constructed, none, more}
+use Rattle.ber_tree.specs.Identifier.{Tag, identifier, HasIdentifier}
+use Rattle.ber_tree.specs.Length.{shortest_length}
+use Rattle.ber_tree.specs.Tree.{Tree, Trees, primitive, constructed, none, more}
 
 abbrev mutual
   -- identifier, shortest length and contents (10.1)

@@ -1,8 +1,8 @@
 -- Foreign trees: what stands where the type is open (X.690, 8.15). Each element counts as it is, but for its length.
 use Rattle.std.specs.Prelude.{ℕ, zero, suc, Bool, true, false, not, ◌&&◌, ◌||◌, nat_eq, nat_le}
-use Rattle.ber_core.specs.Identifier.{Tag, class_bits}
-use Rattle.ber_core.specs.Octets.{are_octets}
-use Rattle.ber_core.specs.Tree.{Tree, Trees, primitive, constructed, none, more}
+use Rattle.ber_tree.specs.Identifier.{Tag, class_bits}
+use Rattle.ber_tree.specs.Octets.{are_octets}
+use Rattle.ber_tree.specs.Tree.{Tree, Trees, primitive, constructed, none, more}
 
 -- the tag has an identifier in this form, as `HasIdentifier` says (8.1.2, 8.1.5)
 abbrev pub is_identified : Tag → Bool → Bool

@@ -1,7 +1,7 @@
 -- What contracts see of an identifier that is held.
 use Rattle.std.specs.Prelude.{ℕ, Bool, List}
 use Rattle.ber_core.specs.declared.id.Id.{Id}
-use Rattle.ber_core.specs.Identifier.{Tag, identifier}
+use Rattle.ber_tree.specs.Identifier.{Tag, identifier}
 
 abbrev pub tag_of_id : Id → Tag
 tag_of_id id = record { class = id.class; number = id.number }

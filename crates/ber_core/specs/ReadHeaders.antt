@@ -1,8 +1,8 @@
 -- What is read at the front of octets, in the words of identifier octets and length octets (X.690, 8.1.2 and 8.1.3).
 use Rattle.std.specs.Prelude.{◌≡◌, ℕ, Bool, true, List, ◌∷◌, ◌++◌, IsTrue}
-use Rattle.ber_core.specs.Identifier.{Tag, HasIdentifier, identifier}
-use Rattle.ber_core.specs.Length.{IsLength}
-use Rattle.ber_core.specs.Octets.{are_octets}
+use Rattle.ber_tree.specs.Identifier.{Tag, HasIdentifier, identifier}
+use Rattle.ber_tree.specs.Length.{IsLength}
+use Rattle.ber_tree.specs.Octets.{are_octets}
 use Rattle.ber_core.specs.Reading.{IdentifierRead, identified, part_identifier, no_identifier, read_identifier, LengthRead, definite, indefinite, part_length, no_length, read_length}
 
 -- the octets begin with a whole identifier

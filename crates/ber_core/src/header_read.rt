@@ -6,7 +6,8 @@ ghost use Rattle.ber_core.specs.HeaderRead.{IsHeaderRead, IsLengthRead};
 ghost use Rattle.ber_core.specs.Reading.{class_of, identified, has_short_identifier, is_whole, read_identifier, read_length};
 
 use crate::header::{HeaderFault, HeaderState, Len};
-use crate::id::{Class, Id};
+use crate::id::Id;
+use ber_tree::Class;
 
 /// A header at the front of octets, as far as they show it.
 #[derive(Clone, Copy)]

@@ -4,7 +4,7 @@ use Rattle.std.specs.Int.Digits.{AllBelowBase, number_from_digits_after}
 use Rattle.std.proofs.lemmas.List.{length-replicate, take_all}
 use Rattle.std.proofs.Math.Seq.{take-add}
 use Rattle.std.proofs.Math.Nat.{pow-succ'}
-use Rattle.ber_core.specs.Length.{IsLength, short, long}
+use Rattle.ber_tree.specs.Length.{IsLength, short, long}
 use Rattle.ber_framing.specs.declared.framer.Framer.{Framer}
 use Rattle.ber_framing.specs.declared.framer.Stage.{Stage}
 use Rattle.ber_framing.specs.declared.framer.Stage.TheVariants.{Identifier, BetweenElements, Number, Length, EndOfContents, Unframed}

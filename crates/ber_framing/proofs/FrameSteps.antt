@@ -1,7 +1,7 @@
 -- What an octet does to the octets that finish an element: identifiers, end marks and contents.
 use Rattle.std.proofs.Common.{◌≡◌, ◌≢◌, ◌⊎◌, ◌↔◌, ℕ, suc, ◌+◌, ◌-◌, ◌%◌, ◌<◌, ◌≤◌, Bool, true, List, [], ◌∷◌, ◌++◌, length, refl, sym, ap, ap₂, subst, ◌∙◌, arith, append_assoc, length-append, inl, inr}
-use Rattle.ber_core.specs.Length.{IsLength}
-use Rattle.ber_core.proofs.Lists.{cells}
+use Rattle.ber_tree.specs.Length.{IsLength}
+use Rattle.ber_tree.proofs.Lists.{cells}
 use Rattle.ber_framing.specs.Framed.{is_constructed, IsTagNumber, last, more, IsIdentifier, low, high, IsFramed, definite, indefinite, AreFramed, none, next}
 use Rattle.ber_framing.specs.Framer.{Closes, IsElementThen, IsContentsThen, IsLengthThen, IsNumberThen, IsMarkThen}
 use Rattle.ber_framing.specs.Framer as then

@@ -1,14 +1,14 @@
 -- Octets begin with at most one framed element, and encodings are framed.
 use Rattle.std.proofs.Common.{◌≡◌, ◌≢◌, ℕ, zero, suc, ◌+◌, ◌%◌, ◌<◌, ◌≤◌, Bool, true, false, List, [], ◌∷◌, ◌++◌, length, refl, sym, ap, subst, ◌∙◌, arith, inl, inr, append_assoc, append-nil, length-append, lit<, nat_eq, true≢false}
 use Rattle.std.proofs.lemmas.List.{append_cancel_right}
-use Rattle.ber_core.specs.declared.id.Class.{Class}
-use Rattle.ber_core.specs.declared.id.Class.TheVariants.{Universal, Application, Context, Private}
-use Rattle.ber_core.specs.Identifier.{Tag, class_bits, form_bit, identifier, HasIdentifier}
-use Rattle.ber_core.specs.Tree.{Tree, Trees, primitive, constructed, none, more, Spells, SpellsAll, IsDefinite, depth, depth_all}
+use Rattle.ber_tree.specs.declared.class.Class.{Class}
+use Rattle.ber_tree.specs.declared.class.Class.TheVariants.{Universal, Application, Context, Private}
+use Rattle.ber_tree.specs.Identifier.{Tag, class_bits, form_bit, identifier, HasIdentifier}
+use Rattle.ber_tree.specs.Tree.{Tree, Trees, primitive, constructed, none, more, Spells, SpellsAll, IsDefinite, depth, depth_all}
 use Rattle.ber_core.proofs.Identifiers.{Digits, one, two, three, four, Identified, identified, leading_unique}
 use Rattle.ber_core.proofs.Identifiers as id
 use Rattle.ber_core.proofs.Lengths.{length_unique}
-use Rattle.ber_core.proofs.Lists.{cells, fronts}
+use Rattle.ber_tree.proofs.Lists.{cells, fronts}
 use Rattle.ber_core.proofs.Trees.{no_length_128}
 use Rattle.ber_framing.specs.declared.framer.Framing.{Framing}
 use Rattle.ber_framing.specs.declared.framer.Framing.TheVariants.{Part, Whole, Unframed}

@@ -2,8 +2,8 @@
 use Rattle.std.proofs.Common.{◌≡◌, ◌⊎◌, ◌↔◌, ℕ, zero, suc, ◌+◌, ◌*◌, ◌^◌, ◌<◌, ◌≤◌, Bool, true, false, List, [], ◌∷◌, ◌++◌, length, refl, sym, ap, subst, ◌∙◌, arith, inl, inr, true≢false, lit<, IsTrue, nat_eq, eqb-true}
 use Rattle.std.specs.Int.Digits.{AllBelowBase, number_from_digits, number_from_digits_after}
 use Rattle.std.proofs.Math.Nat.{pow-succ', mul-le-mul_right, mul-le-mul_left, pow-le-pow_right}
-use Rattle.ber_core.specs.Length.{IsLength, short, long}
-use Rattle.ber_core.proofs.Lists.{cells}
+use Rattle.ber_tree.specs.Length.{IsLength, short, long}
+use Rattle.ber_tree.proofs.Lists.{cells}
 use Rattle.ber_framing.specs.Framer.{Closes, IsContentsThen, IsLongThen, IsLengthThen, definite, indefinite}
 
 module _ (f : Bool) (marks deep o : ℕ) (x : List ℕ) where

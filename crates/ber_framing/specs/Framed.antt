@@ -1,6 +1,6 @@
 -- Octets that are one element by their identifiers and lengths alone (X.690, 8.1.1 to 8.1.5).
 use Rattle.std.specs.Prelude.{◌≡◌, ◌≢◌, ℕ, suc, ◌/◌, ◌%◌, ◌<◌, ◌≤◌, Bool, true, List, [], ◌∷◌, ◌++◌, length, nat_eq}
-use Rattle.ber_core.specs.Length.{IsLength}
+use Rattle.ber_tree.specs.Length.{IsLength}
 
 -- bit 6 of an element's first octet (8.1.2.5)
 abbrev pub is_constructed : ℕ → Bool

@@ -1,7 +1,7 @@
 -- What a framer says of the octets that it was fed.
 use Rattle.std.specs.Prelude.{◌≡◌, ◌↔◌, ℕ, zero, suc, ◌-◌, ◌≤◌, Bool, true, List, [], ◌∷◌, ◌++◌, length}
 use Rattle.std.specs.Int.Digits.{AllBelowBase, number_from_digits_after}
-use Rattle.ber_core.specs.Length.{IsLength}
+use Rattle.ber_tree.specs.Length.{IsLength}
 use Rattle.ber_framing.specs.declared.framer.Framing.{Framing}
 use Rattle.ber_framing.specs.declared.framer.Framing.TheVariants.{Part, Whole}
 use Rattle.ber_framing.specs.declared.framer.Framing.TheVariants as frame

@@ -1,6 +1,6 @@
 //! Laws of the definitions alone.
 ghost use Rattle.std.specs.Prelude.{◌≡◌, ℕ, ◌≤◌, List, ◌++◌, length};
-ghost use Rattle.ber_core.specs.Tree.{Tree, Spells, depth};
+ghost use Rattle.ber_tree.specs.Tree.{Tree, Spells, depth};
 ghost use Rattle.ber_framing.specs.Framed.{IsFrame, IsPartOfFrame, IsUnframed};
 ghost use Rattle.ber_framing.specs.Framer.{HasFraming};
 

@@ -3,7 +3,7 @@ use Rattle.std.proofs.Common.{◌≡◌, ℕ, suc, ◌-◌, ◌*◌, ◌/◌, �
 use Rattle.std.specs.Prelude.{nat_eq, nat_le}
 use Rattle.std.proofs.Math.Nat.{mul-div_cancel, div-mul-le_self}
 use Rattle.std.proofs.lemmas.Nat.{pow_pos}
-use Rattle.ber_core.specs.Octets.{are_octets}
+use Rattle.ber_tree.specs.Octets.{are_octets}
 use Rattle.ber_leaf.specs.Leaf.{bit_string, cleared, cleared_last, is_bits, value, normal_content}
 use Rattle.ber_leaf.proofs.Integers.{small}
 use Rattle.ber_leaf.specs.Simple.{bits}

@@ -11,11 +11,11 @@ use Rattle.std.proofs.lemmas.List.{length-replicate}
 use Rattle.std.proofs.lemmas.List.Folds.{list_all-append}
 use Rattle.ber_leaf.specs.declared.fault.LeafFault.{LeafFault}
 use Rattle.ber_leaf.specs.Simple.{whole}
-use Rattle.ber_core.specs.Octets.{are_octets}
+use Rattle.ber_tree.specs.Octets.{are_octets}
 use Rattle.ber_leaf.specs.Leaf.{integer, normal_content, Holds, integer_of, content_fault, big_endian, octet_count, is_padded}
 use Rattle.ber_leaf.specs.code.Sign.{magnitude, sign_octet}
 use Rattle.ber_leaf.specs.Profile.{Profile}
-use Rattle.ber_core.proofs.Lists.{two_cases}
+use Rattle.ber_tree.proofs.Lists.{two_cases}
 
 pub and_parts : (a b : Bool) → IsTrue (a && b) → IsTrue a × IsTrue b
 and_parts true b h = (refl, h)

@@ -1,7 +1,7 @@
 -- The form in which a BitString keeps its bits: their normal content.
 use Rattle.std.specs.Prelude.{◌≡◌, ℕ, List, [], ◌∷◌, IsTrue}
 use Rattle.std.proofs.Common.{ap}
-use Rattle.ber_core.specs.Octets.{are_octets}
+use Rattle.ber_tree.specs.Octets.{are_octets}
 use Rattle.ber_leaf.specs.Leaf.{is_bits, cleared_last}
 use Rattle.ber_leaf.specs.Simple.{Simple, bits}
 

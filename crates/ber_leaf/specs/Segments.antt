@@ -1,8 +1,8 @@
 -- Strings in segments (X.690, 8.6.4, 8.7.3, 8.23 and 8.25): the tag of a segment, and the content that segments have, joined.
 use Rattle.std.specs.Prelude.{ℕ, ◌&&◌, nat_eq, List, [], ◌∷◌, ◌++◌, if◌then◌else◌}
-use Rattle.ber_core.specs.declared.id.Class.TheVariants.{Universal}
-use Rattle.ber_core.specs.Identifier.{Tag}
-use Rattle.ber_core.specs.Tree.{Tree, Trees, primitive, constructed, none, more, text_all, octet_string}
+use Rattle.ber_tree.specs.declared.class.Class.TheVariants.{Universal}
+use Rattle.ber_tree.specs.Identifier.{Tag}
+use Rattle.ber_tree.specs.Tree.{Tree, Trees, primitive, constructed, none, more, text_all, octet_string}
 use Rattle.ber_leaf.specs.Leaf.{Leaf, bit_string, is_bits}
 
 -- segments of a BIT STRING are BIT STRINGs (8.6.4.1), those of another string are OCTET STRINGs (8.7.3.2, 8.23.6)

@@ -3,7 +3,7 @@ use Rattle.std.proofs.Common.{◌≡◌, ℕ, ◌+◌, ◌-◌, ◌<◌, ◌≤�
 use Rattle.std.proofs.lemmas.List.{drop-set, drop_all}
 use Rattle.std.proofs.lemmas.Int.Digits.{digits_of_step, length-digits_of_step}
 use Rattle.std.specs.Int.Digits.{digits_of}
-use Rattle.ber_core.specs.Length.{shortest_length}
+use Rattle.ber_tree.specs.Length.{shortest_length}
 use Rattle.ber_core.proofs.Shortest.{is_short}
 
 -- a length of one octet

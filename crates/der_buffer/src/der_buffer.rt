@@ -1,11 +1,11 @@
 ghost use Rattle.std.specs.Prelude.{◌≡◌, ℕ, ◌+◌, ◌-◌, ◌<◌, ◌≤◌, Bool, false, List, [], ◌∷◌, ◌++◌, Ok, IfOk, OnOk, length, take, drop, nat_eq};
 ghost use Rattle.std.specs.Vec.{vec_len, vec_capacity};
-ghost use Rattle.ber_core.specs.Identifier.{Tag, identifier};
+ghost use Rattle.ber_tree.specs.Identifier.{Tag, identifier};
 ghost use Rattle.ber_core.specs.Id.{tag_of_id, form_of_id, id_octets};
-ghost use Rattle.ber_core.specs.Length.{shortest_length};
+ghost use Rattle.ber_tree.specs.Length.{shortest_length};
 ghost use Rattle.ber_core.specs.Header.{shortest_header};
 ghost use Rattle.ber_core.specs.Der.{encoding};
-ghost use Rattle.ber_core.specs.Tree.{primitive};
+ghost use Rattle.ber_tree.specs.Tree.{primitive};
 
 use ber_core::{Id, leading_octet, put_header};
 use std::alloc::{AllocError, Global};

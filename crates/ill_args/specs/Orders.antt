@@ -4,7 +4,7 @@ use Rattle.std.specs.Option.{option_map_or}
 use Rattle.std.specs.Str.{bytes_eq}
 use Rattle.std.specs.Str.Parse.{IsNumeral, digits_value, without_leading_plus}
 use Rattle.clap.specs.Walk.{Row, Text, all_of, first_of, one_of}
-use Rattle.ill_schema.specs.declared.profile.Profile.{Profile}
+use Rattle.ill_tables.specs.declared.profile.Profile.{Profile}
 use Rattle.ill_args.specs.declared.orders.FileJob.{FileJob}
 use Rattle.ill_args.specs.declared.orders.Inputs.{Inputs}
 use Rattle.ill_args.specs.declared.orders.Order.{Order}

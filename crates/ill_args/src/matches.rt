@@ -18,7 +18,7 @@ use crate::help;
 use crate::orders::{FileJob, Inputs, Order, Task, Verb};
 use clap::error::ErrorKind;
 use clap::{ArgMatches, Error};
-use ill_schema::Profile;
+use ill_tables::Profile;
 use std::alloc::{AllocError, Global};
 
 pub fn read<'a>(alloc: Global, words: &'a [String]) -> Result<Order<'a>, LineFault>

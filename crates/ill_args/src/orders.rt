@@ -1,5 +1,5 @@
 //! Orders: the meaning of a command line.
-use ill_schema::Profile;
+use ill_tables::Profile;
 
 /// A command of the program.
 #[derive(Clone, Copy, Debug, PartialEq, Eq)]

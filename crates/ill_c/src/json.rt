@@ -3,7 +3,7 @@ ghost use Rattle.std.specs.Prelude.{◌≡◌, IfOk, length};
 ghost use Rattle.ber_leaf.specs.Profile.{Profile as Meaning, profile_two};
 ghost use Rattle.ill_schema.specs.Apdu.{Apdu, normal_form_in};
 ghost use Rattle.ill_schema.specs.Profiles.{profile_of};
-ghost use Rattle.ill_read.specs.Outline.{IsOutlineOf};
+ghost use Rattle.ill_grammar.specs.Outline.{IsOutlineOf};
 ghost use Rattle.ill_c.specs.Calls.{Writes, WritesAs, WritesIn, line_head_of, json_in};
 ghost use Rattle.ill_c.specs.Memory.{change};
 ghost use Rattle.ill_c.specs.Profiles.{profile_numbered};

@@ -2,7 +2,7 @@
 ghost use Rattle.std.specs.Prelude.{◌≡◌, ℕ, List, IfOk};
 ghost use Rattle.ill_schema.specs.Apdu.{Apdu, SpellsApdu, normal_form, normal_form_in};
 ghost use Rattle.ill_schema.specs.Profiles.{profile_of};
-ghost use Rattle.ill_read.specs.Outline.{IsOutlineOf};
+ghost use Rattle.ill_grammar.specs.Outline.{IsOutlineOf};
 ghost use Rattle.ill_text.specs.Shown.{shown_text, shown_text_in};
 ghost use Rattle.ill_c.specs.Calls.{Writes, WritesAs, WritesIn, digest, digest_in};
 ghost use Rattle.ill_c.specs.Memory.{change};

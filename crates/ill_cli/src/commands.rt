@@ -1,14 +1,11 @@
 //! The commands: what is opened, and what is done with it.
-use crate::collect::collect;
 use crate::compare::compare;
-use crate::each::print_each;
-use crate::input::write_input;
-use crate::plan::{InputAction, Plan};
+use crate::plan::Plan;
 use ill_args::{Order, order};
+use ill_batch::{JsonSummary, Tally, collect, end, print_each, write_one};
 use ill_files::{
-    Host, Output, ProgramError, ProgressLine, print_error, printable_error, status_of, words_of,
+    Host, ProgramError, ProgressLine, print_error, printable_error, status_of, words_of,
 };
-use ill_tally::{JsonSummary, OtherFiles, Tally, close_refused, end, open_refused};
 use std::rt::{Env, Files};
 
 /// Does what the process's words say, prints the line of each error, and returns the exit status: 0, 1, 2 or 3, as [`status_of`] says.
@@ -90,15 +87,7 @@ fn run_plan<R: Print + Eprint + Input + Files + AllocGlobal + Host>(
             output,
             whole,
             refused,
-        } => write_one(
-            rt,
-            InputAction::new(action, input, 1),
-            input,
-            output,
-            whole,
-            refused,
-            tally,
-        ),
+        } => write_one(rt, action, input, output, whole, refused, tally),
         Plan::Collect {
             action,
             inputs,
@@ -112,32 +101,4 @@ fn run_plan<R: Print + Eprint + Input + Files + AllocGlobal + Host>(
             second,
         } => end(rt, &compare(rt, reading, first, second)),
     }
-}
-
-/// Writes what is made of one input to a file, prints the line of the error, and returns the exit status.
-fn write_one<R: Print + Eprint + Input + Files + AllocGlobal + Host>(
-    rt: &R,
-    task: InputAction<'_>,
-    input: &str,
-    output: &str,
-    whole: bool,
-    refused: Option<&str>,
-    tally: &mut Tally<'_>,
-) -> u8 {
-    let kept = Output::new();
-    let others = OtherFiles {
-        inputs: &[input.as_bytes()],
-        list: None,
-        output,
-    };
-    let file = match open_refused(rt, refused, others, &kept) {
-        Ok(file) => file,
-        Err(error) => return tally.end(rt, &Err(error)),
-    };
-    let to = file.is_some().then_some(&kept);
-    tally.progress.expect(rt, others.inputs);
-    let done = write_input(rt, task, input, output, whole, to, tally);
-    tally.add_end(rt, input.as_bytes(), &done);
-    let status = tally.end(rt, &done);
-    close_refused(rt, file, &kept, tally, status)
 }

@@ -16,109 +16,23 @@ ghost use Rattle.ill_lines.specs.Lines.{LinesDone};
 use crate::plan::InputAction;
 use crate::results::{has_json_result, put_first_results, put_results};
 use ber_core::{Buffered, BufferedSource, Sink, ToWrite};
+use ill_batch::{KeepRefused, LeftAt, PrintReports, Tally};
 use ill_commands::{JobOptions, RunFault, Verdict, run_counting, run_skipping_peeking, verdict_of};
 use ill_dump::{DumpOptions, run_dump, run_dump_skipping};
-use ill_files::{
-    FileId, Host, InputSource, MissingMessage, Output, OutputOf, ProgramError, Shared, ToOutput,
-    close_output, keeps_output, open_and_identify, open_output, open_standard_output,
-};
+use ill_files::{MissingMessage, Output, ProgramError, ToOutput};
 use ill_lines::{LineOptions, LinesFault, run_lines_as};
-use ill_tally::{KeepRefused, LeftAt, PrintReports, Tally};
 use std::alloc::Global;
-use std::io::{Read, Write};
-use std::rt::Files;
-
-/// Prints what is made of the input of this name.
-pub(crate) fn print_input<R: Print + Eprint + Input + Files + AllocGlobal + Host>(
-    rt: &R,
-    task: InputAction<'_>,
-    input: &str,
-    kept: Option<&OutputOf<'_, R>>,
-    tally: &mut Tally<'_>,
-) -> Result<Verdict, ProgramError> {
-    let output = Output::new();
-    let done = put_input(rt, task, input, &output, kept, tally);
-    output.finish(done)
-}
-
-/// Opens the input of this name, and then standard output, and writes what is made of the input. Results of lines can be lines themselves, so
-/// that they don't go to the file that they are read of.
-fn put_input<'r, R: Print + Eprint + Input + Files + AllocGlobal + Host>(
-    rt: &'r R,
-    task: InputAction<'_>,
-    input: &str,
-    output: &OutputOf<'r, R>,
-    kept: Option<&OutputOf<'_, R>>,
-    tally: &mut Tally<'_>,
-) -> Result<Verdict, ProgramError> {
-    let (mut source, read) = open_and_identify(rt, input, output, tally.progress)?;
-    if matches!(task, InputAction::Lines(_))
-        && read.is_some()
-        && read == FileId::of_standard_output(rt)
-    {
-        return Err(ProgramError::SameFile);
-    }
-    open_standard_output(rt, output)?;
-    put_all(rt, task, &mut source, output, kept, tally)
-}
-
-/// Writes what is made of the input of this name to an output. This is opened only once the input is, and only if it isn't the same file. It is
-/// replaced as [`keeps_output`] says.
-pub(crate) fn write_input<R: Print + Eprint + Input + Files + AllocGlobal + Host>(
-    rt: &R,
-    task: InputAction<'_>,
-    input: &str,
-    name: &str,
-    whole: bool,
-    kept: Option<&OutputOf<'_, R>>,
-    tally: &mut Tally<'_>,
-) -> Result<Verdict, ProgramError> {
-    let written = FileId::of_output(rt, name);
-    let output = Output::new();
-    let (mut source, read) = open_and_identify(rt, input, &output, tally.progress)?;
-    if read.is_some() && read == written {
-        return Err(ProgramError::SameFile);
-    }
-    replace_output(rt, task, &mut source, &output, name, whole, kept, tally)
-}
-
-/// Opens an output, writes what is made of an input, and closes it.
-fn replace_output<'o, 'r: 'o, R: Print + Eprint + Input + Files + AllocGlobal + Host>(
-    rt: &'r R,
-    task: InputAction<'_>,
-    source: &mut InputSource<'o, 'r, R>,
-    output: &'o OutputOf<'r, R>,
-    name: &str,
-    whole: bool,
-    kept: Option<&OutputOf<'_, R>>,
-    tally: &mut Tally<'_>,
-) -> Result<Verdict, ProgramError> {
-    let destination = open_output(rt, output, name, whole)?;
-    let done = put_all(rt, task, source, output, kept, tally);
-    let keep = keeps_output(whole, &done);
-    close_output(rt, output, destination, name, keep, done)
-}
-
-/// Writes what is made of an input, and counts its messages. The octets of those that are refused go to `kept`, if there is such an output.
-pub(crate) fn put_all<'o, R, I: Read, J: Read, S: Write + Drop, F: Write + Drop, P, Q>(
-    rt: &R,
-    task: InputAction<'_>,
-    source: &mut Shared<'o, I, J, S, F>,
-    output: &'o Output<S, F>,
-    kept: Option<&Output<P, Q>>,
-    tally: &mut Tally<'_>,
-) -> Result<Verdict, ProgramError>
-where
-    R: Eprint + AllocGlobal,
-    P: Write + Drop,
-    Q: Write + Drop,
-{
-    tally.add_file();
-    put_source(rt, task, source, output, KeepRefused::to(kept), tally)
-}
+use std::io::Write;
 
 /// Writes what is made of a source.
-fn put_source<R: Eprint + AllocGlobal, B: BufferedSource, S: Write + Drop, F: Write + Drop, P, Q>(
+pub(crate) fn put_source<
+    R: Eprint + AllocGlobal,
+    B: BufferedSource,
+    S: Write + Drop,
+    F: Write + Drop,
+    P,
+    Q,
+>(
     rt: &R,
     task: InputAction<'_>,
     source: &mut B,

@@ -9,15 +9,14 @@
 //! ```
 #![tactic(auto)]
 
-mod collect;
 mod commands;
 mod compare;
-mod each;
 mod input;
 mod plan;
+mod put_inputs;
 mod results;
 mod until_stopped;
 
 pub use commands::{run_order, run_program};
-pub use ill_tally::{JsonSummary, LeftAt, ReportLine, Summary};
+pub use ill_batch::{JsonSummary, LeftAt, ReportLine, Summary};
 pub use plan::{Action, InputAction, Plan, ReadOptions};

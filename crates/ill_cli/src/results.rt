@@ -11,6 +11,7 @@ ghost use Rattle.ill_cli.specs.Plans.{is_json_result};
 use crate::input::left_at;
 use crate::until_stopped::UntilStopped;
 use ber_core::{Buffered, BufferedSource, FromSlice, Sink, Source, put_all};
+use ill_batch::{KeepRefused, LeftAt, Tally};
 use ill_commands::{
     Job, JobError, JobOptions, RefusalKind, RefusalReport, RefusedLine, ReportRefusals, RunFault,
     SkippingCounts, Verdict, read_hex, refused_json, run_skipping, run_skipping_peeking,
@@ -18,7 +19,6 @@ use ill_commands::{
 };
 use ill_dump::place_of_refusal;
 use ill_files::ProgramError;
-use ill_tally::{KeepRefused, LeftAt, Tally};
 use std::alloc::{AllocError, Global};
 use std::cell::Cell;
 use std::io::Write;

@@ -8,7 +8,7 @@ use Rattle.ill_schema.specs.Apdu.{Apdu, Accepts}
 use Rattle.ill_schema.proofs.Streams.{parts_accept, accepts_once, accepts_some, take_front, tails}
 use Rattle.ill_refusals.specs.Fault.{Fault, fault_of}
 use Rattle.ill_refusals.specs.Outcome.{OnlyRefuses}
-use Rattle.ill_schema.specs.declared.profile.Profile.{Profile as Named}
+use Rattle.ill_tables.specs.declared.profile.Profile.{Profile as Named}
 use Rattle.ill_inputs.proofs.TakenOctets.{front}
 use Rattle.ill_normal.specs.Messages.{Spelling, AreSpelledIn}
 use Rattle.ill_normal.proofs.LongestStreams.{nothing_over, no_longer, one_rest}

@@ -6,11 +6,11 @@ use Rattle.sha2.specs.Sha256.{sha256}
 use Rattle.ber_leaf.specs.Profile.{Profile}
 use Rattle.ill_schema.specs.Apdu.{Apdu, SpellsApdu, normal_form_in}
 use Rattle.ill_schema.specs.Profiles.{profile_of}
-use Rattle.ill_schema.specs.declared.profile.Profile.{Profile as Named}
-use Rattle.ill_read.specs.Outline.{IsOutlineOf}
+use Rattle.ill_tables.specs.declared.profile.Profile.{Profile as Named}
+use Rattle.ill_grammar.specs.Outline.{IsOutlineOf}
 use Rattle.ill_read.specs.Outlined.{IsOutlinedIn}
 use Rattle.ill_read.specs.declared.outlined.OutlinedMessage.{OutlinedMessage}
-use Rattle.ill_read.specs.declared.outline_draft.Outline.{Outline}
+use Rattle.ill_grammar.specs.declared.outline.Outline.{Outline}
 use Rattle.ill_normal.specs.Checking.{DescribesIn, IsFormIn}
 use Rattle.ill_normal.proofs.Canonical.{spells_normal}
 use Rattle.ill_normal.specs.declared.check.Checked.{Checked}

@@ -4,7 +4,7 @@ use Rattle.std.specs.Io.KnownBytes.{Consumes}
 use Rattle.ber_leaf.specs.Profile.{Profile}
 use Rattle.ill_schema.specs.Apdu.{Apdu, Accepts, SpellsApdu}
 use Rattle.ill_schema.specs.Profiles.{profile_of}
-use Rattle.ill_schema.specs.declared.profile.Profile.{Profile as Named}
+use Rattle.ill_tables.specs.declared.profile.Profile.{Profile as Named}
 use Rattle.ill_schema.specs.declared.refusal.Refusal.{Refusal}
 use Rattle.ill_schema.proofs.Streams.{parts_accept, accepts_some}
 use Rattle.ill_refusals.specs.Fault.{Fault, Refuses, fault_of}

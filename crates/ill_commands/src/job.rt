@@ -1,6 +1,6 @@
 //! Jobs on the messages of an input, and their results.
 ghost use Rattle.std.specs.Prelude.{◌≡◌, codes, false};
-ghost use Rattle.ill_schema.specs.declared.profile.Profile.{Profile as Named};
+ghost use Rattle.ill_tables.specs.declared.profile.Profile.{Profile as Named};
 
 use ill_normal::{RunFault, Verdict};
 use ill_schema::Profile;

@@ -2,7 +2,7 @@
 ghost use Rattle.std.specs.Prelude.{◌≡◌, ℕ, List, ◌++◌, codes, option_map, IfOk, OnOk};
 ghost use Rattle.hex.specs.Hex.{encode_lower};
 ghost use Rattle.ill_read.specs.Answers.{ReadsNextIn};
-ghost use Rattle.ill_read.specs.Outline.{IsOutlineOf};
+ghost use Rattle.ill_grammar.specs.Outline.{IsOutlineOf};
 ghost use Rattle.ill_schema.specs.Apdu.{Apdu, SpellsApdu};
 ghost use Rattle.ill_schema.specs.Profiles.{profile_of};
 ghost use Rattle.ill_text.specs.Shown.{shown_text_in};

@@ -1,6 +1,6 @@
 //! The lines of JSON of messages that are refused.
 ghost use Rattle.std.specs.Prelude.{◌≡◌, false, IfOk, option_map};
-ghost use Rattle.ill_schema.specs.declared.profile.Profile.{Profile as Named};
+ghost use Rattle.ill_tables.specs.declared.profile.Profile.{Profile as Named};
 ghost use Rattle.ill_commands.specs.Refusals.{apdu_begun, is_limit, HasKind, IsRefusedLine};
 
 use crate::job::JobOptions;

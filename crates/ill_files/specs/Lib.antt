@@ -1,2 +1,3 @@
 pub mod Status
 pub mod Opened
+pub mod code

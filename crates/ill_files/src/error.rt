@@ -1,6 +1,6 @@
 //! The line that the program prints where it fails, and the status that it ends with.
-ghost use Rattle.std.specs.Prelude.{◌≡◌};
-ghost use Rattle.ill_files.specs.Status.{is_output_lost, keeps_output, line_status_is, loses_output, run_status_is, status_is};
+ghost use Rattle.std.specs.Prelude.{◌≡◌, [], ◌∷◌};
+ghost use Rattle.ill_files.specs.Status.{is_output_lost, keeps_output, line_status_is, loses_output, run_status_is, status_is, worst};
 
 use crate::count::Count;
 use crate::names::{FileName, FileNameRef};
@@ -228,6 +228,24 @@ fn line_status(error: &LineError) -> u8
         3
     } else if error.use_stderr() {
         2
+    } else {
+        0
+    }
+}
+
+/// Combines the exit status of the files before with that of the next file: 3 comes before 1, and 1 before 0.
+///
+/// ```
+/// let status = combined_status(1, 0);
+/// assert!(status == 1);
+/// ```
+pub fn combined_status(before: u8, next: u8) -> u8
+    ensures { result ≡ worst (before ∷ next ∷ []) }
+{
+    if before == 3 || next == 3 {
+        3
+    } else if before == 1 || next == 1 {
+        1
     } else {
         0
     }

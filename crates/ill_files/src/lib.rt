@@ -12,6 +12,7 @@ mod count;
 mod error;
 mod host;
 mod input;
+mod listed;
 mod names;
 mod open_obstacle;
 mod output;
@@ -23,13 +24,14 @@ mod words;
 
 pub use count::Count;
 pub use error::{
-    CauseName, MissingMessage, ProgramError, RunLine, is_of_folder, is_output_lost, keeps_output,
-    print_error, print_error_of, status_of,
+    CauseName, MissingMessage, ProgramError, RunLine, combined_status, is_of_folder,
+    is_output_lost, keeps_output, print_error, print_error_of, status_of,
 };
 pub use host::Host;
 pub use input::{
     AloneSource, InputSource, Opened, Shared, open_alone, open_and_identify, open_input, read_whole,
 };
+pub use listed::{input_names, list_of, text_of};
 pub use names::{FileName, FileNameRef, printable, printed, word};
 pub use open_obstacle::OpenObstacle;
 pub use output::{

@@ -1,7 +1,7 @@
 -- The bits of segments, joined in any grouping, are the same.
 use Rattle.std.proofs.Common.{◌≡◌, ℕ, Bool, true, false, ◌&&◌, List, [], ◌∷◌, ◌++◌, append_assoc, nat_eq, nat_le, arith, if◌then◌else◌, refl, sym, ap, ap₂, ◌∙◌}
 use Rattle.std.proofs.lemmas.Bool.Decides.{nat_tests}
-use Rattle.ber_core.specs.Tree.{Tree, Trees, none, more}
+use Rattle.ber_tree.specs.Tree.{Tree, Trees, none, more}
 use Rattle.ber_leaf.specs.Leaf.{is_bits}
 use Rattle.ber_leaf.specs.Segments.{bits_after, join_bits, no_bits, tree_bits}
 use Rattle.ill_refusals.specs.code.Step.{snoc}

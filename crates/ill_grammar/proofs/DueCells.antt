@@ -1,9 +1,9 @@
 -- What the cells find is due by the decoder's words.
 use Rattle.std.proofs.Common.{◌≡◌, ◌⊎◌, ℕ, zero, suc, ◌+◌, ◌-◌, ◌≤◌, Bool, true, false, ◌&&◌, not, List, [], ◌∷◌, drop, IsTrue, Option, Some, None, option_map, refl, sym, ap, subst, ◌∙◌, inl, inr, arith, slice_get}
 use Rattle.std.specs.Prelude.{if◌then◌else◌, nat_eq}
-use Rattle.ber_core.specs.Identifier.{Tag}
+use Rattle.ber_tree.specs.Identifier.{Tag}
 use Rattle.ber_core.specs.Foreign.{foreign_levels}
-use Rattle.ber_core.specs.Tree.{octet_string}
+use Rattle.ber_tree.specs.Tree.{octet_string}
 use Rattle.ber_leaf.specs.Leaf.{bit_string}
 use Rattle.ber_leaf.specs.Segments.{segment_tag}
 use Rattle.ber_leaf.specs.Profile.{profile_two}
@@ -18,7 +18,7 @@ use Rattle.ill_schema.specs.Tagging.{same_tag, sequence_tag}
 use Rattle.ill_refusals.specs.Element.{Component, Element, Start, components, list, own_starts, sequence, start, starts}
 use Rattle.ill_refusals.specs.Next as next
 use Rattle.ill_refusals.specs.Next.{part, octets, any, rows, items, due, due_in, element_of, start_of}
-use Rattle.ber_core.proofs.Lists.{two_cases}
+use Rattle.ber_tree.proofs.Lists.{two_cases}
 use Rattle.ill_grammar.specs.Cells as cells
 use Rattle.ill_grammar.specs.Cells.{BeginsDue, is_strict, levels_in, wrapped}
 use Rattle.ill_grammar.specs.Places.{IsAtRow, IsDueWithTag, PlaceView, due_of, element_found, next_at, node_at, node_of, part_in, part_of, place_after, row_of, slot_of, type_of}

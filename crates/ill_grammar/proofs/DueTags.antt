@@ -1,11 +1,11 @@
 -- What is due outside strings is no segment, and its tag no end mark's; rows with a default hold leaves that are no strings.
 use Rattle.std.proofs.Common.{◌≡◌, ◌-◌, ℕ, zero, suc, Bool, true, false, List, [], ◌∷◌, Option, Some, None, IsTrue, true≢false, nat_eq, refl, sym, ap, subst, ◌∙◌, inl, inr, slice_get, not, ◌||◌, nat_lt}
 use Rattle.std.specs.List.{list_all}
-use Rattle.ber_core.specs.Identifier.{Tag}
-use Rattle.ber_core.specs.declared.id.Class.{Class}
-use Rattle.ber_core.specs.declared.id.Class.TheVariants.{Universal}
+use Rattle.ber_tree.specs.Identifier.{Tag}
+use Rattle.ber_tree.specs.declared.class.Class.{Class}
+use Rattle.ber_tree.specs.declared.class.Class.TheVariants.{Universal}
 use Rattle.ber_core.specs.Foreign.{foreign_levels}
-use Rattle.ber_core.specs.Tree.{octet_string}
+use Rattle.ber_tree.specs.Tree.{octet_string}
 use Rattle.ber_leaf.specs.Leaf.{bit_string, boolean, enumerated, integer}
 use Rattle.ber_leaf.specs.Profile.{profile_two}
 use Rattle.ber_leaf.specs.Segments.{segment_tag}
@@ -24,7 +24,7 @@ use Rattle.ill_tables.specs.declared.part.Row.{Row}
 use Rattle.ill_schema.proofs.Tags.{at_row}
 use Rattle.ill_refusals.specs.Element.{Component, Element, foreign, leaf, segment, Start, own_starts, retag, leave_out, tagged_starts, component_starts}
 use Rattle.ill_refusals.proofs.Rows.{same_tag-is}
-use Rattle.ber_core.proofs.Lists.{two_cases}
+use Rattle.ber_tree.proofs.Lists.{two_cases}
 use Rattle.ill_grammar.specs.Elements.{component_of, component_at, element_is, element_with, found_is}
 use Rattle.ill_grammar.specs.Cells.{Begins}
 use Rattle.ill_grammar.specs.Due.{DueEntry, IsDueIn, IsDueInRows, IsRowDue}

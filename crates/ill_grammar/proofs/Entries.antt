@@ -1,9 +1,9 @@
 -- The entries of a sequence grow row by row, the items of a list one by one.
 use Rattle.ill_schema.specs.Profiles.{profile_of}
-use Rattle.ill_schema.specs.declared.profile.Profile.{Profile as Named}
+use Rattle.ill_tables.specs.declared.profile.Profile.{Profile as Named}
 use Rattle.std.proofs.Common.{◌≡◌, ℕ, zero, suc, ◌+◌, ◌<◌, ◌≤◌, List, [], ◌∷◌, ◌++◌, take, drop, map, Option, Some, None, refl, sym, ap, subst, ◌∙◌, inl, inr, arith, slice_get, append_assoc}
 use Rattle.std.proofs.lemmas.List.{take-append-drop}
-use Rattle.ber_core.specs.Tree.{Tree, Trees, none, more}
+use Rattle.ber_tree.specs.Tree.{Tree, Trees, none, more}
 use Rattle.ber_leaf.specs.Profile.{profile_two}
 use Rattle.ill_tables.specs.declared.node.NodeId.{NodeId}
 use Rattle.ill_tables.specs.declared.part.Presence.{Presence}

@@ -1,12 +1,12 @@
 -- What the decoder judges at a place, part by part.
 use Rattle.ill_schema.specs.Profiles.{profile_of}
-use Rattle.ill_schema.specs.declared.profile.Profile.{Profile as Named}
+use Rattle.ill_tables.specs.declared.profile.Profile.{Profile as Named}
 use Rattle.std.proofs.Common.{◌≡◌, ◌⊎◌, inl, inr, nat_eq, get_or, slice_get, ◌&&◌, ◌||◌, ℕ, zero, suc, ◌+◌, ◌-◌, ◌<◌, ◌≤◌, Bool, true, false, List, [], ◌∷◌, ◌++◌, length, take, drop, Option, Some, None, IsTrue, refl, sym, ap, ap₂, subst, ◌∙◌, arith, if◌then◌else◌, length-append, length-drop}
 use Rattle.std.specs.Prelude.{nat_le, ◌%◌, min, Result, unwrap_or}
 use Rattle.std.proofs.lemmas.List.{take-append-le, drop-append-le}
 use Rattle.ber_core.specs.Id.{tag_of_id, form_of_id}
-use Rattle.ber_core.specs.Identifier.{Tag}
-use Rattle.ber_core.specs.Octets.{are_octets}
+use Rattle.ber_tree.specs.Identifier.{Tag}
+use Rattle.ber_tree.specs.Octets.{are_octets}
 use Rattle.ber_core.specs.declared.header.Len.TheVariants.{Definite}
 use Rattle.ber_core.specs.declared.id.Id.{Id}
 use Rattle.ber_leaf.specs.Profile.{profile_two}

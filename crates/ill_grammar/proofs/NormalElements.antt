@@ -1,8 +1,8 @@
 -- The normal tree of what an element holds, where the element is due.
-use Rattle.ill_schema.specs.declared.profile.Profile.{Profile as Named}
+use Rattle.ill_tables.specs.declared.profile.Profile.{Profile as Named}
 use Rattle.std.proofs.Common.{◌≡◌, ◌⊎◌, ℕ, List, Option, Some, None, option_map, IsTrue, refl, sym, ap, subst, ◌∙◌, inl, inr}
-use Rattle.ber_core.specs.Identifier.{Tag}
-use Rattle.ber_core.specs.Tree.{Tree, primitive, constructed, none, more}
+use Rattle.ber_tree.specs.Identifier.{Tag}
+use Rattle.ber_tree.specs.Tree.{Tree, primitive, constructed, none, more}
 use Rattle.ber_leaf.specs.Segments.{leaf_content}
 use Rattle.ber_leaf.specs.Leaf.{normal_content, value}
 use Rattle.ber_leaf.specs.Profile.{profile_two}

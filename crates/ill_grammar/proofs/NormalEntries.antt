@@ -1,7 +1,7 @@
 -- The normal trees of a sequence grow row by row, those of a list item by item.
 use Rattle.std.proofs.Common.{◌≡◌, ℕ, zero, suc, ℤ, ◌≤◌, Bool, true, false, List, [], ◌∷◌, ◌++◌, length, take, drop, map, Option, Some, None, refl, sym, ap, ◌∙◌, arith, slice_get, append_assoc, append-nil}
 use Rattle.ber_core.specs.Der.{encoding, encodings}
-use Rattle.ber_core.specs.Tree.{Tree, Trees, none, more}
+use Rattle.ber_tree.specs.Tree.{Tree, Trees, none, more}
 use Rattle.ber_leaf.specs.Profile.{profile_two}
 use Rattle.ill_tables.specs.declared.part.Presence.{Presence}
 use Rattle.ill_tables.specs.declared.part.Row.{Row}

@@ -1,7 +1,7 @@
 -- The normal content of a leaf that was read.
 use Rattle.std.proofs.Common.{◌≡◌, ℕ, zero, suc, Bool, false, List, [], ◌∷◌, Option, Some, None, IsTrue, refl, arith, length, eqb-true}
 use Rattle.std.specs.Prelude.{nat_eq, if◌then◌else◌}
-use Rattle.ber_core.specs.Octets.{are_octets}
+use Rattle.ber_tree.specs.Octets.{are_octets}
 use Rattle.ber_leaf.specs.Leaf.{Leaf, boolean, integer, enumerated, null_type, bit_string, value, normal_content, content_fault}
 use Rattle.ber_leaf.specs.Profile.{Profile}
 use Rattle.ill_schema.specs.Content.{Content, alternative}

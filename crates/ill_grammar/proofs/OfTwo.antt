@@ -4,8 +4,8 @@ use Rattle.std.proofs.lemmas.Bool.{and_parts}
 use Rattle.ill_schema.specs.TableFacts.{is_of_two}
 use Rattle.ill_tables.specs.declared.node.NodeId.{NodeId}
 use Rattle.ill_tables.specs.declared.part.PartId.{PartId}
-use Rattle.ill_schema.specs.declared.profile.Profile.{Profile as Named}
-use Rattle.ill_schema.specs.declared.profile.Profile.TheVariants.{Two, Module}
+use Rattle.ill_tables.specs.declared.profile.Profile.{Profile as Named}
+use Rattle.ill_tables.specs.declared.profile.Profile.TheVariants.{Two, Module}
 use Rattle.ill_grammar.specs.Cells.{is_two_type}
 use Rattle.ill_grammar.specs.Places.{PlaceView, first_place, is_two, node_at, node_of, part_of, place_after, slot_of, type_of, place_view}
 use Rattle.ill_grammar.specs.declared.place.Found.{Found as CellFound}

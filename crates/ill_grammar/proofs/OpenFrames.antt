@@ -1,13 +1,13 @@
 -- The last of the frames, and how many there are.
 use Rattle.ill_schema.specs.Profiles.{profile_of}
-use Rattle.ill_schema.specs.declared.profile.Profile.{Profile as Named}
+use Rattle.ill_tables.specs.declared.profile.Profile.{Profile as Named}
 use Rattle.std.proofs.Common.{◌≡◌, ℕ, zero, suc, ◌-◌, Bool, true, IsTrue, IfSome, take, List, [], ◌∷◌, ◌++◌, length, length-append, Option, Some, None, is_some, refl, sym, ap, ◌∙◌, arith, slice_get, ◌≤◌, ◌+◌, subst, get_or, set}
 use Rattle.ber_leaf.specs.Profile.{profile_two}
 use Rattle.ill_grammar.specs.Due.{next_is, shape}
 use Rattle.ill_schema.specs.TableFacts.{is_of_two}
 use Rattle.ill_schema.proofs.Tags.{at_row}
 use Rattle.ill_grammar.specs.Places.{is_two, node_at}
-use Rattle.ill_schema.specs.declared.profile.Profile.TheVariants.{Two, Module}
+use Rattle.ill_tables.specs.declared.profile.Profile.TheVariants.{Two, Module}
 use Rattle.ill_grammar.specs.Two.{are_of, is_found_of, is_place_of, is_two_frame}
 use Rattle.ill_grammar.specs.code.Judging.{outermost_end}
 use Rattle.ill_grammar.specs.Need.{outermost}

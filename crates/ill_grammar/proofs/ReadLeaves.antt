@@ -1,6 +1,6 @@
 -- The leaves of profile 2: their segments are OCTET STRINGs, and their content is their text.
 use Rattle.std.proofs.Common.{◌≡◌, refl}
-use Rattle.ber_core.specs.Tree.{Tree, Trees, primitive, constructed, octet_string, text, text_all}
+use Rattle.ber_tree.specs.Tree.{Tree, Trees, primitive, constructed, octet_string, text, text_all}
 use Rattle.ber_leaf.specs.Profile.{profile_two}
 use Rattle.ber_leaf.specs.Segments.{leaf_content, segment_tag}
 use Rattle.ill_refusals.specs.Element.{leaf}

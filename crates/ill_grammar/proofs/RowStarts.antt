@@ -1,6 +1,6 @@
 -- The row that a component is, and what begins it.
 use Rattle.std.proofs.Common.{◌≡◌, ℕ, zero, suc, ◌+◌, List, [], ◌∷◌, drop, Some, refl, sym, ap, subst, ◌∙◌, arith, slice_get}
-use Rattle.ber_core.specs.Identifier.{Tag}
+use Rattle.ber_tree.specs.Identifier.{Tag}
 use Rattle.ber_leaf.specs.Profile.{profile_two}
 use Rattle.ill_tables.specs.declared.node.NodeId.{NodeId}
 use Rattle.ill_tables.specs.declared.part.Row.{Row}

@@ -2,8 +2,8 @@
 use Rattle.std.proofs.Common.{◌≡◌, ℕ, zero, suc, Bool, true, false, ◌&&◌, ◌||◌, List, [], ◌∷◌, drop, ◌++◌, Option, Some, None, option_map, refl, sym, ap, ap₂, ◌∙◌, arith}
 use Rattle.std.specs.Prelude.{find, flat_map, if◌then◌else◌, is_some, nat_eq}
 use Rattle.std.proofs.lemmas.Bool.Decides.{nat_tests}
-use Rattle.ber_core.specs.Identifier.{Tag, class_bits}
-use Rattle.ber_core.specs.Tree.{octet_string}
+use Rattle.ber_tree.specs.Identifier.{Tag, class_bits}
+use Rattle.ber_tree.specs.Tree.{octet_string}
 use Rattle.ber_leaf.specs.Profile.{profile_two}
 use Rattle.ill_tables.specs.declared.node.Kind.{Kind}
 use Rattle.ill_tables.specs.declared.node.NodeId.{NodeId}

@@ -1,7 +1,7 @@
 -- The steps of a search through the cells of a node.
 use Rattle.std.proofs.Common.{◌≡◌, ℕ, zero, suc, ◌+◌, ◌≤◌, true, false, ◌||◌, List, ◌∷◌, drop, length, Option, Some, None, sym, ap, ◌∙◌, arith, slice_get}
 use Rattle.std.specs.Prelude.{if◌then◌else◌, is_some}
-use Rattle.ber_core.specs.Identifier.{Tag}
+use Rattle.ber_tree.specs.Identifier.{Tag}
 use Rattle.ber_leaf.specs.Profile.{profile_two}
 use Rattle.ill_tables.specs.declared.node.Kind.{Kind}
 use Rattle.ill_tables.specs.declared.node.NodeId.{NodeId}

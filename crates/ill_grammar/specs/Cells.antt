@@ -1,7 +1,7 @@
 -- What an index and a cell that is found stand for.
 use Rattle.std.specs.Prelude.{◌-◌, ◌≡◌, ℕ, ℤ, zero, suc, Bool, true, false, ◌&&◌, List, [], ◌∷◌, drop, Option, Some, None, option_map, slice_get, if◌then◌else◌}
-use Rattle.ber_core.specs.Identifier.{Tag}
-use Rattle.ber_core.specs.Tree.{octet_string}
+use Rattle.ber_tree.specs.Identifier.{Tag}
+use Rattle.ber_tree.specs.Tree.{octet_string}
 use Rattle.ber_core.specs.Foreign.{foreign_levels}
 use Rattle.ber_leaf.specs.Leaf.{boolean, integer, enumerated, general_string, visible_string, printable_string, iso_date, iso_time, null_type, object_identifier, bit_string, object_descriptor}
 use Rattle.ber_leaf.specs.Leaf as leaves

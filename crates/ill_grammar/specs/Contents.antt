@@ -1,11 +1,11 @@
 -- What the content of an element is.
 use Rattle.ill_schema.specs.Profiles.{profile_of}
-use Rattle.ill_schema.specs.declared.profile.Profile.{Profile as Named}
+use Rattle.ill_tables.specs.declared.profile.Profile.{Profile as Named}
 use Rattle.std.specs.Prelude.{◌≡◌, ◌⊎◌, ℕ, suc, Option, Some, None, IsTrue}
 use Rattle.ber_core.specs.Foreign.{is_foreign}
-use Rattle.ber_core.specs.Identifier.{Tag}
-use Rattle.ber_core.specs.Octets.{are_octets}
-use Rattle.ber_core.specs.Tree.{Tree, Trees, constructed, none, more}
+use Rattle.ber_tree.specs.Identifier.{Tag}
+use Rattle.ber_tree.specs.Octets.{are_octets}
+use Rattle.ber_tree.specs.Tree.{Tree, Trees, constructed, none, more}
 use Rattle.ber_leaf.specs.Leaf.{value, content_fault}
 use Rattle.ber_leaf.specs.Segments.{leaf_content}
 use Rattle.ill_schema.specs.Content.{Content, simple, alternative, Entries, Items}

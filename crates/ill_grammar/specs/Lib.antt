@@ -1,6 +1,7 @@
 pub mod Cells
 pub mod Places
 pub mod LeafTypes
+pub mod Outline
 pub mod Begun
 pub mod Elements
 pub mod Due

@@ -1,10 +1,10 @@
 -- How frames stand for the elements that are open at a place.
 use Rattle.ill_schema.specs.Profiles.{profile_of}
-use Rattle.ill_schema.specs.declared.profile.Profile.{Profile as Named}
+use Rattle.ill_tables.specs.declared.profile.Profile.{Profile as Named}
 use Rattle.std.specs.Prelude.{◌≡◌, true, ℕ, List, [], ◌∷◌, ◌++◌, length, take, map, Option, Some, IsTrue}
-use Rattle.ber_core.specs.Tree.{Tree, Trees, none, more, tag_of, AreSegments, octet_string}
-use Rattle.ber_core.specs.Identifier.{Tag}
-use Rattle.ber_core.specs.Octets.{are_octets}
+use Rattle.ber_tree.specs.Tree.{Tree, Trees, none, more, tag_of, AreSegments, octet_string}
+use Rattle.ber_tree.specs.Identifier.{Tag}
+use Rattle.ber_tree.specs.Octets.{are_octets}
 use Rattle.ber_core.specs.Foreign.{are_foreign, is_identified}
 use Rattle.ber_leaf.specs.Leaf.{bit_string, is_string}
 use Rattle.ber_leaf.specs.Segments.{segment_tag}

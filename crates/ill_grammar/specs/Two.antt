@@ -1,8 +1,8 @@
 -- What is of profile 2.
 use Rattle.std.specs.Prelude.{Bool, true, ◌&&◌, List}
 use Rattle.std.specs.List.{list_all}
-use Rattle.ill_schema.specs.declared.profile.Profile.{Profile as Named}
-use Rattle.ill_schema.specs.declared.profile.Profile.TheVariants.{Two, Module}
+use Rattle.ill_tables.specs.declared.profile.Profile.{Profile as Named}
+use Rattle.ill_tables.specs.declared.profile.Profile.TheVariants.{Two, Module}
 use Rattle.ill_schema.specs.TableFacts.{is_of_two}
 use Rattle.ill_grammar.specs.Places.{is_two, node_at}
 use Rattle.ill_grammar.specs.declared.place.Place.{Place}

@@ -2,8 +2,8 @@
 use Rattle.std.specs.Ordering.{int_eq}
 use Rattle.std.specs.Prelude.{ℕ, ℤ, pos, Bool, true, false, List, [], Option, Some, None, slice_get}
 use Rattle.ber_core.specs.Der.{encoding}
-use Rattle.ber_core.specs.Identifier.{Tag}
-use Rattle.ber_core.specs.Tree.{Tree, primitive, constructed, none, more}
+use Rattle.ber_tree.specs.Identifier.{Tag}
+use Rattle.ber_tree.specs.Tree.{Tree, primitive, constructed, none, more}
 use Rattle.ber_leaf.specs.Leaf.{Leaf, boolean, normal_content, value}
 use Rattle.ber_leaf.specs.Profile.{profile_two}
 use Rattle.ber_leaf.specs.Simple.{flag, whole}

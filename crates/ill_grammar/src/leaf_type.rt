@@ -1,10 +1,10 @@
 //! The types of leaves, and the values of their contents.
 ghost use Rattle.std.specs.Prelude.{◌≡◌, IsTrue};
-ghost use Rattle.ber_core.specs.Octets.{are_octets};
+ghost use Rattle.ber_tree.specs.Octets.{are_octets};
 ghost use Rattle.ber_leaf.specs.Content.{IsContent};
 ghost use Rattle.ber_leaf.specs.Leaf.{content_fault, is_string, value};
 ghost use Rattle.ill_schema.specs.Profiles.{profile_of};
-ghost use Rattle.ill_schema.specs.declared.profile.Profile.{Profile as Named};
+ghost use Rattle.ill_tables.specs.declared.profile.Profile.{Profile as Named};
 
 use ber_leaf::{
     DateText, Flag, GeneralText, IllString, Leaf, LeafFault, Null, ObjectDescriptor,

@@ -22,6 +22,7 @@ mod frames;
 mod judge;
 mod leaf_type;
 mod need;
+mod outline;
 mod place;
 
 pub use cell::{ElementType, EntryRole, is_strict, levels_in};
@@ -32,4 +33,5 @@ pub use frames::{Frames, MAX_DEPTH};
 pub use judge::{Extent, Opening, Reading};
 pub use leaf_type::{LeafType, ModuleLeaf};
 pub use need::need_at;
+pub use outline::{Mark, Outline};
 pub use place::{Found, Place};

@@ -142,7 +142,7 @@ fn start(cell: &'static Cell, id: Id) -> Option<&'static Cell>
 impl Place {
     ghost use Rattle.ill_refusals.specs.Next.{due, missing};
     ghost use Rattle.ill_refusals.specs.Place.{next_in};
-    ghost use Rattle.ber_core.specs.Identifier.{Tag};
+    ghost use Rattle.ber_tree.specs.Identifier.{Tag};
     ghost use Rattle.ill_tables.specs.declared.node.Kind.{Kind};
     ghost use Rattle.ill_schema.specs.Profiles.{profile_of};
     ghost use Rattle.ill_grammar.specs.Places.{IsDueWithTag, is_two, next_at, node_at, nowhere, part_in, position_in, top, top_in, type_of, place_view};

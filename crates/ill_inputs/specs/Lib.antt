@@ -1,4 +1,5 @@
 pub mod ReadErrors
 pub mod Hexadecimal
 pub mod Inputs
+pub mod Parts
 pub mod InputEnds

@@ -23,7 +23,7 @@ use Rattle.json.specs.Token.{Token, begin_object, key, string}
 use Rattle.json.specs.Tree.{HasNumbers, depth, json_tokens}
 use Rattle.json.proofs.Printed.Decimals.{IsNumber-decimal, IsNumber-signed_decimal}
 use Rattle.json.proofs.Printed.Trees.{ArePrintable-json_tokens, value-json_tokens}
-use Rattle.ber_core.specs.Octets.{are_octets}
+use Rattle.ber_tree.specs.Octets.{are_octets}
 use Rattle.ber_leaf.specs.Leaf.{Leaf, Holds, enumerated, integer, normal_content}
 use Rattle.ber_leaf.specs.Profile.{Profile, profile_two}
 use Rattle.ber_leaf.specs.Simple.{Simple, flag, whole, date, time, printable, general, visible, null, oid, binary, bits, descriptor}

@@ -13,9 +13,9 @@ use Rattle.ber_leaf.specs.Profile.{Profile}
 use Rattle.ill_schema.specs.Apdu.{root}
 use Rattle.ill_schema.specs.Apdu.{Apdu}
 use Rattle.ill_schema.specs.Content.{Content, alternative, Entries, no_entries, absent, present, Items, no_items, item}
-use Rattle.ill_read.specs.Outline.{AreEntries, AreItems, IsMarked}
-use Rattle.ill_read.specs.declared.mark.Mark.{Mark}
-use Rattle.ill_read.specs.declared.mark.Mark.TheVariants as mark
+use Rattle.ill_grammar.specs.Outline.{AreEntries, AreItems, IsMarked}
+use Rattle.ill_grammar.specs.declared.outline.Mark.{Mark}
+use Rattle.ill_grammar.specs.declared.outline.Mark.TheVariants as mark
 use Rattle.ill_tables.specs.Names.{row_name, row_node}
 use Rattle.ill_marks.specs.Marks.{IsEntry, is_at_end, is_there, octets_in}
 use Rattle.ill_marks.proofs.MarkedValues.{mark_step, no_entry, no_item}

@@ -1,22 +1,22 @@
 //! Leaves as tokens.
 ghost use Rattle.std.specs.Prelude.{Option, Some};
 ghost use Rattle.json.specs.Tree.{json_tokens};
-ghost use Rattle.ill_schema.specs.declared.profile.Profile.{Profile as Named};
+ghost use Rattle.ill_tables.specs.declared.profile.Profile.{Profile as Named};
 ghost use Rattle.ber_leaf.specs.Leaf.{value};
 ghost use Rattle.ill_schema.specs.Content.{Content};
 ghost use Rattle.ill_schema.specs.Presence.{default_value};
 ghost use Rattle.ill_tables.specs.Table.{kind_of};
 ghost use Rattle.ill_tables.specs.declared.node.NodeId.{NodeId};
 ghost use Rattle.ill_grammar.specs.LeafTypes.{IsContentIn, leaf_is};
-ghost use Rattle.ill_read.specs.Outline.{IsAbsent};
+ghost use Rattle.ill_grammar.specs.Outline.{IsAbsent};
 ghost use Rattle.ill_tables.specs.Numbers.{number_name};
 ghost use Rattle.ill_marks.specs.Marks.{octets_in};
 ghost use Rattle.ill_json.specs.Json.{leaf_json, number_json, text_json};
 ghost use Rattle.ill_json.specs.code.Adding.{Adds, value_tokens};
 
 use crate::writing::LineWriter;
+use ill_grammar::{LeafType, Mark};
 use ill_marks::{is_set, number_in};
-use ill_read::{LeafType, Mark};
 use ill_schema::{Kind, LeafKind, NodeId, PartId, Presence, kind, number_name, row};
 use json::Token;
 

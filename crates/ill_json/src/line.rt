@@ -3,15 +3,15 @@ ghost use Rattle.std.specs.Prelude.{◌≡◌, IfOk, option_map};
 ghost use Rattle.json.specs.Tree.{json_tokens};
 ghost use Rattle.ill_schema.specs.Apdu.{Apdu, choice_of};
 ghost use Rattle.ill_schema.specs.Profiles.{profile_of};
-ghost use Rattle.ill_read.specs.Outline.{IsMarked, IsOutlineOf};
+ghost use Rattle.ill_grammar.specs.Outline.{IsMarked, IsOutlineOf};
 ghost use Rattle.ill_json.specs.Json.{json_line_in, json_line_of, line_json_in};
 ghost use Rattle.ill_json.specs.code.Adding.{Adds, file_tokens, head_tokens};
 
 use crate::value::put_value;
 use crate::writing::LineWriter;
+use ill_grammar::{Mark, Outline};
 use ill_marks::{after_leading_mark, alternative};
-use ill_read::{Mark, Outline};
-use ill_schema::{Profile, row_name, row_node};
+use ill_schema::{Profile, root_as, row_name, row_node};
 use json::Token;
 use std::alloc::{AllocError, Global};
 
@@ -110,7 +110,7 @@ fn put_line(
         Some(row) => {
             out.put(Token::BeginObject);
             put_file(file, out);
-            let root = profile.root();
+            let root = root_as(profile);
             put_head(head, row_name(root, row as usize), out);
             let node = row_node(root, row as usize);
             out.put(Token::Key("value"));

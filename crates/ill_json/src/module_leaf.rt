@@ -3,13 +3,13 @@ ghost use Rattle.std.specs.Prelude.{◌≡◌, ◌++◌, [], ◌∷◌, ℕ, Lis
 ghost use Rattle.json.specs.Json.{member, no_members, object, string};
 ghost use Rattle.json.specs.Tree.{json_tokens};
 ghost use Rattle.ber_core.specs.Der.{encoding};
-ghost use Rattle.ber_core.specs.Tree.{Tree};
+ghost use Rattle.ber_tree.specs.Tree.{Tree};
 ghost use Rattle.ber_leaf.specs.Content.{IsContent};
 ghost use Rattle.ber_leaf.specs.Leaf.{bit_string, value};
 ghost use Rattle.ber_leaf.specs.Simple.{bits};
 ghost use Rattle.ill_schema.specs.Content.{foreign};
 ghost use Rattle.ill_tables.specs.declared.node.NodeId.{NodeId};
-ghost use Rattle.ill_schema.specs.declared.profile.Profile.{Profile as Named};
+ghost use Rattle.ill_tables.specs.declared.profile.Profile.{Profile as Named};
 ghost use Rattle.ill_grammar.specs.LeafTypes.{IsContentIn, module_leaf_is};
 ghost use Rattle.ill_marks.specs.Marks.{octets_in};
 ghost use Rattle.ill_schema.specs.Texts.{hexadecimal};
@@ -18,8 +18,7 @@ ghost use Rattle.ill_json.specs.code.Adding.{Adds};
 
 use crate::writing::LineWriter;
 use ber_leaf::BitString;
-use ill_grammar::ModuleLeaf;
-use ill_read::Mark;
+use ill_grammar::{Mark, ModuleLeaf};
 use json::Token;
 use std::alloc::{AllocError, Global};
 

@@ -10,8 +10,8 @@ ghost use Rattle.ill_schema.specs.Texts.{hexadecimal, oid_text};
 ghost use Rattle.ill_json.specs.Json.{characters, plain};
 
 use crate::ascii::into_ascii;
+use ill_grammar::Mark;
 use ill_marks::{add_hexadecimal, add_identifier, add_octets};
-use ill_read::Mark;
 use itoa::Buffer;
 use json::{Token, Writer};
 use std::alloc::{AllocError, Global};

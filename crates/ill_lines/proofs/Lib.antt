@@ -1,3 +1,2 @@
-pub mod PartEnds
 pub mod LineEnds
 pub mod MadeResults

@@ -7,7 +7,7 @@ use Rattle.std.proofs.Math.Seq.{take-add, take-append-add}
 use Rattle.std.proofs.lemmas.Bool.{cases_lt}
 use Rattle.ill_inputs.specs.Hexadecimal.{hex_octets}
 use Rattle.ill_inputs.proofs.HexAnswers.{same_octets}
-use Rattle.ill_lines.proofs.PartEnds.{no_end_join, no_end_more, part_ended}
+use Rattle.ill_inputs.proofs.PartEnds.{no_end_join, no_end_more, part_ended}
 use Rattle.ill_lines.specs.Lines.{Answer, AreAnswers, IsResult, all_results_good, has_line_end, lines, result_lines}
 use Rattle.ill_lines.specs.code.After.{Answers, IsSame, StandsAfter}
 use Rattle.ill_lines.specs.declared.job.LineOptions.{LineOptions}

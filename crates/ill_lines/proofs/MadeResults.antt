@@ -10,7 +10,7 @@ use Rattle.ill_lines.specs.code.After.{Answers, HasWritten, IsAfter, StandsAfter
 use Rattle.ill_lines.specs.declared.job.LineOptions.{LineOptions}
 use Rattle.ill_lines.specs.declared.job.LinesFault.{LinesFault}
 use Rattle.ill_lines.specs.declared.lines.LineReader.{LineReader}
-use Rattle.ill_lines.proofs.PartEnds.{last_part}
+use Rattle.ill_inputs.proofs.PartEnds.{last_part}
 use Rattle.ill_lines.proofs.LineEnds.{answer, more_good, more_made, none_of, push_are, result_of_line, texts}
 
 -- these are the results of the first lines

@@ -7,7 +7,7 @@ use Rattle.sha2.specs.Sha256.{sha256}
 use Rattle.ber_leaf.specs.Profile.{Profile}
 use Rattle.ill_schema.specs.Apdu.{Apdu, SpellsApdu, normal_form_in}
 use Rattle.ill_schema.specs.Profiles.{profile_of}
-use Rattle.ill_schema.specs.declared.profile.Profile.{Profile as Named}
+use Rattle.ill_tables.specs.declared.profile.Profile.{Profile as Named}
 use Rattle.ill_refusals.specs.Fault.{Fault}
 use Rattle.ill_read.specs.Answers.{RefusesWholeIn}
 use Rattle.ill_normal.specs.Calls.{Taking, Putting}
@@ -15,7 +15,7 @@ use Rattle.ill_normal.specs.Messages.{Spelling, spelling}
 use Rattle.ill_inputs.specs.Hexadecimal.{hex_octets}
 use Rattle.ill_normal.specs.Messages.{is_normal}
 use Rattle.ill_inputs.specs.declared.run_fault.RunFault.{RunFault}
-use Rattle.ill_lines.specs.Parts.{has_end, parts_by}
+use Rattle.ill_inputs.specs.Parts.{has_end, parts_by}
 use Rattle.ill_tables.specs.Names.{name_or_none}
 use Rattle.ill_schema.specs.Names.{apdu_name_in}
 use Rattle.ill_normal.specs.CheckWords.{check_words}

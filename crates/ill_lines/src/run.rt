@@ -2,7 +2,7 @@
 ghost use Rattle.std.specs.Prelude.{◌≡◌, ◌++◌, ◌<◌, ℕ, Bool, List, [], Option, take, length, IfOk, IfErr, OnOk, IsTrue};
 ghost use Rattle.std.specs.Io.KnownBytes.{Appends, Consumes, IsAtEnd};
 ghost use Rattle.ill_normal.specs.Calls.{putting, taking};
-ghost use Rattle.ill_schema.specs.declared.profile.Profile.{Profile as Named};
+ghost use Rattle.ill_tables.specs.declared.profile.Profile.{Profile as Named};
 ghost use Rattle.ill_lines.specs.declared.job.LinesFault.{LinesFault};
 ghost use Rattle.ill_lines.specs.Lines.{EndsWithin, LinesDone, LinesFail, line_options};
 ghost use Rattle.ill_lines.specs.code.After.{HasWritten};

@@ -4,7 +4,7 @@ use Rattle.std.specs.Prelude.{min}
 use Rattle.std.specs.List.{list_all}
 use Rattle.std.proofs.lemmas.Bool.{and_parts}
 use Rattle.std.proofs.lemmas.Bool.Decides.{nat_tests}
-use Rattle.ill_read.specs.declared.mark.Mark.{Mark}
+use Rattle.ill_grammar.specs.declared.outline.Mark.{Mark}
 use Rattle.ill_marks.specs.Marks.{octets_in}
 use Rattle.ill_schema.specs.Texts.{after_dot, numbers_after, oid_components, with_dots}
 use Rattle.ill_marks.specs.Identifiers.{IsFirstNumber, is_short}

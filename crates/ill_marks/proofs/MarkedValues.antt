@@ -6,11 +6,11 @@ use Rattle.std.proofs.Math.Seq.{take-length}
 use Rattle.std.proofs.Common.{◌-◌}
 use Rattle.ber_core.specs.Der.{encoding}
 use Rattle.ber_core.specs.Foreign.{foreign_levels, is_foreign}
-use Rattle.ber_core.specs.Tree.{Tree}
+use Rattle.ber_tree.specs.Tree.{Tree}
 use Rattle.ber_leaf.specs.Leaf.{Leaf, bit_string, enumerated, integer, value}
 use Rattle.ber_leaf.specs.Simple.{Simple}
 use Rattle.ill_schema.specs.Profiles.{profile_of}
-use Rattle.ill_schema.specs.declared.profile.Profile.{Profile as Named}
+use Rattle.ill_tables.specs.declared.profile.Profile.{Profile as Named}
 use Rattle.ber_leaf.proofs.Integers.{integer_size}
 use Rattle.ill_tables.specs.declared.node.NodeId.{NodeId}
 use Rattle.ill_tables.specs.declared.part.Presence.{Presence}
@@ -19,9 +19,9 @@ use Rattle.ill_schema.specs.Presence.{default_value}
 use Rattle.ill_tables.specs.Table.{kind_of}
 use Rattle.ill_schema.specs.Content.{Content, simple, sequence, list, alternative, foreign, Entries, no_entries, absent, present, Items, no_items, item}
 use Rattle.ill_grammar.specs.LeafTypes.{IsContentIn, leaf_is, module_leaf_is}
-use Rattle.ill_read.specs.Outline.{AreEntries, AreItems, IsMarked, IsAbsent, leaf_marked}
-use Rattle.ill_read.specs.declared.mark.Mark.{Mark}
-use Rattle.ill_read.specs.declared.mark.Mark.TheVariants as mark
+use Rattle.ill_grammar.specs.Outline.{AreEntries, AreItems, IsMarked, IsAbsent, leaf_marked}
+use Rattle.ill_grammar.specs.declared.outline.Mark.{Mark}
+use Rattle.ill_grammar.specs.declared.outline.Mark.TheVariants as mark
 use Rattle.ill_marks.specs.code.MarkedOctets.{SaysOctets, is_of_module}
 use Rattle.ill_marks.specs.Marks.{IsEntry, leading_octets, is_at_end, is_there, octets_in, absent_in}
 use Rattle.ill_tables.specs.declared.part.PartId.{PartId}

@@ -1,7 +1,7 @@
 -- The text of octets, one mark after another.
 use Rattle.std.proofs.Common.{◌≡◌, ◌∙◌, ℕ, ◌+◌, ◌<◌, List, ◌∷◌, ◌++◌, [], length, take, sym, ap, append_assoc, get_or}
 use Rattle.std.proofs.lemmas.List.Concat.{flat_map-append}
-use Rattle.ill_read.specs.declared.mark.Mark.{Mark}
+use Rattle.ill_grammar.specs.declared.outline.Mark.{Mark}
 use Rattle.ill_schema.specs.Texts.{hexadecimal}
 use Rattle.ill_marks.specs.Marks.{octets_in}
 use Rattle.ill_marks.proofs.MarkedValues.{mark_step}

@@ -1,7 +1,7 @@
 -- The numbers of an OBJECT IDENTIFIER, one after another.
 use Rattle.std.specs.Prelude.{◌≡◌, ℕ, min, Bool, nat_lt, List, ◌∷◌}
 use Rattle.std.specs.List.{list_all}
-use Rattle.ill_read.specs.declared.mark.Mark.{Mark}
+use Rattle.ill_grammar.specs.declared.outline.Mark.{Mark}
 use Rattle.ill_marks.specs.Marks.{octets_in}
 use Rattle.ill_schema.specs.Texts.{numbers_after}
 

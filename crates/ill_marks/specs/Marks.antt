@@ -2,9 +2,9 @@
 use Rattle.std.specs.Prelude.{◌≡◌, ℕ, suc, Bool, true, false, nat_lt, List, [], ◌∷◌, Option, Some, None}
 use Rattle.ill_schema.specs.Content.{Content}
 use Rattle.ill_tables.specs.declared.part.PartId.{PartId}
-use Rattle.ill_read.specs.Outline.{IsMarked, IsAbsent}
-use Rattle.ill_read.specs.declared.mark.Mark.{Mark}
-use Rattle.ill_read.specs.declared.mark.Mark.TheVariants as mark
+use Rattle.ill_grammar.specs.Outline.{IsMarked, IsAbsent}
+use Rattle.ill_grammar.specs.declared.outline.Mark.{Mark}
+use Rattle.ill_grammar.specs.declared.outline.Mark.TheVariants as mark
 
 -- the octets of a leaf
 abbrev pub octets_in : List Mark → List ℕ

@@ -4,7 +4,7 @@ ghost use Rattle.std.specs.Char.{encode_utf8};
 ghost use Rattle.ill_marks.specs.Marks.{octets_in};
 ghost use Rattle.ill_schema.specs.Texts.{hexadecimal};
 
-use ill_read::Mark;
+use ill_grammar::Mark;
 use ill_schema::hexadecimal_digits;
 use std::alloc::AllocError;
 

@@ -7,7 +7,7 @@ ghost use Rattle.ill_marks.specs.code.Identifiers.{number_with};
 
 use crate::hexadecimal::add_hexadecimal;
 use crate::marks::ends_number;
-use ill_read::Mark;
+use ill_grammar::Mark;
 use itoa::Buffer;
 use std::alloc::AllocError;
 

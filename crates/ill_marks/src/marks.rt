@@ -3,12 +3,12 @@ ghost use Rattle.std.specs.Prelude.{◌≡◌, ◌++◌, ◌<◌, ◌≤◌, [],
 ghost use Rattle.std.specs.List.{list_all};
 ghost use Rattle.ber_leaf.specs.Leaf.{integer_of};
 ghost use Rattle.ill_schema.specs.Content.{Content};
-ghost use Rattle.ill_read.specs.Outline.{IsAbsent};
+ghost use Rattle.ill_grammar.specs.Outline.{IsAbsent};
 ghost use Rattle.ill_marks.specs.Marks.{alternative_in, ends_number, is_at_end, is_there, is_octet, leading_octets, octets_in, absent_in};
 
 use arrayvec::ArrayVec;
 use ber_leaf::Whole;
-use ill_read::Mark;
+use ill_grammar::Mark;
 use ill_schema::{PartId, Presence, row};
 
 /// Tells whether no mark is left, or the end comes first.

@@ -1,10 +1,10 @@
 -- The first octet of an APDU's normal form is the identifier of its number.
 use Rattle.std.proofs.Common.{◌≡◌, ℕ, zero, suc, ◌+◌, ◌-◌, ◌%◌, ◌<◌, Bool, true, false, nat_lt, List, [], ◌∷◌, ◌++◌, length, Some, None, refl, sym, ap, subst, ◌∙◌, arith, lit<, slice_get}
 use Rattle.ber_core.specs.Der.{encoding, encodings}
-use Rattle.ber_core.specs.Identifier.{Tag, identifier}
-use Rattle.ber_core.specs.Length.{shortest_length}
-use Rattle.ber_core.specs.Tree.{Tree, Trees, constructed, none}
-use Rattle.ber_core.specs.declared.id.Class.TheVariants.{Application}
+use Rattle.ber_tree.specs.Identifier.{Tag, identifier}
+use Rattle.ber_tree.specs.Length.{shortest_length}
+use Rattle.ber_tree.specs.Tree.{Tree, Trees, constructed, none}
+use Rattle.ber_tree.specs.declared.class.Class.TheVariants.{Application}
 use Rattle.ill_schema.specs.Apdu.{Apdu, SpellsApdu, normal_form_in, root}
 use Rattle.ill_schema.specs.Content.{Content, simple, sequence, list, alternative, foreign}
 use Rattle.ill_schema.specs.Normal.{normal_tree}
@@ -14,8 +14,8 @@ use Rattle.ill_tables.specs.Table.{rows_of}
 use Rattle.ill_schema.specs.Tagging.{explicit_or_bare, tagging, sequence_tag}
 use Rattle.ill_tables.specs.declared.node.NodeId.{NodeId}
 use Rattle.ill_tables.specs.declared.part.Row.{Row}
-use Rattle.ill_schema.specs.declared.profile.Profile.{Profile as Named}
-use Rattle.ill_schema.specs.declared.profile.Profile.TheVariants.{Two, Module}
+use Rattle.ill_tables.specs.declared.profile.Profile.{Profile as Named}
+use Rattle.ill_tables.specs.declared.profile.Profile.TheVariants.{Two, Module}
 
 abbrev apdu_tag : ℕ → Tag
 apdu_tag n = record { class = Application; number = n }

@@ -2,7 +2,7 @@
 use Rattle.std.proofs.Common.{◌≡◌, ℕ, List, Option, Some, sym, subst}
 use Rattle.ill_schema.specs.Apdu.{IsStream}
 use Rattle.ill_schema.specs.Profiles.{profile_of}
-use Rattle.ill_schema.specs.declared.profile.Profile.{Profile as Named}
+use Rattle.ill_tables.specs.declared.profile.Profile.{Profile as Named}
 use Rattle.ill_normal.specs.Streamed.{PassesIn}
 use Rattle.ill_normal.proofs.LongestStreams.{stream_front}
 use Rattle.ill_inputs.proofs.TakenOctets.{front}

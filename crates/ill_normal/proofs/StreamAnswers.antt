@@ -5,7 +5,7 @@ use Rattle.ill_schema.specs.Apdu.{Apdu, IsStream}
 use Rattle.ill_refusals.specs.Fault.{Fault, fault_of}
 use Rattle.ill_refusals.specs.Outcome.{OnlyRefuses}
 use Rattle.ill_schema.specs.Profiles.{profile_of}
-use Rattle.ill_schema.specs.declared.profile.Profile.{Profile as Named}
+use Rattle.ill_tables.specs.declared.profile.Profile.{Profile as Named}
 use Rattle.ill_normal.specs.declared.failure.NormalFailure.{NormalFailure}
 use Rattle.ill_normal.specs.declared.failure.StreamCause.{StreamCause}
 use Rattle.ill_normal.specs.declared.failure.StreamFailure.{StreamFailure}

@@ -6,10 +6,10 @@ use Rattle.std.proofs.lemmas.List.{length-take-le, take-take, take_all, take-app
 use Rattle.std.proofs.Math.Seq.{take-append-add}
 use Rattle.std.specs.Io.KnownBytes.{Consumes, Keeps, IsAtEnd}
 use Rattle.std.proofs.KnownBytes.{Consumes-nil, Consumes-trans, Consumes-kept}
-use Rattle.ber_core.specs.Length.{short}
-use Rattle.ber_core.specs.Tree.{depth}
+use Rattle.ber_tree.specs.Length.{short}
+use Rattle.ber_tree.specs.Tree.{depth}
 use Rattle.ill_schema.specs.Profiles.{profile_of}
-use Rattle.ill_schema.specs.declared.profile.Profile.{Profile as Named}
+use Rattle.ill_tables.specs.declared.profile.Profile.{Profile as Named}
 use Rattle.ber_framing.specs.declared.framer.Framing.{Framing}
 use Rattle.ber_framing.specs.declared.framer.Framing.TheVariants as framed
 use Rattle.ber_framing.specs.declared.framer.Framer.{Framer}

@@ -5,7 +5,7 @@ use Rattle.ber_leaf.specs.Profile.{Profile}
 use Rattle.ber_framing.specs.Framed.{IsFrame}
 use Rattle.ill_read.specs.Answers.{IsUnfinishedIn}
 use Rattle.ill_schema.specs.Profiles.{profile_of}
-use Rattle.ill_schema.specs.declared.profile.Profile.{Profile as Named}
+use Rattle.ill_tables.specs.declared.profile.Profile.{Profile as Named}
 use Rattle.ill_normal.specs.Messages.{Spelling, counted, MakesIn}
 use Rattle.ill_normal.specs.Items.{IsRefusedFor}
 use Rattle.ill_normal.specs.Skipping.{HasNoEnd}

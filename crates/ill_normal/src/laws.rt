@@ -3,7 +3,7 @@ ghost use Rattle.std.specs.Prelude.{◌≡◌, ◌↔◌, ℕ, List, length};
 ghost use Rattle.ber_leaf.specs.Profile.{Profile, profile_two};
 ghost use Rattle.ill_schema.specs.Apdu.{Apdu, SpellsApdu, Accepts, normal_form, normal_form_in};
 ghost use Rattle.ill_schema.specs.Profiles.{profile_of};
-ghost use Rattle.ill_schema.specs.declared.profile.Profile.{Profile as Named};
+ghost use Rattle.ill_tables.specs.declared.profile.Profile.{Profile as Named};
 ghost use Rattle.ill_read.specs.Answers.{RefusesWhole, RefusesWholeIn};
 ghost use Rattle.ill_refusals.specs.Fault.{Fault};
 

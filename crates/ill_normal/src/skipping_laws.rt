@@ -1,7 +1,7 @@
 //! Laws of the definitions alone.
 ghost use Rattle.std.specs.Prelude.{◌≡◌, ◌≢◌, ℕ, ◌<◌, List, ◌++◌, length, Some};
 ghost use Rattle.ill_schema.specs.Profiles.{profile_of};
-ghost use Rattle.ill_schema.specs.declared.profile.Profile.{Profile as Named};
+ghost use Rattle.ill_tables.specs.declared.profile.Profile.{Profile as Named};
 ghost use Rattle.ill_schema.specs.declared.refusal.Refusal.{Refusal};
 ghost use Rattle.ill_refusals.specs.Fault.{fault_of, Refuses};
 ghost use Rattle.ill_normal.specs.Messages.{Spelling, first, output_from};

@@ -4,7 +4,7 @@ ghost use Rattle.std.specs.Io.KnownBytes.{IsAtEnd};
 ghost use Rattle.ber_leaf.specs.Profile.{profile_two};
 ghost use Rattle.ill_schema.specs.Apdu.{Apdu, IsStream, normal_form, normal_form_in};
 ghost use Rattle.ill_schema.specs.Profiles.{profile_of};
-ghost use Rattle.ill_schema.specs.declared.profile.Profile.{Profile as Named};
+ghost use Rattle.ill_tables.specs.declared.profile.Profile.{Profile as Named};
 ghost use Rattle.ill_refusals.specs.Fault.{Fault};
 ghost use Rattle.ill_refusals.specs.Outcome.{OnlyRefuses};
 ghost use Rattle.ill_normal.specs.Calls.{taking, putting};

@@ -1,8 +1,8 @@
 -- The innermost element closes.
 use Rattle.ill_schema.specs.Profiles.{profile_of}
-use Rattle.ber_core.specs.Identifier.{Tag}
+use Rattle.ber_tree.specs.Identifier.{Tag}
 use Rattle.ill_grammar.specs.declared.element.Element.TheVariants.{BitSegment}
-use Rattle.ill_schema.specs.declared.profile.Profile.{Profile as Named}
+use Rattle.ill_tables.specs.declared.profile.Profile.{Profile as Named}
 use Rattle.std.proofs.Common.{◌⊎◌, inl, inr}
 use Rattle.ber_leaf.specs.Leaf.{bit_string}
 use Rattle.ber_leaf.specs.Segments.{segment_tag}
@@ -18,7 +18,7 @@ use Rattle.std.specs.Prelude.{⊤}
 use Rattle.std.proofs.Common.{◌≡◌, ℕ, ◌+◌, ◌-◌, List, [], ◌∷◌, ◌++◌, length, length-append, take, drop, Bool, false, Option, Some, None, Result, Ok, Err, refl, sym, ap, ap₂, subst, ◌∙◌, arith, slice_get}
 use Rattle.std.proofs.lemmas.List.{take_at}
 use Rattle.std.specs.Result.{IsErrAnd}
-use Rattle.ber_core.specs.Tree.{Trees, constructed, octet_string, AreSegments}
+use Rattle.ber_tree.specs.Tree.{Trees, constructed, octet_string, AreSegments}
 use Rattle.ber_leaf.specs.declared.fault.LeafFault.{LeafFault}
 use Rattle.ill_schema.specs.Causes.{cause_of}
 use Rattle.ill_schema.specs.Content.{Content}

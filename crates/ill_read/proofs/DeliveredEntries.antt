@@ -1,15 +1,15 @@
 -- An element's content goes where it belongs.
 use Rattle.ill_schema.specs.Profiles.{profile_of}
 use Rattle.std.proofs.Common.{◌⊎◌, inl, inr}
-use Rattle.ill_schema.specs.declared.profile.Profile.{Profile as Named}
-use Rattle.ber_core.specs.Identifier.{Tag}
+use Rattle.ill_tables.specs.declared.profile.Profile.{Profile as Named}
+use Rattle.ber_tree.specs.Identifier.{Tag}
 use Rattle.ill_read.specs.code.Drafts.{IsNoSegment}
-use Rattle.ill_schema.specs.declared.profile.Profile.TheVariants.{Two, Module}
+use Rattle.ill_tables.specs.declared.profile.Profile.TheVariants.{Two, Module}
 use Rattle.ill_schema.specs.Apdu.{root}
 use Rattle.ill_tables.specs.Table.{kind_of}
 use Rattle.ill_tables.specs.declared.node.Kind.{Kind}
 use Rattle.std.proofs.Common.{◌≡◌, ℕ, Bool, true, false, List, [], ◌∷◌, ◌++◌, Option, Ok, refl, sym, ap, subst, ◌∙◌}
-use Rattle.ber_core.specs.Tree.{Tree, none, tag_of}
+use Rattle.ber_tree.specs.Tree.{Tree, none, tag_of}
 use Rattle.ber_leaf.specs.Profile.{profile_two}
 use Rattle.ill_schema.specs.Content.{Content}
 use Rattle.ill_refusals.specs.Element.{segment}

@@ -1,9 +1,9 @@
 -- The content of an element that has ended.
-use Rattle.ill_schema.specs.declared.profile.Profile.{Profile as Named}
+use Rattle.ill_tables.specs.declared.profile.Profile.{Profile as Named}
 use Rattle.ill_schema.specs.Profiles.{profile_of}
 use Rattle.std.proofs.Common.{◌≡◌, ℕ, List, [], ◌∷◌, ◌++◌, take, map, Option, None, true, IsTrue, refl, sym, ap, subst, ◌∙◌, inl, inr}
 use Rattle.ber_core.specs.Foreign.{is_identified}
-use Rattle.ber_core.specs.Tree.{AreSegments, Trees, constructed, none}
+use Rattle.ber_tree.specs.Tree.{AreSegments, Trees, constructed, none}
 use Rattle.ber_leaf.specs.Leaf.{bit_string, value}
 use Rattle.ber_leaf.specs.Segments.{segments_content}
 use Rattle.ill_schema.specs.Content.{Content, simple}

@@ -1,9 +1,9 @@
 -- What an open decoder makes of a piece that it may take.
 use Rattle.std.proofs.Common.{◌≡◌, ◌++◌, ℕ, List, length, take, IsTrue, Result, Ok, Err, refl, sym, subst, arith, length-append}
 use Rattle.std.proofs.lemmas.List.{take_all}
-use Rattle.ber_core.specs.Octets.{are_octets}
+use Rattle.ber_tree.specs.Octets.{are_octets}
 use Rattle.ber_leaf.specs.Profile.{profile_two}
-use Rattle.ill_schema.specs.declared.profile.Profile.TheVariants.{Two}
+use Rattle.ill_tables.specs.declared.profile.Profile.TheVariants.{Two}
 use Rattle.ill_schema.specs.Apdu.{Apdu, Accepts, SpellsApdu}
 use Rattle.ill_schema.specs.Message.{apdu_of, octets_of}
 use Rattle.ill_schema.specs.declared.message.Message.{Message}

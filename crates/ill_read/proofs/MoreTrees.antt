@@ -1,7 +1,7 @@
 -- An open element with one more tree in it.
-use Rattle.ill_schema.specs.declared.profile.Profile.{Profile as Named}
+use Rattle.ill_tables.specs.declared.profile.Profile.{Profile as Named}
 use Rattle.std.proofs.Common.{◌≡◌, List, Option, Some, sym, ap, subst, ◌∙◌}
-use Rattle.ber_core.specs.Tree.{Tree, Trees, none, more, tag_of}
+use Rattle.ber_tree.specs.Tree.{Tree, Trees, none, more, tag_of}
 use Rattle.ber_leaf.specs.Profile.{profile_two}
 use Rattle.ill_schema.specs.Content.{Content}
 use Rattle.ill_grammar.specs.Due.{IsDueIn, behind, next_is, shape, read_as}

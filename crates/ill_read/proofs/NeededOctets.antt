@@ -1,5 +1,5 @@
 -- How many octets at least still belong to a message, at a place that the octets don't pass.
-use Rattle.ill_schema.specs.declared.profile.Profile.{Profile as Named}
+use Rattle.ill_tables.specs.declared.profile.Profile.{Profile as Named}
 use Rattle.ill_schema.specs.Profiles.{profile_of}
 use Rattle.std.proofs.Common.{◌≡◌, ◌⊎◌, ℕ, ◌+◌, ◌<◌, ◌≤◌, min, Bool, true, false, ◌&&◌, List, [], ◌∷◌, ◌++◌, length, length-append, take, drop, Option, Some, None, IsTrue, refl, sym, ap, subst, ◌∙◌, inl, inr, arith, append_assoc, append-nil, nat_eq}
 use Rattle.std.specs.Prelude.{nat_le}
@@ -10,9 +10,9 @@ use Rattle.ber_core.specs.declared.header.Len.{Len}
 use Rattle.ber_core.specs.declared.header.Len.TheVariants.{Definite, Indefinite}
 use Rattle.ber_core.specs.Header.{IsHeader, SpellsLen}
 use Rattle.ber_core.specs.Id.{tag_of_id, form_of_id}
-use Rattle.ber_core.specs.Identifier.{Tag, identifier, HasIdentifier}
-use Rattle.ber_core.specs.Length.{IsLength, short as short_form, long as long_form}
-use Rattle.ber_core.specs.Octets.{are_octets}
+use Rattle.ber_tree.specs.Identifier.{Tag, identifier, HasIdentifier}
+use Rattle.ber_tree.specs.Length.{IsLength, short as short_form, long as long_form}
+use Rattle.ber_tree.specs.Octets.{are_octets}
 use Rattle.ber_core.proofs.Identifiers.{IsEnd, identifier_no_end}
 use Rattle.ber_leaf.specs.Profile.{Profile}
 use Rattle.ill_schema.specs.declared.refusal.Cause.{Cause}
@@ -30,7 +30,7 @@ use Rattle.ber_core.proofs.HeadersRead.{whole_header_read}
 use Rattle.ill_refusals.proofs.Judgements.{Judged, judged, bound_some}
 use Rattle.ber_core.proofs.ReadOctets.{identifier_longer, length_longer, identifier_read, length_read, octets_right, take-all, drop-all}
 use Rattle.ill_refusals.proofs.Machine.{step}
-use Rattle.ber_core.proofs.Lists.{two_cases}
+use Rattle.ber_tree.proofs.Lists.{two_cases}
 use Rattle.ill_refusals.proofs.Truncation.{IsCutShort, in_mark as in_end_mark, in_identifier, in_element, IsLengthCut}
 use Rattle.ill_grammar.proofs.PlaceNeeds.{has_outermost, bound_before, short, few, InElement, wants_element}
 

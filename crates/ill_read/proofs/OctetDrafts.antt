@@ -1,22 +1,22 @@
 -- The octets that a draft holds, as elements open, are read and end.
-use Rattle.ill_schema.specs.declared.profile.Profile.{Profile as Named}
+use Rattle.ill_tables.specs.declared.profile.Profile.{Profile as Named}
 use Rattle.ill_schema.specs.Profiles.{profile_of}
 use Rattle.std.proofs.Common.{◌≡◌, ℕ, Bool, true, false, List, [], ◌∷◌, ◌++◌, length, drop, append_assoc, append-nil, Option, None, IsTrue, inl, inr, refl, sym, ap, ap₂, subst, ◌∙◌}
 use Rattle.std.proofs.lemmas.List.{drop_at}
 use Rattle.ber_core.specs.Der.{encoding}
 use Rattle.ber_core.specs.Id.{tag_of_id}
-use Rattle.ber_core.specs.Identifier.{Tag, identifier}
-use Rattle.ber_core.specs.declared.id.Class.TheVariants.{Universal}
-use Rattle.ber_core.specs.Length.{shortest_length}
-use Rattle.ber_core.specs.Octets.{are_octets}
-use Rattle.ber_core.specs.Tree.{Tree, Trees, primitive, tag_of}
+use Rattle.ber_tree.specs.Identifier.{Tag, identifier}
+use Rattle.ber_tree.specs.declared.class.Class.TheVariants.{Universal}
+use Rattle.ber_tree.specs.Length.{shortest_length}
+use Rattle.ber_tree.specs.Octets.{are_octets}
+use Rattle.ber_tree.specs.Tree.{Tree, Trees, primitive, tag_of}
 use Rattle.ber_leaf.specs.Leaf.{Leaf, bit_string, boolean, enumerated, integer, is_bits, is_string, normal_content, value, content_fault}
 use Rattle.ber_leaf.specs.Bits.{cleared_content}
 use Rattle.ber_leaf.specs.Segments.{join_bits, segment_tag}
 use Rattle.ber_leaf.specs.declared.fault.LeafFault.{LeafFault}
 use Rattle.ber_leaf.proofs.Bits.{normal_bits}
 use Rattle.ber_leaf.proofs.Leaves.{tested}
-use Rattle.ber_core.specs.Identifier.{HasIdentifier}
+use Rattle.ber_tree.specs.Identifier.{HasIdentifier}
 use Rattle.ber_core.proofs.Foreign.{has_identified}
 use Rattle.ill_refusals.specs.Element.{leaf, foreign}
 use Rattle.ill_grammar.specs.declared.due.Next.TheVariants.{BitSegments}

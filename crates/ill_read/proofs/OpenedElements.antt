@@ -1,12 +1,12 @@
 -- An element opens.
-use Rattle.ill_schema.specs.declared.profile.Profile.{Profile as Named}
+use Rattle.ill_tables.specs.declared.profile.Profile.{Profile as Named}
 use Rattle.ill_schema.specs.Profiles.{profile_of}
 use Rattle.ill_tables.specs.declared.node.Kind.{Kind}
 use Rattle.ill_tables.specs.Table.{kind_of}
 use Rattle.std.proofs.Common.{◌≡◌, ℕ, List, [], ◌∷◌, ◌++◌, append-nil, Option, Some, None, unwrap_or, true, IsTrue, refl, sym, ap, subst, ◌∙◌}
 use Rattle.ber_core.specs.Id.{tag_of_id}
-use Rattle.ber_core.specs.Identifier.{Tag}
-use Rattle.ber_core.specs.Tree.{constructed, none, octet_string}
+use Rattle.ber_tree.specs.Identifier.{Tag}
+use Rattle.ber_tree.specs.Tree.{constructed, none, octet_string}
 use Rattle.ill_grammar.specs.Places.{alternative_of, node_of, part_of, type_of}
 use Rattle.ill_grammar.specs.Elements.{element_is, is_two_element}
 use Rattle.ill_grammar.specs.Due.{IsDueIn, behind, first_of, next_is, shape, shape_at, read_as, slot_in, next_place}
@@ -26,7 +26,7 @@ use Rattle.ill_grammar.specs.declared.frame.Frame.{Frame}
 use Rattle.ill_grammar.specs.declared.judge.Opening.{Opening}
 use Rattle.ill_read.specs.declared.path.Path.{Path}
 use Rattle.ill_read.proofs.DeliveredEntries.{innermost_level}
-use Rattle.ber_core.specs.Identifier.{HasIdentifier}
+use Rattle.ber_tree.specs.Identifier.{HasIdentifier}
 use Rattle.ber_core.proofs.Foreign.{has_identified}
 use Rattle.ill_grammar.proofs.ReadLeaves.{module_content, read_content}
 use Rattle.ill_grammar.proofs.DueCells.{opens-by}

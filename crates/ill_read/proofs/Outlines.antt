@@ -1,15 +1,15 @@
 -- The marks that an outline has, as elements open, are read and end.
 use Rattle.std.proofs.lemmas.List.{map-append}
 use Rattle.ill_grammar.specs.Elements.{element_is}
-use Rattle.ill_schema.specs.declared.profile.Profile.TheVariants.{Module, Two}
-use Rattle.ill_schema.specs.declared.profile.Profile.{Profile as Named}
+use Rattle.ill_tables.specs.declared.profile.Profile.TheVariants.{Module, Two}
+use Rattle.ill_tables.specs.declared.profile.Profile.{Profile as Named}
 use Rattle.ill_schema.specs.Profiles.{profile_of}
 use Rattle.ill_schema.specs.Meaning.{Means}
 use Rattle.ill_schema.specs.Tagging.{leaf_of, untagged}
 use Rattle.ill_tables.specs.declared.node.Kind.{Kind}
 use Rattle.ber_core.specs.Der.{encoding}
 use Rattle.ber_core.specs.Foreign.{foreign_levels, is_foreign}
-use Rattle.ber_core.specs.Tree.{Tree}
+use Rattle.ber_tree.specs.Tree.{Tree}
 use Rattle.ber_leaf.specs.Segments.{join_bits}
 use Rattle.ber_leaf.specs.Leaf.{Leaf as LeafKind, bit_string}
 use Rattle.std.proofs.Common.{◌⊎◌, ap₂}
@@ -24,8 +24,8 @@ use Rattle.ill_read.specs.declared.normal_form_draft.NormalFormDraft.{NormalForm
 use Rattle.std.proofs.Common.{IsTrue, ◌≡◌, ℕ, List, [], ◌∷◌, ◌++◌, length, map, append_assoc, append-nil, Option, Some, None, refl, sym, ap, subst, ◌∙◌, inl, inr, true, false, Bool}
 use Rattle.std.proofs.lemmas.Option.{slice_get_cases}
 use Rattle.ber_core.specs.Id.{tag_of_id}
-use Rattle.ber_core.specs.Identifier.{Tag}
-use Rattle.ber_core.specs.Tree.{Trees, tag_of}
+use Rattle.ber_tree.specs.Identifier.{Tag}
+use Rattle.ber_tree.specs.Tree.{Trees, tag_of}
 use Rattle.ber_leaf.specs.Leaf.{value}
 use Rattle.ber_leaf.specs.Simple.{Simple}
 use Rattle.ill_schema.specs.Apdu.{Apdu, choice_of}
@@ -41,7 +41,7 @@ use Rattle.ill_tables.specs.declared.part.Row.{Row}
 use Rattle.ill_grammar.specs.Places.{alternative_of}
 use Rattle.ill_grammar.specs.Due.{IsDueIn, behind, shape, first_of, read_as, slot_in}
 use Rattle.ill_grammar.specs.LeafTypes.{leaf_is}
-use Rattle.ill_read.specs.Outline.{AreEntries, AreItems, IsMarked, leaf_marked, octets_marks}
+use Rattle.ill_grammar.specs.Outline.{AreEntries, AreItems, IsMarked, leaf_marked, octets_marks}
 use Rattle.ill_grammar.specs.Standing.{Level, IsHeld}
 use Rattle.ill_grammar.specs.Contents.{with_alternative, absent_content}
 use Rattle.ill_read.specs.code.Drafts.{HasBits, HasModuleElement, IsModuleElement, IsPrimitiveOf, IsRightContent, text_opened, IsNoSegment, HasOpened, HasClosed, HasLeaf, HasText, HoldsApdu, HasEnded, IsContentOf, IsDueAt, IsOpeningIn, IsRightText, rows_before, rows_left, with_entry}
@@ -60,8 +60,8 @@ use Rattle.ill_grammar.specs.declared.frame.Frame.{Frame}
 use Rattle.ill_grammar.specs.declared.judge.Opening.{Opening}
 use Rattle.ill_grammar.specs.declared.judge.Reading.{Reading}
 use Rattle.ill_grammar.specs.declared.leaf_type.LeafType.{LeafType}
-use Rattle.ill_read.specs.declared.mark.Mark.{Mark}
-use Rattle.ill_read.specs.declared.mark.Mark.TheVariants as mark
+use Rattle.ill_grammar.specs.declared.outline.Mark.{Mark}
+use Rattle.ill_grammar.specs.declared.outline.Mark.TheVariants as mark
 use Rattle.ill_read.specs.declared.outline_draft.OutlineDraft.{OutlineDraft}
 use Rattle.ill_read.proofs.DeliveredEntries.{pushed_apart, pushed_segment}
 use Rattle.ill_read.proofs.HeldEntries.{drop-take-more}

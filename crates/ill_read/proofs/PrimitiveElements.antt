@@ -1,15 +1,15 @@
 -- A primitive element is read.
-use Rattle.ill_schema.specs.declared.profile.Profile.{Profile as Named}
+use Rattle.ill_tables.specs.declared.profile.Profile.{Profile as Named}
 use Rattle.ill_schema.specs.Profiles.{profile_of}
 use Rattle.std.proofs.Common.{◌≡◌, ℕ, ◌+◌, List, [], ◌∷◌, ◌++◌, length, drop, None, Result, Ok, Bool, true, false, IsTrue, refl, sym, ap, subst, ◌∙◌}
 use Rattle.ber_core.specs.Id.{tag_of_id}
-use Rattle.ber_core.specs.Identifier.{Tag}
-use Rattle.ber_core.specs.Tree.{primitive}
+use Rattle.ber_tree.specs.Identifier.{Tag}
+use Rattle.ber_tree.specs.Tree.{primitive}
 use Rattle.ber_leaf.specs.Leaf.{value}
 use Rattle.ill_schema.specs.Content.{Content, simple}
 use Rattle.ill_schema.specs.Content as content
 use Rattle.ber_core.specs.Foreign.{is_identified}
-use Rattle.ber_core.specs.Identifier.{HasIdentifier}
+use Rattle.ber_tree.specs.Identifier.{HasIdentifier}
 use Rattle.ber_core.proofs.Foreign.{has_identified}
 use Rattle.ber_leaf.specs.Leaf.{bit_string}
 use Rattle.ber_leaf.specs.Segments.{join_bits}

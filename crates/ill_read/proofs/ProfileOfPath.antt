@@ -8,9 +8,9 @@ use Rattle.ill_grammar.specs.Two.{is_found_of}
 use Rattle.ill_grammar.specs.declared.element.Element.{Element as CodeElement}
 use Rattle.ill_grammar.specs.declared.element.Element.TheVariants.{BitString, Foreign, ModuleLeaf}
 use Rattle.ill_read.specs.code.Drafts.{IsModuleElement}
-use Rattle.ill_schema.specs.declared.profile.Profile.TheVariants.{Two}
-use Rattle.ill_schema.specs.declared.profile.Profile.{Profile as Named}
-use Rattle.ber_core.specs.Identifier.{Tag}
+use Rattle.ill_tables.specs.declared.profile.Profile.TheVariants.{Two}
+use Rattle.ill_tables.specs.declared.profile.Profile.{Profile as Named}
+use Rattle.ber_tree.specs.Identifier.{Tag}
 use Rattle.ill_grammar.specs.declared.place.Found.{Found}
 use Rattle.ill_grammar.specs.Due.{read_as}
 use Rattle.ill_grammar.specs.Elements.{element_is, is_two_element}

@@ -1,7 +1,7 @@
 -- The text of the strings that are open.
-use Rattle.ill_schema.specs.declared.profile.Profile.{Profile as Named}
-use Rattle.ber_core.specs.Identifier.{Tag}
-use Rattle.ber_core.specs.Tree.{octet_string}
+use Rattle.ill_tables.specs.declared.profile.Profile.{Profile as Named}
+use Rattle.ber_tree.specs.Identifier.{Tag}
+use Rattle.ber_tree.specs.Tree.{octet_string}
 use Rattle.ber_leaf.specs.Leaf.{bit_string}
 use Rattle.ber_leaf.specs.Segments.{segment_tag}
 use Rattle.ill_grammar.specs.Elements.{found_is}
@@ -10,7 +10,7 @@ use Rattle.ill_grammar.specs.declared.due.Next.TheVariants.{BitSegments}
 use Rattle.ill_grammar.proofs.DueTags.{due_bit_segment, due_segment}
 use Rattle.ill_read.specs.code.Drafts.{IsNoSegment}
 use Rattle.std.proofs.Common.{◌≡◌, ℕ, List, [], ◌∷◌, Option, refl, sym, ap, subst, ◌∙◌}
-use Rattle.ber_core.specs.Tree.{Trees}
+use Rattle.ber_tree.specs.Tree.{Trees}
 use Rattle.ill_schema.specs.Content.{Content}
 use Rattle.ber_leaf.specs.Segments.{segments_content}
 use Rattle.ill_grammar.specs.Elements.{element_is}

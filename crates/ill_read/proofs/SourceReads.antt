@@ -4,15 +4,15 @@ use Rattle.ill_read.specs.declared.value_draft.ValueDraft.{ValueDraft}
 use Rattle.ill_read.specs.Paths.{AreMessage}
 use Rattle.ill_read.specs.Answers.{IsSpelled, ReadsNext}
 use Rattle.ill_schema.specs.declared.message.Message.{Message}
-use Rattle.ill_schema.specs.declared.profile.Profile.{Profile as Named}
+use Rattle.ill_tables.specs.declared.profile.Profile.{Profile as Named}
 use Rattle.ill_schema.specs.Profiles.{profile_of}
-use Rattle.ill_schema.specs.declared.profile.Profile.TheVariants.{Two}
+use Rattle.ill_tables.specs.declared.profile.Profile.TheVariants.{Two}
 use Rattle.std.proofs.Common.{◌≡◌, ◌≢◌, ◌⊎◌, ℕ, ◌+◌, ◌<◌, ◌≤◌, List, [], ◌∷◌, ◌++◌, length, length-append, Option, Some, None, Result, Ok, Err, IsTrue, refl, sym, ap, subst, ◌∙◌, inl, inr, arith, append-nil}
 use Rattle.std.specs.Prelude.{Bool, true, false, IfErr, IfNone, IfOk, IfSome}
 use Rattle.std.specs.Io.KnownBytes.{Appends, Consumes, IsAtEnd}
 use Rattle.std.proofs.lemmas.Bool.{cases_lt}
 use Rattle.std.proofs.lemmas.List.{nil_from_length, take_all}
-use Rattle.ber_core.specs.Octets.{are_octets}
+use Rattle.ber_tree.specs.Octets.{are_octets}
 use Rattle.ber_leaf.specs.Profile.{profile_two}
 use Rattle.ill_schema.specs.Apdu.{Apdu, Accepts, SpellsApdu}
 use Rattle.ill_read.specs.Answers.{IsUnfinishedIn, IfReadFault, IfReadRefused, ReadsNextIn, TakesFront, TakesNoMessageIn}

@@ -1,7 +1,7 @@
 -- The innermost level where a segment may come next is that of the string.
 use Rattle.std.proofs.Common.{◌≡◌, List, [], ◌∷◌, inl, inr, sym, ap, subst, refl, ◌∙◌}
 use Rattle.ill_grammar.specs.Places.{alternative_of}
-use Rattle.ill_schema.specs.declared.profile.Profile.{Profile as Named}
+use Rattle.ill_tables.specs.declared.profile.Profile.{Profile as Named}
 use Rattle.ill_refusals.specs.Place.{Open}
 use Rattle.ill_grammar.specs.Due.{due_with, read_as, shape, slot_in}
 use Rattle.ill_grammar.specs.Elements.{element_is}

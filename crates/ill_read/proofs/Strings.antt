@@ -1,7 +1,7 @@
 -- Strings in segments: a segment more, read or closed.
 use Rattle.std.proofs.Common.{◌≡◌, ℕ, List, [], ◌∷◌, ◌++◌, append_assoc, append-nil, Option, Some, Ok, false, sym, ap, ap₂, refl, subst, ◌∙◌}
-use Rattle.ber_core.specs.Identifier.{Tag}
-use Rattle.ber_core.specs.Tree.{Tree, Trees, constructed, none, more, tag_of, octet_string, IsString, text, text_all, AreSegments}
+use Rattle.ber_tree.specs.Identifier.{Tag}
+use Rattle.ber_tree.specs.Tree.{Tree, Trees, constructed, none, more, tag_of, octet_string, IsString, text, text_all, AreSegments}
 use Rattle.ber_leaf.specs.Profile.{profile_two}
 use Rattle.ill_schema.specs.Content.{Content}
 use Rattle.ill_grammar.specs.Elements.{element_is}
@@ -20,7 +20,7 @@ use Rattle.ill_grammar.specs.declared.element.Element.TheVariants.{Leaf, Segment
 use Rattle.ill_grammar.specs.declared.frame.Frame.{Frame}
 use Rattle.ill_read.specs.declared.path.Path.{Path}
 use Rattle.ill_grammar.proofs.DueElements.{due_element_is}
-use Rattle.ill_schema.specs.declared.profile.Profile.{Profile as Named}
+use Rattle.ill_tables.specs.declared.profile.Profile.{Profile as Named}
 use Rattle.ber_leaf.specs.Leaf.{bit_string}
 use Rattle.ber_leaf.specs.Segments.{join_bits, segment_tag, tree_bits}
 use Rattle.ill_grammar.specs.declared.due.Next.TheVariants.{BitSegments}

@@ -3,6 +3,5 @@ pub mod Paths
 pub mod OpenElements
 pub mod Feeding
 pub mod Answers
-pub mod Outline
 pub mod Outlined
 pub mod code

@@ -2,7 +2,7 @@
 use Rattle.std.specs.Prelude.{◌≡◌, ℕ, List, length}
 use Rattle.ber_leaf.specs.Profile.{Profile, profile_two}
 use Rattle.ill_schema.specs.Apdu.{Apdu, SpellsApdu}
-use Rattle.ill_read.specs.Outline.{IsOutlineOf}
+use Rattle.ill_grammar.specs.Outline.{IsOutlineOf}
 use Rattle.ill_read.specs.declared.outlined.OutlinedMessage.{OutlinedMessage}
 
 -- the octets spell an APDU in the profile, and this is its outline, and how many they are

@@ -1,8 +1,8 @@
 -- What a path holds of the elements that are open at a place.
-use Rattle.ill_schema.specs.declared.profile.Profile.{Profile as Named}
+use Rattle.ill_tables.specs.declared.profile.Profile.{Profile as Named}
 use Rattle.std.specs.Prelude.{◌≡◌, ℕ, List, [], ◌∷◌, ◌++◌, length, map, Option, Some, option_map, if◌then◌else◌}
-use Rattle.ber_core.specs.Identifier.{Tag}
-use Rattle.ber_core.specs.Tree.{Trees, octet_string, text_all}
+use Rattle.ber_tree.specs.Identifier.{Tag}
+use Rattle.ber_tree.specs.Tree.{Trees, octet_string, text_all}
 use Rattle.ber_leaf.specs.Segments.{bits_after, join_bits, segments_content}
 use Rattle.ill_schema.specs.Tagging.{same_tag}
 use Rattle.ill_schema.specs.Apdu.{Apdu}

@@ -1,6 +1,6 @@
 //! A message that comes in pieces.
 ghost use Rattle.std.specs.Prelude.{◌≡◌};
-ghost use Rattle.ill_schema.specs.declared.profile.Profile.{Profile};
+ghost use Rattle.ill_tables.specs.declared.profile.Profile.{Profile};
 
 use crate::failure::Failure;
 use crate::reader::{Reader, State};
@@ -35,7 +35,7 @@ impl fmt::Debug for Decoder {
 
 impl Decoder {
     ghost use Rattle.std.specs.Prelude.{◌≡◌, ℕ, ◌+◌, ◌<◌, ◌≤◌, List, [], ◌++◌, length, IsTrue, Ok, Err, Some};
-    ghost use Rattle.ber_core.specs.Octets.{are_octets};
+    ghost use Rattle.ber_tree.specs.Octets.{are_octets};
     ghost use Rattle.ber_leaf.specs.Profile.{profile_two};
     ghost use Rattle.ill_schema.specs.Apdu.{Apdu, Accepts, SpellsApdu};
     ghost use Rattle.ill_schema.specs.declared.message.Message.{Message};

@@ -1,7 +1,7 @@
 //! Drafts: results that are built while the elements of a message are read.
 ghost use Rattle.std.specs.Prelude.{◌≡◌, ℕ, List, true, IfOk, IsTrue, OnOk};
 ghost use Rattle.ill_schema.specs.Apdu.{Apdu};
-ghost use Rattle.ill_schema.specs.declared.profile.Profile.{Profile as Named};
+ghost use Rattle.ill_tables.specs.declared.profile.Profile.{Profile as Named};
 ghost use Rattle.ill_grammar.specs.Due.{read_as, shape};
 ghost use Rattle.ill_grammar.specs.code.Judging.{is_usual};
 ghost use Rattle.ill_grammar.specs.LeafTypes.{IsContentIn, leaf_is};

@@ -15,7 +15,6 @@ mod draft;
 mod element_reader;
 mod failure;
 mod laws;
-mod mark;
 mod normal;
 mod normal_form_draft;
 mod open_values;
@@ -32,17 +31,15 @@ mod whole;
 pub use decoder::{Decoder, Progress};
 pub use element_reader::ElementReader;
 pub use failure::{Failure, ReadFailure};
-pub use ill_grammar::{LeafType, ModuleLeaf};
+pub use ill_grammar::{LeafType, Mark, ModuleLeaf, Outline};
 pub use ill_refusals::{
     one_outcome, one_place, refusals_stay, truncated_at_the_end, values_are_small,
 };
 pub use laws::decoders_are_apart;
-pub use mark::Mark;
 pub use normal::{
     NormalForm, NormalReader, decode_normal, decode_normal_as, read_normal_as, read_normal_in,
     read_normal_peeking, read_normal_recording_peeking,
 };
-pub use outline_draft::Outline;
 pub use outlined::{OutlineReader, OutlinedMessage, read_outline_as, read_outline_in};
 pub use read::{
     decode, read_message, read_message_peeking, read_recording, read_recording_peeking,

@@ -1,8 +1,8 @@
 //! The draft that is the message's normal form: each element is written as it is read.
-ghost use Rattle.ill_schema.specs.declared.profile.Profile.{Profile as Named};
+ghost use Rattle.ill_tables.specs.declared.profile.Profile.{Profile as Named};
 ghost use Rattle.std.specs.Prelude.{◌≡◌, ◌++◌, ℕ, List, [], ◌∷◌, length, drop, false, true, IfOk, OnOk};
 ghost use Rattle.ber_core.specs.Id.{id_octets, tag_of_id};
-ghost use Rattle.ber_core.specs.Identifier.{HasIdentifier, identifier};
+ghost use Rattle.ber_tree.specs.Identifier.{HasIdentifier, identifier};
 ghost use Rattle.ber_leaf.specs.Leaf.{normal_content, value};
 ghost use Rattle.ill_schema.specs.Content.{simple};
 ghost use Rattle.ill_grammar.specs.LeafTypes.{IsContentIn, leaf_is};
@@ -11,7 +11,7 @@ ghost use Rattle.ill_grammar.specs.Places.{alternative_of};
 ghost use Rattle.ill_grammar.specs.Due.{IsDueIn, behind, next_place, shape_at, slot_in};
 ghost use Rattle.ill_grammar.specs.Due.{due_with};
 ghost use Rattle.ill_grammar.specs.declared.element.Element.TheVariants.{Leaf as LeafElement};
-ghost use Rattle.ber_core.specs.Identifier.{Tag};
+ghost use Rattle.ber_tree.specs.Identifier.{Tag};
 ghost use Rattle.ill_grammar.specs.Standing.{top_level};
 ghost use Rattle.ill_grammar.specs.Contents.{with_alternative};
 ghost use Rattle.ill_read.specs.code.OctetDrafts.{AreNormal, AreOctets, enclosed};

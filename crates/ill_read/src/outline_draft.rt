@@ -1,50 +1,24 @@
 //! The draft that is the outline of a message: marks that say what its value is, made while the message is read.
-ghost use Rattle.ill_schema.specs.declared.profile.Profile.{Profile as Named};
+ghost use Rattle.ill_tables.specs.declared.profile.Profile.{Profile as Named};
 ghost use Rattle.std.specs.Prelude.{◌≡◌, ◌++◌, [], ◌∷◌, ◌≤◌, length, map, take, drop, OnOk};
 ghost use Rattle.ill_grammar.specs.Places.{alternative_of};
 ghost use Rattle.ill_tables.specs.Table.{kind_of, rows_of};
 ghost use Rattle.ill_grammar.specs.Due.{first_of, read_as, shape, slot_in};
-ghost use Rattle.ill_read.specs.Outline.{octets_marks};
+ghost use Rattle.ill_grammar.specs.Outline.{octets_marks};
 ghost use Rattle.ill_grammar.specs.Standing.{top_level};
 ghost use Rattle.ill_read.specs.code.Drafts.{rows_before, rows_left};
-ghost use Rattle.ill_read.specs.declared.mark.Mark.{Mark};
+ghost use Rattle.ill_grammar.specs.declared.outline.Mark.{Mark};
 ghost use Rattle.ill_grammar.specs.Cells.{is_any};
 ghost use Rattle.ill_read.specs.code.Outlines.{AreOutlined, HasPreceding, HasOutline, HasAbsent, HasEnding, alternative_marks, first_marks, held_marks, late_marks, start_marks};
 
 use crate::draft::Draft;
 use crate::failure::Failure;
-use crate::mark::Mark;
 use crate::normal_form_draft::NormalFormDraft;
-use ill_grammar::{Element, Found, Frame, LeafType, Next, Opening, Place, Reading, Slot};
+use ill_grammar::{
+    Element, Found, Frame, LeafType, Mark, Next, Opening, Outline, Place, Reading, Slot,
+};
 use ill_schema::{NodeId, PartId, Profile, rows};
 use std::alloc::{AllocError, Global};
-
-/// The outline of a message: marks that say what its value is, in reading order.
-#[derive(Drop)]
-pub struct Outline {
-    marks: Vec<Mark>,
-    /// Memory for the next one.
-    octets: Vec<u8>,
-}
-
-impl Outline {
-    /// The outline of nothing, which takes no memory.
-    pub fn new(alloc: Global) -> Outline
-        ensures { result.marks.items ≡ [] }
-    {
-        Outline {
-            marks: Vec::new(alloc),
-            octets: Vec::new(alloc),
-        }
-    }
-
-    /// Its marks.
-    pub fn marks(&self) -> &[Mark]
-        ensures { result.now ≡ self.now.marks.items }
-    {
-        self.marks.as_slice()
-    }
-}
 
 /// The marks of the elements that have been read, beside the normal form, by which the limit is judged.
 #[derive(Drop)]
@@ -58,7 +32,7 @@ impl OutlineDraft {
     pub fn new(alloc: Global, buffer: Outline) -> OutlineDraft
         ensures { (p : Named) → AreOutlined result (top_level p ∷ []) [] }
     {
-        let Outline { mut marks, octets } = buffer;
+        let (mut marks, octets) = buffer.into_parts();
         marks.clear();
         OutlineDraft {
             octets: NormalFormDraft::new(alloc, octets),
@@ -94,10 +68,7 @@ impl OutlineDraft {
         ensures { result.marks.items ≡ self.marks.items }
     {
         let OutlineDraft { octets, marks } = self;
-        Outline {
-            marks,
-            octets: octets.into_octets(),
-        }
+        Outline::from_parts(marks, octets.into_octets())
     }
 }
 

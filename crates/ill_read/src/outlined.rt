@@ -6,11 +6,12 @@ ghost use Rattle.ill_read.specs.Answers.{ReadsNext, ReadsNextIn};
 ghost use Rattle.ill_read.specs.Outlined.{IsOutlined, IsOutlinedIn};
 
 use crate::failure::ReadFailure;
-use crate::outline_draft::{Outline, OutlineDraft};
+use crate::outline_draft::OutlineDraft;
 use crate::read::read_draft;
 use crate::reader::Reader;
 use crate::recorder::NoRecorder;
 use ber_core::{Lookahead, Source};
+use ill_grammar::Outline;
 use ill_schema::Profile;
 use std::alloc::Global;
 

@@ -2,7 +2,7 @@
 ghost use Rattle.std.specs.Prelude.{◌≡◌, ℕ, ◌<◌, ◌≤◌, List, [], ◌++◌, length, take, IfOk, IfErr, IfSome, IsErr, IsErrOf, IsTrue};
 ghost use Rattle.std.specs.Io.KnownBytes.{Appends, Consumes, Keeps};
 ghost use Rattle.ill_schema.specs.Profiles.{profile_of};
-ghost use Rattle.ill_schema.specs.declared.profile.Profile.{Profile as Named};
+ghost use Rattle.ill_tables.specs.declared.profile.Profile.{Profile as Named};
 ghost use Rattle.ill_read.specs.Answers.{DecodeAnswers, IsRead, IsSpelled, IsUnfinishedIn, ReadsNext, ReadsNextIn, TakesFront, TakesNoMessageIn};
 ghost use Rattle.ill_read.specs.code.Filling.{HasKept, HasPulled, HasTaken, NoneEndsWithin};
 ghost use Rattle.ill_read.specs.Feeding.{IsOpenAt};

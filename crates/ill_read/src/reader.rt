@@ -36,9 +36,9 @@ pub enum State {
 
 impl<D: Draft> Reader<D> {
     ghost use Rattle.ill_schema.specs.Profiles.{profile_of};
-    ghost use Rattle.ill_schema.specs.declared.profile.Profile.{Profile as Named};
+    ghost use Rattle.ill_tables.specs.declared.profile.Profile.{Profile as Named};
     ghost use Rattle.std.specs.Prelude.{◌≡◌, ◌≢◌, ℕ, ◌+◌, ◌-◌, ◌<◌, List, [], ◌∷◌, ◌++◌, length, drop, take, false, true, IsTrue, Ok, Err, Some, None};
-    ghost use Rattle.ber_core.specs.Octets.{are_octets};
+    ghost use Rattle.ber_tree.specs.Octets.{are_octets};
     ghost use Rattle.ill_schema.specs.Apdu.{Apdu, Accepts};
     ghost use Rattle.ill_grammar.specs.Need.{NeedsAfterIn};
     ghost use Rattle.ill_read.specs.Feeding.{IsOpenAt};

@@ -1,5 +1,5 @@
 //! The draft that is the message's value: the values of the elements that have been read, until those round them are whole.
-ghost use Rattle.ill_schema.specs.declared.profile.Profile.TheVariants.{Two};
+ghost use Rattle.ill_tables.specs.declared.profile.Profile.TheVariants.{Two};
 ghost use Rattle.std.specs.Prelude.{◌≡◌, ℕ, List, [], ◌∷◌, IfOk, IsTrue};
 ghost use Rattle.ill_grammar.specs.Places.{is_two};
 ghost use Rattle.ill_schema.specs.Content.{Content};

@@ -1,8 +1,8 @@
 -- A value holds no more text than its encoding has octets, and no more list items than half of them.
 use Rattle.std.proofs.Common.{◌≡◌, ℕ, ℤ, ◌+◌, ◌-◌, ◌*◌, ◌≤◌, true, false, List, [], ◌∷◌, ◌++◌, length, length-append, IsTrue, refl, sym, ap, subst, ◌∙◌, inl, inr, arith}
 use Rattle.ber_core.specs.Foreign.{is_foreign, foreign_levels}
-use Rattle.ber_core.specs.Identifier.{Tag, identifier}
-use Rattle.ber_core.specs.Tree.{Tree, Trees, primitive, constructed, none, more, text, text_all, Spells, SpellsAll}
+use Rattle.ber_tree.specs.Identifier.{Tag, identifier}
+use Rattle.ber_tree.specs.Tree.{Tree, Trees, primitive, constructed, none, more, text, text_all, Spells, SpellsAll}
 use Rattle.ber_leaf.specs.Leaf.{Leaf, boolean, integer, enumerated, general_string, visible_string, printable_string, iso_date, iso_time, null_type, object_identifier, octet_string, bit_string, object_descriptor, value}
 use Rattle.ber_leaf.specs.Profile.{Profile}
 use Rattle.ber_leaf.specs.Segments.{bits_after, leaf_content}

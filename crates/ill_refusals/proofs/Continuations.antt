@@ -1,11 +1,11 @@
 -- What may still follow a place that is due.
 use Rattle.std.proofs.Common.{◌≡◌, ◌⊎◌, ℕ, zero, suc, ◌+◌, ◌≤◌, List, [], ◌∷◌, ◌++◌, length, length-append, take, drop, Some, None, IsTrue, sym, ap, subst, ◌∙◌, inl, inr, arith}
-use Rattle.ber_core.specs.Tree.{Tree}
+use Rattle.ber_tree.specs.Tree.{Tree}
 use Rattle.ill_schema.specs.Apdu.{Apdu, Encodes, normal_form_in}
 use Rattle.ill_refusals.proofs.FirstFault.{has_fault}
 use Rattle.ill_refusals.specs.Fault.{Fault}
 use Rattle.ill_refusals.specs.code.Judge.{Judgement, faulty, closes, opens, reads, judge}
-use Rattle.ber_core.specs.Octets.{are_octets}
+use Rattle.ber_tree.specs.Octets.{are_octets}
 use Rattle.ill_refusals.specs.Outcome.{OnlyAccepts, OnlyRefuses}
 use Rattle.ill_refusals.specs.Place.{Open, IsPlace, IsDue}
 use Rattle.ber_leaf.specs.Profile.{Profile}

@@ -1,9 +1,9 @@
 -- The machine goes from places that are due to places that are due.
 use Rattle.std.proofs.Common.{◌≡◌, ◌⊎◌, ℕ, zero, suc, ◌+◌, ◌-◌, ◌*◌, ◌<◌, ◌≤◌, true, false, List, [], ◌∷◌, ◌++◌, length, take, drop, Option, Some, None, IsTrue, refl, sym, ap, subst, ◌∙◌, inl, inr, arith, append_assoc, append-nil, length-append}
 use Rattle.std.proofs.lemmas.List.{drop_at, length-drop}
-use Rattle.ber_core.specs.Identifier.{Tag, identifier}
-use Rattle.ber_core.specs.Length.{IsLength}
-use Rattle.ber_core.specs.Tree.{Tree, Trees, primitive, constructed, none, more, tag_of, Spells, SpellsAll, depth, depth_all}
+use Rattle.ber_tree.specs.Identifier.{Tag, identifier}
+use Rattle.ber_tree.specs.Length.{IsLength}
+use Rattle.ber_tree.specs.Tree.{Tree, Trees, primitive, constructed, none, more, tag_of, Spells, SpellsAll, depth, depth_all}
 use Rattle.ill_tables.specs.declared.node.Kind.{Kind}
 use Rattle.ill_schema.specs.Apdu.{Apdu, root, MeansApdu}
 use Rattle.ill_schema.specs.Content.{Content, simple, alternative}
@@ -12,7 +12,7 @@ use Rattle.ill_refusals.proofs.FirstFault.{has_fault}
 use Rattle.ill_refusals.specs.Element.{Element, Start}
 use Rattle.ill_refusals.specs.Fault.{fault_at}
 use Rattle.ill_refusals.specs.code.Judge.{Judgement, faulty, closes, opens, reads, judge}
-use Rattle.ber_core.specs.Octets.{are_octets}
+use Rattle.ber_tree.specs.Octets.{are_octets}
 use Rattle.ill_schema.specs.Meaning.{Means}
 use Rattle.ill_refusals.specs.Next.{rows, Due, part, element_of, due, start_of, opening, IsWhole}
 use Rattle.ill_refusals.specs.Place.{Open, message, next_in, bound, allows, IsOpening, IsOpen, IsPlace, IsDue}

@@ -1,7 +1,7 @@
 -- The first condition that holds at a place gives the fault of what is done there.
 use Rattle.std.proofs.Common.{◌≡◌, ℕ, ◌+◌, ◌-◌, Bool, true, false, ◌&&◌, List, [], ◌∷◌, length, take, Option, Some, None, refl, sym, ap, ◌∙◌, if◌then◌else◌}
 use Rattle.std.specs.Prelude.{nat_eq, nat_lt}
-use Rattle.ber_core.specs.Identifier.{Tag}
+use Rattle.ber_tree.specs.Identifier.{Tag}
 use Rattle.ber_leaf.specs.declared.fault.LeafFault.{LeafFault}
 use Rattle.ber_leaf.specs.Profile.{Profile}
 use Rattle.ill_schema.specs.declared.refusal.Cause.{Cause}

@@ -2,13 +2,13 @@
 use Rattle.std.proofs.Common.{◌≡◌, ℕ, ◌+◌, ◌*◌, ◌<◌, ◌≤◌, List, [], ◌++◌, length, length-append, take, drop, Some, IsTrue, refl, sym, ap, subst, ◌∙◌, inl, inr, arith, ltb-true, ltb-false}
 use Rattle.std.specs.Prelude.{nat_lt}
 use Rattle.std.proofs.lemmas.List.{length-drop, length-take-le, take-append-drop}
-use Rattle.ber_core.specs.Tree.{Tree, Spells}
+use Rattle.ber_tree.specs.Tree.{Tree, Spells}
 use Rattle.ill_schema.specs.declared.refusal.Cause.{Cause}
 use Rattle.ill_schema.specs.Apdu.{Apdu, MeansApdu, Encodes, normal_form_in}
 use Rattle.ill_refusals.proofs.FirstFault.{is_judged}
 use Rattle.ill_refusals.specs.Fault.{Fault, fault, fault_at, Refuses}
 use Rattle.ill_refusals.specs.code.Judge.{faulty}
-use Rattle.ber_core.specs.Octets.{are_octets}
+use Rattle.ber_tree.specs.Octets.{are_octets}
 use Rattle.ill_refusals.specs.Outcome.{OnlyAccepts, OnlyRefuses, HasOneOutcome}
 use Rattle.ill_refusals.specs.Place.{Open, IsDue}
 use Rattle.ber_leaf.specs.Profile.{Profile}
@@ -20,7 +20,7 @@ use Rattle.ber_core.proofs.ReadOctets.{take-all}
 use Rattle.ill_refusals.proofs.PlaceRuns.{place_run, message_run}
 use Rattle.ill_refusals.proofs.TreeRuns.{step_is}
 use Rattle.ill_refusals.proofs.Truncation.{truncated_at}
-use Rattle.ber_core.proofs.Lists.{two_cases}
+use Rattle.ber_tree.proofs.Lists.{two_cases}
 
 abbrev pub begin : List ℕ → Step
 begin s = goes [] 0 s

@@ -6,8 +6,8 @@ use Rattle.std.specs.Ordering.{int_eq}
 use Rattle.std.specs.Cmp.{signed_Decides}
 use Rattle.ber_core.specs.Foreign.{is_foreign, are_foreign, foreign_levels}
 use Rattle.ber_core.proofs.Foreign.{both, has_identified}
-use Rattle.ber_core.specs.Identifier.{Tag, HasIdentifier}
-use Rattle.ber_core.specs.Tree.{Tree, Trees, primitive, constructed, none, more, tag_of, AreSegments}
+use Rattle.ber_tree.specs.Identifier.{Tag, HasIdentifier}
+use Rattle.ber_tree.specs.Tree.{Tree, Trees, primitive, constructed, none, more, tag_of, AreSegments}
 use Rattle.ber_leaf.specs.Leaf.{Leaf}
 use Rattle.ber_leaf.specs.Segments.{segment_tag, segments_content}
 use Rattle.ill_tables.specs.declared.node.Kind.{Kind}
@@ -22,7 +22,7 @@ use Rattle.ber_leaf.specs.Simple.{flag}
 use Rattle.ill_schema.specs.Content as content
 use Rattle.ill_refusals.specs.Element.{Component, components, components_from, Element, leaf, sequence, list, wrapper, loose_wrapper, segment, foreign, left_out, Start, starts}
 use Rattle.ill_refusals.specs.Fault.{element_fault, string_fault}
-use Rattle.ber_core.specs.Octets.{are_octets}
+use Rattle.ber_tree.specs.Octets.{are_octets}
 use Rattle.ill_schema.specs.Meaning.{Means, Matches, MatchItems}
 use Rattle.ill_refusals.specs.Next.{Next, rows, items, either, segments, anything, foreigns, Due, part, octets, any, due, due_in, start_of, element_of, next_of, next_after, missing, first_mandatory, opening, IsWhole, AreWhole}
 use Rattle.ill_refusals.specs.Place.{allows}
@@ -35,7 +35,7 @@ use Rattle.ill_schema.proofs.Tags.{is_proper, is_proper_row, is_tagged, Mem, sam
 use Rattle.std.proofs.lemmas.Bool.{and_parts}
 use Rattle.ill_schema.proofs.Unique.{means_begins, matches_begins, no_leaf, no_any_leaf, proper_untagged, sequence_apart}
 use Rattle.ill_refusals.proofs.Rows.{AreRead, starting, starting_some, same_tag-is, sequence_read, tables_started, are_started, same_tags, same_tags-is, tag_at, next_after-more, due-found}
-use Rattle.ber_core.proofs.Lists.{two_cases}
+use Rattle.ber_tree.proofs.Lists.{two_cases}
 use Rattle.ill_refusals.proofs.WholeElements.{IsElement, IsProper, IsProperComponent, is_carried, component_of, start_element, start_value, start_proper}
 
 abbrev pub AllProper : Profile → List Component → Type 0

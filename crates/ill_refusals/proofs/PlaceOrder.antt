@@ -1,9 +1,9 @@
 -- The places of one input are in one order, and only the last can have a fault.
 use Rattle.std.proofs.Common.{◌≡◌, ◌⊎◌, ℕ, zero, suc, ◌+◌, ◌-◌, ◌<◌, ◌≤◌, true, false, List, [], ◌∷◌, length, take, drop, Some, IsTrue, refl, sym, ap, subst, ◌∙◌, inl, inr, arith}
-use Rattle.ber_core.specs.Tree.{Tree}
+use Rattle.ber_tree.specs.Tree.{Tree}
 use Rattle.ill_refusals.specs.Fault.{Fault, fault_at}
 use Rattle.ill_refusals.specs.code.Judge.{Judgement, faulty, closes, opens, reads, judge}
-use Rattle.ber_core.specs.Octets.{are_octets}
+use Rattle.ber_tree.specs.Octets.{are_octets}
 use Rattle.ill_refusals.specs.Place.{Open, IsDue}
 use Rattle.ber_leaf.specs.Profile.{Profile}
 use Rattle.ill_refusals.proofs.Judgements.{Judged, judged, id_size}

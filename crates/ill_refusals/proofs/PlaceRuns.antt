@@ -1,8 +1,8 @@
 -- The machine reaches each place that is due, and the end of each message.
 use Rattle.std.proofs.Common.{◌≡◌, ℕ, ◌+◌, true, List, [], ◌∷◌, ◌++◌, length, drop, Option, Some, None, refl, sym, ap, ap₂, subst, ◌∙◌, inl, inr, arith, append_assoc, length-append}
 use Rattle.std.proofs.lemmas.List.{drop_at}
-use Rattle.ber_core.specs.Identifier.{identifier}
-use Rattle.ber_core.specs.Tree.{Tree, none, tag_of}
+use Rattle.ber_tree.specs.Identifier.{identifier}
+use Rattle.ber_tree.specs.Tree.{Tree, none, tag_of}
 use Rattle.ill_tables.specs.declared.node.Kind.{Kind}
 use Rattle.ill_schema.specs.Apdu.{Apdu, choice_of, root, MeansApdu, Encodes}
 use Rattle.ill_refusals.specs.Element.{Element, starts}

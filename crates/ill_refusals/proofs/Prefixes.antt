@@ -3,14 +3,14 @@ use Rattle.std.proofs.Common.{◌≡◌, ◌≢◌, ◌⊎◌, ℕ, ◌+◌, ◌
 use Rattle.std.specs.Prelude.{nat_eq, nat_lt, nat_le}
 use Rattle.std.proofs.Math.Seq.{take-append-add}
 use Rattle.std.proofs.lemmas.List.{take-append-drop, take-append-le, drop-append-le, length-take-le, take_all}
-use Rattle.ber_core.specs.Identifier.{Tag}
+use Rattle.ber_tree.specs.Identifier.{Tag}
 use Rattle.ill_schema.specs.declared.refusal.Cause.{Cause}
 use Rattle.ill_schema.specs.Apdu.{Apdu, Encodes, Accepts}
 use Rattle.ill_refusals.proofs.FirstFault.{has_fault, is_judged}
 use Rattle.ill_refusals.specs.Element.{Element, leaf, sequence, list, wrapper, loose_wrapper, segment, foreign, left_out}
 use Rattle.ill_refusals.specs.Fault.{Fault, fault, ends_at, is_indefinite, past_end, cut_fault, fault_at, Refuses, is_deep}
 use Rattle.ill_refusals.specs.code.Judge.{Judgement, faulty, opens, judge_end, judge_content, judge_size, judge_length, judge_form, judge_tag, judge_element, judge_mark, judge_octets, judge}
-use Rattle.ber_core.specs.Octets.{are_octets}
+use Rattle.ber_tree.specs.Octets.{are_octets}
 use Rattle.ill_refusals.specs.Next.{Due, element_of, due}
 use Rattle.ill_refusals.specs.Outcome.{HasOneOutcome}
 use Rattle.ill_refusals.specs.Place.{Open, next_in, bound, allows, IsPlace, IsDue}
@@ -18,7 +18,7 @@ use Rattle.ber_leaf.specs.Profile.{Profile}
 use Rattle.ber_core.specs.Reading.{IdentifierRead, identified, part_identifier, no_identifier, read_identifier, LengthRead, definite, indefinite, part_length, no_length, read_length}
 use Rattle.ill_refusals.proofs.OneOutcome.{encodes_no_fault, one_encoding, one_outcome}
 use Rattle.ber_core.proofs.ReadOctets.{identifier_longer, no_identifier_longer, length_longer, indefinite_longer, no_length_longer, octets_left}
-use Rattle.ber_core.proofs.Lists.{two_cases}
+use Rattle.ber_tree.proofs.Lists.{two_cases}
 
 abbrev truncated : ℕ → Fault
 truncated at = fault Cause.Truncated at

@@ -5,10 +5,10 @@ use Rattle.std.specs.List.{list_all}
 use Rattle.std.specs.Ordering.{int_eq}
 use Rattle.std.specs.Cmp.{signed_Decides}
 use Rattle.ill_tables.specs.declared.node.LeafKind.{LeafKind}
-use Rattle.ber_core.specs.declared.id.Class.{Class}
-use Rattle.ber_core.specs.Identifier.{Tag, class_bits}
-use Rattle.ber_core.proofs.Lists.{two_cases}
-use Rattle.ber_core.specs.Tree.{Tree, Trees, none, more, tag_of}
+use Rattle.ber_tree.specs.declared.class.Class.{Class}
+use Rattle.ber_tree.specs.Identifier.{Tag, class_bits}
+use Rattle.ber_tree.proofs.Lists.{two_cases}
+use Rattle.ber_tree.specs.Tree.{Tree, Trees, none, more, tag_of}
 use Rattle.ill_tables.specs.declared.node.Kind.{Kind}
 use Rattle.ill_tables.specs.declared.node.NodeId.{NodeId}
 use Rattle.ill_tables.specs.declared.node.NodeId.TheVariants.{Boolean}

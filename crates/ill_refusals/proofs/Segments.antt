@@ -1,8 +1,8 @@
 -- The content of a string in segments: it is octets, and no longer than its segments.
 use Rattle.std.proofs.Common.{ℕ, ◌+◌, ◌-◌, ◌≤◌, Bool, true, false, ◌&&◌, nat_eq, List, [], ◌∷◌, ◌++◌, length, length-append, IsTrue, refl, subst, inl, inr, arith, if◌then◌else◌}
-use Rattle.ber_core.specs.Identifier.{Tag, identifier}
-use Rattle.ber_core.specs.Octets.{are_octets}
-use Rattle.ber_core.specs.Tree.{Tree, Trees, primitive, constructed, none, more, Spells, SpellsAll, text, text_all}
+use Rattle.ber_tree.specs.Identifier.{Tag, identifier}
+use Rattle.ber_tree.specs.Octets.{are_octets}
+use Rattle.ber_tree.specs.Tree.{Tree, Trees, primitive, constructed, none, more, Spells, SpellsAll, text, text_all}
 use Rattle.ber_leaf.specs.Leaf.{Leaf, bit_string, is_bits}
 use Rattle.ber_leaf.specs.Segments.{no_bits, join_bits, tree_bits, bits_after, segments_content}
 use Rattle.ber_core.proofs.ReadOctets.{octets_left, octets_right, octets_join}

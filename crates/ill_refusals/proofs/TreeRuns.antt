@@ -1,8 +1,8 @@
 -- The machine runs through every whole tree of an element that is due.
 use Rattle.std.proofs.Common.{◌≡◌, ℕ, ◌+◌, ◌≤◌, true, false, List, [], ◌∷◌, ◌++◌, length, drop, Option, Some, None, refl, sym, ap, ap₂, subst, ◌∙◌, inl, inr, arith, append_assoc, length-append}
 use Rattle.std.proofs.lemmas.List.{drop_at}
-use Rattle.ber_core.specs.Identifier.{Tag, identifier}
-use Rattle.ber_core.specs.Tree.{Tree, Trees, primitive, constructed, none, more, tag_of, IsDefinite, IsIndefinite, Spells, SpellsAll, depth, depth_all}
+use Rattle.ber_tree.specs.Identifier.{Tag, identifier}
+use Rattle.ber_tree.specs.Tree.{Tree, Trees, primitive, constructed, none, more, tag_of, IsDefinite, IsIndefinite, Spells, SpellsAll, depth, depth_all}
 use Rattle.ill_refusals.specs.Element.{Element}
 use Rattle.ill_refusals.specs.code.Judge.{Judgement, closes, judge}
 use Rattle.ill_refusals.specs.Next.{Next, Due, element_of, due, next_of, next_after, opening, IsWhole, AreWhole}

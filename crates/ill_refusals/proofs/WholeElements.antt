@@ -2,8 +2,8 @@
 use Rattle.std.proofs.Common.{◌≡◌, ◌⊎◌, ◌↔◌, ℕ, suc, ◌+◌, ◌-◌, Bool, true, false, ◌||◌, List, [], ◌∷◌, ◌++◌, Some, None, IsTrue, refl, sym, ap, subst, ◌∙◌, inl, inr, slice_get}
 use Rattle.std.specs.Prelude.{flat_map, nat_eq}
 use Rattle.ber_core.specs.Foreign.{is_foreign, foreign_levels}
-use Rattle.ber_core.specs.Identifier.{Tag}
-use Rattle.ber_core.specs.Tree.{Tree, Trees, constructed, none, more, tag_of, IsString}
+use Rattle.ber_tree.specs.Identifier.{Tag}
+use Rattle.ber_tree.specs.Tree.{Tree, Trees, constructed, none, more, tag_of, IsString}
 use Rattle.ber_leaf.specs.Segments.{leaf_content}
 use Rattle.ill_tables.specs.declared.node.Kind.{Kind}
 use Rattle.ill_tables.specs.declared.node.LeafKind.{LeafKind}
@@ -16,7 +16,7 @@ use Rattle.ber_leaf.specs.Simple.{Simple}
 use Rattle.ill_schema.specs.Content as content
 use Rattle.ill_refusals.specs.Element.{Component, components, components_from, inner, Element, leaf, sequence, list, wrapper, loose_wrapper, segment, foreign, left_out, Start, starts, own_starts, retag, tagged_starts, leave_out, component_starts, start, leaf_start}
 use Rattle.ber_leaf.specs.Leaf.{Leaf, general_string, visible_string, value, content_fault}
-use Rattle.ber_core.specs.Octets.{are_octets}
+use Rattle.ber_tree.specs.Octets.{are_octets}
 use Rattle.ill_schema.specs.Meaning.{Means, Matches, MatchItems, HoldsLeaf, IsLeaf}
 use Rattle.ber_leaf.specs.Profile.{Profile}
 use Rattle.ill_schema.specs.Tagging.{Tagging, untagged, implicit, explicit, explicit_or_bare, tagging, Tagged, same_tag, sequence_tag, leaf_tag, leaf_of}
@@ -26,7 +26,7 @@ use Rattle.ill_schema.specs.TableFacts.{own_tags, alternative_tags, tagging_tags
 use Rattle.ill_schema.proofs.Tags.{is_proper, is_proper_row, is_tagged, Mem, same_place, at_row, tables_proper}
 use Rattle.ill_schema.proofs.Unique.{leaf_at, leaf_is, no_leaf, kind_says, any_proper, means_begins, good_choice, same_tags}
 use Rattle.ill_refusals.proofs.Rows.{same_tag-is, starting}
-use Rattle.ber_core.proofs.Lists.{two_cases}
+use Rattle.ber_tree.proofs.Lists.{two_cases}
 
 -- the tree is a whole element of this sort
 abbrev pub IsElement : Profile → Element → Tree → Type 0

@@ -1,6 +1,6 @@
 -- How much an APDU's value holds beside the octets that spell it.
 use Rattle.std.specs.Prelude.{ℕ, ◌+◌, ◌*◌, ◌≤◌, List, length}
-use Rattle.ber_core.specs.Tree.{Tree, Trees, primitive, constructed, none, more, text}
+use Rattle.ber_tree.specs.Tree.{Tree, Trees, primitive, constructed, none, more, text}
 use Rattle.ber_leaf.specs.Profile.{Profile}
 use Rattle.ber_leaf.specs.Simple.{Simple, flag, whole, date, time, printable, general, visible, null, oid, binary, bits, descriptor}
 use Rattle.ill_schema.specs.Apdu.{Apdu, Encodes}

@@ -1,6 +1,6 @@
 -- The elements that may be in an open element, by their tags (X.690, 8.9, 8.10, 8.13 and 8.14).
 use Rattle.std.specs.Prelude.{Bool, ℕ, ◌+◌, List, [], ◌∷◌, ◌++◌, flat_map}
-use Rattle.ber_core.specs.Identifier.{Tag}
+use Rattle.ber_tree.specs.Identifier.{Tag}
 use Rattle.ill_tables.specs.declared.node.Kind.{Kind}
 use Rattle.ill_tables.specs.declared.node.LeafKind.{LeafKind}
 use Rattle.ill_tables.specs.declared.node.NodeId.{NodeId}

@@ -1,6 +1,6 @@
 -- The fault at a place: the conditions in their order, of which the first that holds counts.
 use Rattle.std.specs.Prelude.{◌≡◌, ◌⊎◌, ℕ, ◌+◌, ◌-◌, ◌<◌, ◌≤◌, Bool, true, false, ◌&&◌, ◌||◌, nat_eq, nat_lt, nat_le, List, [], ◌∷◌, length, take, drop, Option, Some, None, is_some, if◌then◌else◌}
-use Rattle.ber_core.specs.Tree.{Trees}
+use Rattle.ber_tree.specs.Tree.{Trees}
 use Rattle.ill_schema.specs.declared.refusal.Cause.{Cause}
 use Rattle.ill_schema.specs.declared.refusal.Refusal.{Refusal}
 use Rattle.ber_leaf.specs.declared.fault.LeafFault.{LeafFault}

@@ -1,10 +1,10 @@
 -- What may come next in an open element (X.690, 8.6.4, 8.7.3, 8.9, 8.10 and 8.15).
 use Rattle.std.specs.Prelude.{◌≡◌, ℕ, zero, suc, ◌-◌, Bool, true, false, IsTrue, List, [], ◌∷◌, Option, Some, None, if◌then◌else◌, find}
-use Rattle.ber_core.specs.Identifier.{Tag}
+use Rattle.ber_tree.specs.Identifier.{Tag}
 use Rattle.ber_core.specs.Foreign.{is_foreign, foreign_levels}
 use Rattle.ill_tables.specs.declared.node.Kind.{Kind}
 use Rattle.ill_tables.specs.Table.{kind_of}
-use Rattle.ber_core.specs.Tree.{Tree, Trees, none, more, tag_of, IsString}
+use Rattle.ber_tree.specs.Tree.{Tree, Trees, none, more, tag_of, IsString}
 use Rattle.ber_leaf.specs.Segments.{segment_tag}
 use Rattle.ill_tables.specs.declared.part.PartId.{PartId}
 use Rattle.ill_tables.specs.declared.part.Presence.{Presence}

@@ -3,7 +3,7 @@ use Rattle.std.specs.Prelude.{◌≡◌, ◌≢◌, ◌⊎◌, ℕ, ◌<◌, ◌
 use Rattle.ill_schema.specs.declared.refusal.Cause.{Cause}
 use Rattle.ill_schema.specs.Apdu.{Apdu, Accepts}
 use Rattle.ill_refusals.specs.Fault.{Fault, fault, fault_at, Refuses}
-use Rattle.ber_core.specs.Octets.{are_octets}
+use Rattle.ber_tree.specs.Octets.{are_octets}
 use Rattle.ill_refusals.specs.Place.{Open, IsDue}
 use Rattle.ber_leaf.specs.Profile.{Profile}
 

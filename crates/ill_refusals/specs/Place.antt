@@ -1,8 +1,8 @@
 -- Places in a message: the elements that are open after some of its octets.
 use Rattle.std.specs.Prelude.{◌≡◌, ◌⊎◌, ℕ, ◌+◌, ◌≤◌, Bool, true, false, List, [], ◌∷◌, ◌++◌, length, take, Option, Some, None, IsTrue, unwrap_or}
-use Rattle.ber_core.specs.Identifier.{Tag, identifier, HasIdentifier}
-use Rattle.ber_core.specs.Length.{IsLength}
-use Rattle.ber_core.specs.Tree.{Trees, depth_all, SpellsAll}
+use Rattle.ber_tree.specs.Identifier.{Tag, identifier, HasIdentifier}
+use Rattle.ber_tree.specs.Length.{IsLength}
+use Rattle.ber_tree.specs.Tree.{Trees, depth_all, SpellsAll}
 use Rattle.ill_tables.specs.declared.part.Presence.{Presence}
 use Rattle.ber_leaf.specs.Leaf.{is_string}
 use Rattle.ber_leaf.specs.Profile.{Profile}

@@ -1,11 +1,11 @@
 //! Laws of each input. Each is the contract of a function that does nothing.
 ghost use Rattle.std.specs.Prelude.{◌≡◌};
-ghost use Rattle.ber_core.specs.Identifier.{Tag};
-ghost use Rattle.ber_core.specs.Tree.{Trees};
+ghost use Rattle.ber_tree.specs.Identifier.{Tag};
+ghost use Rattle.ber_tree.specs.Tree.{Trees};
 ghost use Rattle.ber_leaf.specs.Profile.{Profile, profile_two};
 ghost use Rattle.ill_tables.specs.declared.node.NodeId.{NodeId};
 ghost use Rattle.ill_tables.specs.declared.part.Row.{Row};
-ghost use Rattle.ill_schema.specs.declared.profile.Profile.{Profile as Named};
+ghost use Rattle.ill_tables.specs.declared.profile.Profile.{Profile as Named};
 ghost use Rattle.ill_schema.specs.Profiles.{profile_of};
 ghost use Rattle.ill_schema.specs.Tagging.{tagging};
 ghost use Rattle.ill_refusals.specs.Element.{Component, Element, components, starts};

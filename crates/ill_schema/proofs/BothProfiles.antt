@@ -5,9 +5,9 @@ use Rattle.std.specs.Prelude.{flat_map}
 use Rattle.std.proofs.lemmas.Bool.{and_parts}
 use Rattle.std.proofs.lemmas.List.{length-take, take-append-drop}
 use Rattle.ber_core.proofs.Trees.{one_reading}
-use Rattle.ber_core.specs.declared.id.Class.{Class}
-use Rattle.ber_core.specs.Identifier.{Tag}
-use Rattle.ber_core.specs.Tree.{Tree, Trees, constructed, more, none, tag_of}
+use Rattle.ber_tree.specs.declared.class.Class.{Class}
+use Rattle.ber_tree.specs.Identifier.{Tag}
+use Rattle.ber_tree.specs.Tree.{Tree, Trees, constructed, more, none, tag_of}
 use Rattle.ber_leaf.specs.Leaf.{enumerated, is_string}
 use Rattle.ber_leaf.specs.Profile.{profile_two, profile_three}
 use Rattle.ill_tables.specs.declared.node.Kind.{Kind}

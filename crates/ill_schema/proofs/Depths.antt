@@ -2,8 +2,8 @@
 use Rattle.std.proofs.Common.{◌≡◌, ℕ, ◌+◌, ◌-◌, ◌≤◌, Bool, true, false, ◌&&◌, List, [], ◌∷◌, Some, None, IsTrue, refl, sym, subst, arith}
 use Rattle.std.specs.Prelude.{nat_le}
 use Rattle.std.specs.List.{list_all}
-use Rattle.ber_core.specs.Identifier.{Tag}
-use Rattle.ber_core.specs.Tree.{Tree, Trees, constructed, depth, depth_all, none, more}
+use Rattle.ber_tree.specs.Identifier.{Tag}
+use Rattle.ber_tree.specs.Tree.{Tree, Trees, constructed, depth, depth_all, none, more}
 use Rattle.ill_tables.specs.declared.node.Kind.{Kind}
 use Rattle.ill_tables.specs.declared.node.NodeId.{NodeId}
 use Rattle.ill_tables.specs.declared.node.NodeId.TheVariants.{Boolean, Integer, Enumerated, IsoDate, IsoTime, PrintableString, IllString, LeftOut, Symbol, Name, SystemId, TransactionId, DateTime, ServiceDateTime, PostalAddress, SystemAddress, DeliveryAddress, ClientId, DeliveryService, RequesterOptionalMessages, ResponderOptionalMessages, SearchType, SupplyMediumInfo, ItemId, Amount, CostInfo, SendTo, SendToList, AlreadyTriedList, ThirdPartyInfo, UnitsPerMedium, UnitsPerMediumList, DateDue, ShippedVia, SupplyDetails, IllServiceTypes, SupplyMediumInfos, IllRequest, LocationInfo, Locs, Conditional, Retry, Unfilled, Locations, WillSupply, HoldPlaced, Estimate, Results, IllAnswer, IllApdu, Any, Null, ObjectIdentifier, OctetString, BitString, ObjectDescriptor, Encoding, External, TaggedExternal, Externals, Extension, Extensions, EDeliveryService, DocumentType, EDeliveryDetails, ElectronicDelivery, ElectronicDeliveries, SpecificUnits, DamagedPortion, DamagedDetails, HistoryReport, AlreadyForwarded, UserErrorReport, StateTransition, ProviderErrorReport, ErrorReport, ForwardNotification, StatusOrErrorReport, ModuleDeliveryService, ModuleShippedVia, ModuleItemId, ModuleUnitsPerMedium, ModuleUnitsPerMediumList, ModuleSupplyDetails, ModuleIllRequest, ModuleShipped, ModuleConditional, ModuleWillSupply, ModuleResults, ModuleIllAnswer, ModuleConditionalReply, ModuleCancel, ModuleCancelReply, ModuleReceived, ModuleRecall, ModuleReturned, ModuleCheckedIn, ModuleOverdue, ModuleRenew, ModuleRenewAnswer, ModuleLost, ModuleDamaged, ModuleMessageApdu, ModuleStatusQuery, ModuleExpired, ModuleIllApdu}

@@ -4,9 +4,9 @@ use Rattle.ber_core.specs.Foreign.{foreign_levels}
 use Rattle.ber_core.proofs.Foreign.{foreign_identified}
 use Rattle.std.specs.Prelude.{nat_le}
 use Rattle.std.specs.List.{list_all}
-use Rattle.ber_core.specs.declared.id.Class.{Class}
-use Rattle.ber_core.specs.Identifier.{Tag, HasIdentifier}
-use Rattle.ber_core.specs.Tree.{Tree, Trees, primitive, constructed, none, more, Spells}
+use Rattle.ber_tree.specs.declared.class.Class.{Class}
+use Rattle.ber_tree.specs.Identifier.{Tag, HasIdentifier}
+use Rattle.ber_tree.specs.Tree.{Tree, Trees, primitive, constructed, none, more, Spells}
 use Rattle.ber_core.proofs.Encodings.{encoding_spells}
 use Rattle.ber_core.proofs.Trees.{one_reading}
 use Rattle.ill_tables.specs.declared.part.Mode.{Mode}

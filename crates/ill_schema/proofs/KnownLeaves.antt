@@ -1,6 +1,6 @@
 -- The leaves of profile 2: it has no NULL, OBJECT IDENTIFIER, OCTET STRING, BIT STRING and ObjectDescriptor.
 use Rattle.std.proofs.Common.{◌≡◌, Bool, true, false, Some, IsTrue, refl, subst}
-use Rattle.ber_core.specs.Tree.{Tree, primitive, constructed, text}
+use Rattle.ber_tree.specs.Tree.{Tree, primitive, constructed, text}
 use Rattle.ber_leaf.specs.Leaf.{Leaf, bit_string, Holds}
 use Rattle.ber_leaf.specs.Profile.{Profile}
 use Rattle.ber_leaf.specs.Segments.{leaf_content}

@@ -4,8 +4,8 @@ use Rattle.std.specs.List.{list_all}
 use Rattle.std.specs.Prelude.{if◌then◌else◌}
 use Rattle.std.proofs.lemmas.Bool.{and_parts}
 use Rattle.ber_core.specs.Der.{encoding}
-use Rattle.ber_core.specs.Identifier.{Tag}
-use Rattle.ber_core.specs.Tree.{Tree, Trees, primitive, constructed, more, none}
+use Rattle.ber_tree.specs.Identifier.{Tag}
+use Rattle.ber_tree.specs.Tree.{Tree, Trees, primitive, constructed, more, none}
 use Rattle.ber_leaf.specs.declared.fault.LeafFault.{LeafFault}
 use Rattle.ber_leaf.specs.Leaf.{Leaf, general_string, content_fault, normal_content}
 use Rattle.ber_leaf.specs.Profile.{profile_two, profile_three}

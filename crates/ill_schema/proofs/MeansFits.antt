@@ -1,8 +1,8 @@
 -- What a tree means fits.
 use Rattle.std.proofs.Common.{◌≡◌, ℕ, ◌+◌, ℤ, pos, negsuc, Bool, true, false, nat_lt, List, [], ◌∷◌, Some, IsTrue, refl, sym, ap, subst, inl, inr, arith}
 use Rattle.std.specs.List.{list_all}
-use Rattle.ber_core.specs.Identifier.{Tag}
-use Rattle.ber_core.specs.Tree.{Tree, Trees}
+use Rattle.ber_tree.specs.Identifier.{Tag}
+use Rattle.ber_tree.specs.Tree.{Tree, Trees}
 use Rattle.ber_leaf.specs.Segments.{leaf_content}
 use Rattle.ill_tables.specs.declared.node.Kind.{Kind}
 use Rattle.ill_tables.specs.declared.node.LeafKind.{LeafKind}

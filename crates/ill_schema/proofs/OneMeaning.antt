@@ -1,6 +1,6 @@
 -- A tree means at most one APDU, and octets begin with at most one spelling.
 use Rattle.std.proofs.Common.{◌≡◌, ℕ, ◌-◌, List, [], ◌∷◌, ◌++◌, append-nil, refl, sym, ap₂, subst, arith}
-use Rattle.ber_core.specs.Tree.{Tree}
+use Rattle.ber_tree.specs.Tree.{Tree}
 use Rattle.ber_core.proofs.Trees.{one_reading}
 use Rattle.ill_schema.specs.Content.{Content, alternative}
 use Rattle.ber_leaf.specs.Profile.{Profile}

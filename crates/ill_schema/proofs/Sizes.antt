@@ -1,10 +1,10 @@
 -- The sizes of elements, from those of their parts.
 use Rattle.std.proofs.Common.{◌≡◌, ℕ, ◌+◌, ◌<◌, ◌≤◌, ◌^◌, Bool, true, false, length, Option, refl, sym, ap, subst, ◌∙◌, arith}
-use Rattle.ber_core.specs.declared.id.Class.{Class}
+use Rattle.ber_tree.specs.declared.class.Class.{Class}
 use Rattle.ber_core.specs.Der.{encoding, header_size, size, sizes}
-use Rattle.ber_core.specs.Identifier.{Tag, identifier}
-use Rattle.ber_core.specs.Length.{short_length, shortest_length}
-use Rattle.ber_core.specs.Tree.{Tree, Trees, primitive, constructed}
+use Rattle.ber_tree.specs.Identifier.{Tag, identifier}
+use Rattle.ber_tree.specs.Length.{short_length, shortest_length}
+use Rattle.ber_tree.specs.Tree.{Tree, Trees, primitive, constructed}
 use Rattle.ber_core.proofs.Encodings.{length-encoding}
 use Rattle.ber_core.proofs.Shortest.{short_length_is}
 use Rattle.ber_leaf.specs.Leaf.{normal_content}

@@ -1,10 +1,10 @@
 -- Streams of messages.
 use Rattle.std.proofs.Common.{◌≡◌, ℕ, zero, suc, ◌≤◌, Bool, true, false, List, [], ◌∷◌, ◌++◌, length, take, drop, refl, sym, inl, inr, ap, subst, ◌∙◌, arith, take-append-drop, length-append}
-use Rattle.ber_core.specs.Identifier.{Tag, HasIdentifier, identifier}
-use Rattle.ber_core.specs.Tree.{Tree, primitive, constructed, Spells}
+use Rattle.ber_tree.specs.Identifier.{Tag, HasIdentifier, identifier}
+use Rattle.ber_tree.specs.Tree.{Tree, primitive, constructed, Spells}
 use Rattle.std.proofs.lemmas.List.{length-take-le}
 use Rattle.ber_core.proofs.Identifiers.{IsEnd, identifier_no_end}
-use Rattle.ber_core.proofs.Lists.{fronts}
+use Rattle.ber_tree.proofs.Lists.{fronts}
 use Rattle.ill_schema.specs.Apdu.{Apdu, Encodes, SpellsApdu, Accepts, IsStream}
 use Rattle.ber_leaf.specs.Profile.{Profile}
 use Rattle.ill_schema.proofs.OneMeaning.{one_message}

@@ -2,9 +2,9 @@
 use Rattle.std.proofs.Common.{◌≡◌, ℕ, zero, suc, Bool, true, false, ◌&&◌, ◌||◌, not, List, [], ◌∷◌, Option, Some, IsTrue, refl, sym, ap, ap₂, map, subst, ◌∙◌, slice_get}
 use Rattle.std.specs.List.{list_all}
 use Rattle.std.proofs.lemmas.Bool.{and_parts}
-use Rattle.ber_core.specs.declared.id.Class.{Class}
-use Rattle.ber_core.specs.Identifier.{Tag}
-use Rattle.ber_core.specs.Tree.{none}
+use Rattle.ber_tree.specs.declared.class.Class.{Class}
+use Rattle.ber_tree.specs.Identifier.{Tag}
+use Rattle.ber_tree.specs.Tree.{none}
 use Rattle.ber_leaf.specs.Profile.{profile_two, profile_three}
 use Rattle.ill_tables.specs.declared.node.Kind.{Kind}
 use Rattle.ill_tables.specs.declared.node.NodeId.{NodeId}

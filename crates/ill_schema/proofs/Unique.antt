@@ -4,8 +4,8 @@ use Rattle.std.specs.Prelude.{flat_map, nat_eq, if◌then◌else◌}
 use Rattle.std.specs.List.{list_all}
 use Rattle.std.specs.Ordering.{int_eq}
 use Rattle.std.specs.Cmp.{signed_Decides}
-use Rattle.ber_core.specs.Identifier.{Tag}
-use Rattle.ber_core.specs.Tree.{Tree, Trees, constructed, none, more, tag_of}
+use Rattle.ber_tree.specs.Identifier.{Tag}
+use Rattle.ber_tree.specs.Tree.{Tree, Trees, constructed, none, more, tag_of}
 use Rattle.ber_leaf.specs.Segments.{leaf_content}
 use Rattle.ill_tables.specs.declared.node.Kind.{Kind}
 use Rattle.ill_tables.specs.declared.node.LeafKind.{LeafKind}

@@ -1,10 +1,10 @@
 -- Worked messages: each fits, and so its normal form spells it; some are spelled in other ways too.
 use Rattle.std.proofs.Common.{ℕ, ◌<◌, ◌≤◌, ◌^◌, false, true, List, [], ◌∷◌, ◌++◌, length, None, refl, inl, inr, lit≤, arith, length-append}
 use Rattle.std.specs.Prelude.{unwrap_or, slice_get}
-use Rattle.ber_core.specs.declared.id.Class.{Class}
+use Rattle.ber_tree.specs.declared.class.Class.{Class}
 use Rattle.ber_core.specs.Der.{encoding, encodings, HasIdentifiers, HaveIdentifiers}
-use Rattle.ber_core.specs.Identifier.{Tag, identifier}
-use Rattle.ber_core.specs.Tree.{Tree, Trees, primitive, constructed, none, more, Spells, SpellsAll}
+use Rattle.ber_tree.specs.Identifier.{Tag, identifier}
+use Rattle.ber_tree.specs.Tree.{Tree, Trees, primitive, constructed, none, more, Spells, SpellsAll}
 use Rattle.ber_core.proofs.Encodings.{encoding_spells}
 use Rattle.ber_leaf.specs.Leaf.{boolean, integer, enumerated, general_string, iso_date}
 use Rattle.ber_leaf.specs.Profile.{profile_two}

@@ -1,6 +1,6 @@
 -- APDUs of ISO 10161-1 (the type ILL-APDU of its module), their encodings, their normal forms and streams of them.
 use Rattle.std.specs.Prelude.{◌≡◌, ℕ, ◌-◌, ◌≤◌, Bool, true, false, List, [], ◌∷◌, ◌++◌, length, take}
-use Rattle.ber_core.specs.Tree.{Tree, depth, Spells}
+use Rattle.ber_tree.specs.Tree.{Tree, depth, Spells}
 use Rattle.ill_tables.specs.declared.node.NodeId.{NodeId}
 use Rattle.ill_tables.specs.declared.node.NodeId.TheVariants.{IllApdu, ModuleIllApdu}
 use Rattle.ill_schema.specs.Content.{Content, alternative}

@@ -1,6 +1,6 @@
 -- The content of a value: the tree that it stands for.
 use Rattle.std.specs.Prelude.{ℕ}
-use Rattle.ber_core.specs.Tree.{Tree}
+use Rattle.ber_tree.specs.Tree.{Tree}
 use Rattle.ber_leaf.specs.Simple.{Simple}
 
 mutual

@@ -1,8 +1,8 @@
 -- The meanings of the profiles that a program can name.
 use Rattle.std.specs.Prelude.{ℕ, Bool, true, false}
 use Rattle.ber_leaf.specs.Profile.{Profile, is_no_shift}
-use Rattle.ill_schema.specs.declared.profile.Profile.{Profile as Named}
-use Rattle.ill_schema.specs.declared.profile.Profile.TheVariants.{Two, Module}
+use Rattle.ill_tables.specs.declared.profile.Profile.{Profile as Named}
+use Rattle.ill_tables.specs.declared.profile.Profile.TheVariants.{Two, Module}
 
 -- the octets that a GeneralString may hold
 abbrev pub general_of : Named → ℕ → Bool

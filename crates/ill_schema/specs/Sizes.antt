@@ -1,8 +1,8 @@
 -- The size of a value's normal form as a node.
 use Rattle.std.specs.Prelude.{◌≡◌, ℕ, ◌+◌, ◌<◌, ◌≤◌, Bool, List, Option, Some, None, option_and_then, slice_get, ◌-◌}
-use Rattle.ber_core.specs.declared.id.Class.{Class}
+use Rattle.ber_tree.specs.declared.class.Class.{Class}
 use Rattle.ber_core.specs.Der.{encoding, header_size}
-use Rattle.ber_core.specs.Tree.{Tree}
+use Rattle.ber_tree.specs.Tree.{Tree}
 use Rattle.ber_leaf.specs.Profile.{profile_two}
 use Rattle.ill_tables.specs.declared.{node.Kind.Kind, node.NodeId.NodeId, part.Row.Row}
 use Rattle.ill_tables.specs.declared.node.NodeId.TheVariants.{IllApdu, IllRequest, Shipped, IllAnswer, ConditionalReply, Cancel, CancelReply, Received, Recall, Returned, CheckedIn, Overdue, Renew, RenewAnswer, Lost, Damaged, MessageApdu, StatusQuery, Expired}

@@ -1,8 +1,8 @@
 -- Tags, and the tag of a row beside that of its type (X.690, 8.14; X.680, 31.2).
 use Rattle.std.specs.Prelude.{◌≡◌, ◌⊎◌, ℕ, Bool, ◌&&◌, nat_eq, Option, Some, None, if◌then◌else◌}
-use Rattle.ber_core.specs.declared.id.Class.{Class}
-use Rattle.ber_core.specs.Identifier.{Tag, class_bits}
-use Rattle.ber_core.specs.Tree.{Tree, constructed, more, none}
+use Rattle.ber_tree.specs.declared.class.Class.{Class}
+use Rattle.ber_tree.specs.Identifier.{Tag, class_bits}
+use Rattle.ber_tree.specs.Tree.{Tree, constructed, more, none}
 use Rattle.ber_leaf.specs.Leaf.{Leaf, boolean, integer, enumerated, general_string, visible_string, printable_string, iso_date, iso_time, null_type, object_identifier, octet_string, bit_string, object_descriptor}
 use Rattle.ber_leaf.specs.Profile.{Profile}
 use Rattle.ber_leaf.specs.Simple.{Simple, flag, whole, date, time, printable, general, visible, null, oid, binary, bits, descriptor}

@@ -1,8 +1,8 @@
 //! Laws of the definitions alone. Each is the contract of a function that does nothing.
 ghost use Rattle.std.specs.Prelude.{◌≡◌, ℕ, ◌<◌, ◌≤◌, ◌^◌, List, [], ◌++◌, length, codes, IsTrue};
-ghost use Rattle.ber_core.specs.Tree.{Tree, Spells, depth};
+ghost use Rattle.ber_tree.specs.Tree.{Tree, Spells, depth};
 ghost use Rattle.ber_leaf.specs.Profile.{Profile, profile_one, profile_two, profile_three};
-ghost use Rattle.ill_schema.specs.declared.profile.Profile.TheVariants.{Two, Module};
+ghost use Rattle.ill_tables.specs.declared.profile.Profile.TheVariants.{Two, Module};
 ghost use Rattle.ill_schema.specs.Profiles.{profile_of};
 ghost use Rattle.ill_schema.specs.Content.{Content};
 ghost use Rattle.ill_schema.specs.Tagging.{Tagging, untagged};

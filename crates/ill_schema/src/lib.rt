@@ -29,8 +29,8 @@ pub use entry::{is_carried, is_default, may_lack};
 pub use equality::equal;
 pub use hexadecimal::hexadecimal_digits;
 pub use ill_tables::{
-    Kind, LeafKind, Mode, NodeId, PartId, Presence, Row, kind, number_name, part_name, row,
-    row_name, row_names, row_node, rows, rows_of,
+    Kind, LeafKind, Mode, NodeId, PartId, Presence, Profile, Row, kind, number_name, part_name,
+    row, row_name, row_names, row_node, rows, rows_of,
 };
 pub use laws::{
     named_profiles, no_octets_change_their_meaning, normal_form_is_a_spelling,
@@ -41,7 +41,7 @@ pub use laws::{
 pub use lookup::{kind_as, row_as, rows_as};
 pub use message::Message;
 pub use names::{apdu_name, apdu_name_as, apdu_node, apdu_node_as, part_name_as};
-pub use profile::Profile;
+pub use profile::{node_as, root_as};
 pub use refusal::{Cause, Refusal};
 pub use shape::fits;
 pub use size::{LIMIT, normal_size};

@@ -5,8 +5,8 @@ ghost use Rattle.ill_tables.specs.Table.{rows_of};
 ghost use Rattle.ill_schema.specs.Names.{node_in, apdu_node_of, apdu_node_in, apdu_name_of, apdu_name_in};
 ghost use Rattle.ill_schema.specs.Profiles.{profile_of};
 
-use crate::profile::Profile;
-use ill_tables::{NodeId, PartId, Presence, node_name, part_name, row};
+use crate::profile::{node_as, root_as};
+use ill_tables::{NodeId, PartId, Presence, Profile, node_name, part_name, row};
 
 /// The names of a part in the profile, as [`part_name`] gives them.
 pub fn part_name_as(profile: Profile, part: PartId) -> Option<(&'static str, &'static str)>
@@ -18,7 +18,7 @@ pub fn part_name_as(profile: Profile, part: PartId) -> Option<(&'static str, &'s
         ↔ IsSome (slice_get (rows_of (node_in (profile_of profile) part.node)) part.row) }
 {
     part_name(PartId {
-        node: profile.node(part.node),
+        node: node_as(profile, part.node),
         row: part.row,
     })
 }
@@ -40,7 +40,7 @@ pub fn apdu_node_as(profile: Profile, number: u8) -> Option<NodeId>
     ensures { result ≡ apdu_node_in (profile_of profile) number }
 {
     let alternative = row(PartId {
-        node: profile.root(),
+        node: root_as(profile),
         row: number.checked_sub(1)?,
     })?;
     match alternative.presence {

@@ -1,8 +1,8 @@
 //! The sizes of normal forms, None where they pass the limit.
 ghost use Rattle.std.specs.Prelude.{◌≡◌, ◌≤◌, Bool, Some, length, slice_get};
 ghost use Rattle.ber_core.specs.Der.{size, sizes};
-ghost use Rattle.ber_core.specs.Identifier.{Tag, identifier};
-ghost use Rattle.ber_core.specs.Length.{short_length};
+ghost use Rattle.ber_tree.specs.Identifier.{Tag, identifier};
+ghost use Rattle.ber_tree.specs.Length.{short_length};
 ghost use Rattle.ber_leaf.specs.Leaf.{normal_content};
 ghost use Rattle.ber_leaf.specs.Profile.{profile_two};
 ghost use Rattle.ber_leaf.specs.Strings.{string_value};

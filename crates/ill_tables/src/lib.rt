@@ -15,6 +15,7 @@ mod node;
 mod node_rows;
 mod number;
 mod part;
+mod profile;
 mod table;
 
 pub use lookup::{kind, row, row_name, row_node, rows, twin};
@@ -22,4 +23,5 @@ pub use names::{node_name, part_name, row_names};
 pub use node::{Kind, LeafKind, NodeId};
 pub use number::number_name;
 pub use part::{Mode, PartId, Presence, Row};
+pub use profile::Profile;
 pub use table::rows_of;

@@ -1,5 +1,5 @@
 use crate::node::NodeId;
-use ber_core::Class;
+use ber_tree::Class;
 
 /// The presence that the tables demand of a row.
 #[derive(Clone, Copy, Debug, PartialEq, Eq)]

@@ -5,7 +5,7 @@ ghost use Rattle.ill_tables.specs.Table.{rows_of};
 use crate::node::NodeId;
 use crate::part::{Mode, Presence, Row};
 use crate::table;
-use ber_core::Class;
+use ber_tree::Class;
 
 /// A row of a table.
 macro_rules! row {

@@ -9,8 +9,8 @@ use lib.Signed.{mag}
 use Rattle.std.proofs.Common.{neg_ℤ, ◌≤ℤ◌}
 use Rattle.itoa.proofs.Decimal.{length_wide}
 use Rattle.ber_core.specs.Der.{size, sizes}
-use Rattle.ber_core.specs.Identifier.{Tag}
-use Rattle.ber_core.specs.Tree.{Tree, Trees, none, more}
+use Rattle.ber_tree.specs.Identifier.{Tag}
+use Rattle.ber_tree.specs.Tree.{Tree, Trees, none, more}
 use Rattle.ber_core.proofs.Encodings.{length-encoding}
 use Rattle.ber_leaf.specs.Leaf.{Leaf, bit_string, integer, enumerated, Holds, cleared_last, normal_content}
 use Rattle.ber_leaf.specs.Profile.{Profile, profile_two}
@@ -21,7 +21,7 @@ use Rattle.ill_tables.specs.declared.node.NodeId.TheVariants.{Boolean}
 use Rattle.ill_tables.specs.declared.node.Kind.{Kind}
 use Rattle.ill_tables.specs.declared.part.Presence.{Presence}
 use Rattle.ill_tables.specs.declared.part.Row.{Row}
-use Rattle.ill_schema.specs.declared.profile.Profile.{Profile as Named}
+use Rattle.ill_tables.specs.declared.profile.Profile.{Profile as Named}
 use Rattle.ill_schema.specs.Apdu.{Apdu, SpellsApdu, choice_of, root}
 use Rattle.ill_schema.specs.Content.{Content, simple, sequence, list, alternative, foreign, Entries, no_entries, absent, present, Items, no_items, item}
 use Rattle.ill_schema.specs.Fits.{Fits, FitRows, FitItems, FitsSimple}

@@ -6,9 +6,9 @@ use Rattle.ber_leaf.specs.Leaf.{bit_count, bit_octets, bit_string, cleared, clea
 use Rattle.ber_leaf.proofs.Bits.{length-cleared}
 use Rattle.ber_leaf.specs.declared.fault.LeafFault.{LeafFault}
 use Rattle.ill_grammar.specs.LeafTypes.{IsContentIn}
-use Rattle.ill_schema.specs.declared.profile.Profile.{Profile as Named}
-use Rattle.ill_read.specs.declared.mark.Mark.{Mark}
-use Rattle.ill_read.specs.declared.mark.Mark.TheVariants as mark
+use Rattle.ill_tables.specs.declared.profile.Profile.{Profile as Named}
+use Rattle.ill_grammar.specs.declared.outline.Mark.{Mark}
+use Rattle.ill_grammar.specs.declared.outline.Mark.TheVariants as mark
 use Rattle.ill_marks.specs.Marks.{octets_in}
 use Rattle.ill_schema.specs.Texts.{digits, hexadecimal}
 use Rattle.ill_text.specs.Shown.{leaf_text}

@@ -6,14 +6,14 @@ use Rattle.std.proofs.lemmas.List.{at_drop_more, map-append}
 use Rattle.std.proofs.lemmas.Bool.{and_parts}
 use Rattle.ber_core.specs.Der.{encoding, encodings}
 use Rattle.ber_core.specs.Foreign.{are_foreign, is_foreign, is_identified}
-use Rattle.ber_core.specs.Identifier.{HasIdentifier, Tag, identifier}
-use Rattle.ber_core.specs.Length.{shortest_length}
-use Rattle.ber_core.specs.Tree.{Tree, Trees, primitive, constructed, none, more}
+use Rattle.ber_tree.specs.Identifier.{HasIdentifier, Tag, identifier}
+use Rattle.ber_tree.specs.Length.{shortest_length}
+use Rattle.ber_tree.specs.Tree.{Tree, Trees, primitive, constructed, none, more}
 use Rattle.ber_core.proofs.Foreign.{both, identified_has}
 use Rattle.ber_core.proofs.Identifiers.{cases}
 use Rattle.ber_core.proofs.Shortest.{is_long, is_short}
-use Rattle.ill_read.specs.declared.mark.Mark.{Mark}
-use Rattle.ill_read.specs.declared.mark.Mark.TheVariants as mark
+use Rattle.ill_grammar.specs.declared.outline.Mark.{Mark}
+use Rattle.ill_grammar.specs.declared.outline.Mark.TheVariants as mark
 use Rattle.ill_marks.specs.Marks.{octets_in}
 use Rattle.ill_schema.specs.Texts.{hexadecimal}
 use Rattle.ill_text.specs.Shown.{content_text, tree_text, trees_text}

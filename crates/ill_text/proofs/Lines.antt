@@ -7,9 +7,9 @@ use Rattle.ill_text.specs.Shown.{escaped}
 use Rattle.std.proofs.Common.{◌-◌}
 use Rattle.ill_tables.specs.declared.node.NodeId.{NodeId}
 use Rattle.ill_schema.specs.Content.{Content, sequence, list, Entries, no_entries, absent, present, Items, no_items, item}
-use Rattle.ill_read.specs.Outline.{AreEntries, AreItems, IsMarked}
-use Rattle.ill_read.specs.declared.mark.Mark.{Mark}
-use Rattle.ill_read.specs.declared.mark.Mark.TheVariants as mark
+use Rattle.ill_grammar.specs.Outline.{AreEntries, AreItems, IsMarked}
+use Rattle.ill_grammar.specs.declared.outline.Mark.{Mark}
+use Rattle.ill_grammar.specs.declared.outline.Mark.TheVariants as mark
 use Rattle.ill_text.specs.Shown.{Place, entry_lines, is_empty, item_lines, item_of, line, lines_of, part, within}
 use Rattle.ill_text.specs.Shown.{entry_text}
 use Rattle.ill_marks.specs.Marks.{IsEntry, is_at_end, is_there, octets_in}

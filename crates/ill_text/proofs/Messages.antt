@@ -7,7 +7,7 @@ use Rattle.ill_schema.specs.Fits.{FitsApdu}
 use Rattle.ill_schema.proofs.Encodings.{normal_spells}
 use Rattle.ill_schema.proofs.OneMeaning.{one_message}
 use Rattle.ill_schema.proofs.Streams.{parts_accept, spells_some}
-use Rattle.ill_read.specs.Outline.{IsOutlineOf}
+use Rattle.ill_grammar.specs.Outline.{IsOutlineOf}
 use Rattle.ill_read.specs.Outlined.{IsOutlinedIn}
 use Rattle.ill_read.specs.declared.outlined.OutlinedMessage.{OutlinedMessage}
 use Rattle.ill_text.specs.TextOf.{IsSpellingIn}

@@ -5,9 +5,9 @@ use Rattle.std.specs.List.{list_all}
 use Rattle.std.proofs.lemmas.Bool.{and_parts}
 use Rattle.itoa.proofs.Decimal.{length_wide}
 use Rattle.ber_core.specs.Der.{size, sizes}
-use Rattle.ber_core.specs.Identifier.{Tag, identifier}
-use Rattle.ber_core.specs.Length.{shortest_length}
-use Rattle.ber_core.specs.Tree.{Tree, Trees, primitive, constructed, none, more}
+use Rattle.ber_tree.specs.Identifier.{Tag, identifier}
+use Rattle.ber_tree.specs.Length.{shortest_length}
+use Rattle.ber_tree.specs.Tree.{Tree, Trees, primitive, constructed, none, more}
 use Rattle.ber_leaf.specs.Profile.{is_graphic}
 use Rattle.ill_schema.specs.Texts.{after_dot, digits, hexadecimal, numbers_after, oid_components, oid_text, with_dots}
 use Rattle.ill_text.specs.Shown.{content_text, escaped, quoted, tree_text, trees_text}

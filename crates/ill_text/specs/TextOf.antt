@@ -3,7 +3,7 @@ use Rattle.std.specs.Prelude.{◌≡◌, ℕ, ◌^◌, ◌<◌, List, length}
 use Rattle.ber_leaf.specs.Profile.{Profile, profile_two}
 use Rattle.ill_schema.specs.Apdu.{Apdu, SpellsApdu}
 use Rattle.ill_schema.specs.Profiles.{profile_of}
-use Rattle.ill_read.specs.Outline.{IsOutlineOf}
+use Rattle.ill_grammar.specs.Outline.{IsOutlineOf}
 use Rattle.ill_text.specs.Shown.{shown_text_in}
 use Rattle.ill_text.specs.declared.text.Text.{Text}
 

@@ -3,10 +3,10 @@ ghost use Rattle.std.specs.Prelude.{◌≡◌, ◌≤◌, ◌<◌, ℕ, suc, ◌
 ghost use Rattle.std.specs.Int.Digits.{number_from_digits, number_from_digits_after};
 ghost use Rattle.ber_core.specs.Der.{encoding, encodings};
 ghost use Rattle.ber_core.specs.Foreign.{are_foreign, foreign_levels, is_foreign};
-ghost use Rattle.ber_core.specs.Identifier.{HasIdentifier, Tag, identifier};
-ghost use Rattle.ber_core.specs.Length.{shortest_length};
-ghost use Rattle.ber_core.specs.Tree.{Tree, Trees};
-ghost use Rattle.ill_read.specs.declared.mark.Mark.{Mark};
+ghost use Rattle.ber_tree.specs.Identifier.{HasIdentifier, Tag, identifier};
+ghost use Rattle.ber_tree.specs.Length.{shortest_length};
+ghost use Rattle.ber_tree.specs.Tree.{Tree, Trees};
+ghost use Rattle.ill_grammar.specs.declared.outline.Mark.{Mark};
 ghost use Rattle.ill_text.specs.Shown.{line, tree_text, trees_text};
 ghost use Rattle.ill_marks.specs.Marks.{leading_octets, octets_in};
 ghost use Rattle.ill_text.specs.code.Elements.{blank, up_to_last};

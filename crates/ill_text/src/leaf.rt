@@ -1,7 +1,7 @@
 //! Leaves as lines.
 ghost use Rattle.std.specs.Prelude.{◌≡◌, ◌++◌, ◌<◌, ◌≤◌, [], length, codes, flat_map, take, ◌∷◌, IsTrue, Option};
 ghost use Rattle.std.specs.Fmt.{signed_decimal};
-ghost use Rattle.ill_schema.specs.declared.profile.Profile.{Profile as Named};
+ghost use Rattle.ill_tables.specs.declared.profile.Profile.{Profile as Named};
 ghost use Rattle.ber_leaf.specs.Leaf.{integer_of, value};
 ghost use Rattle.ber_leaf.specs.Simple.{flag, whole};
 ghost use Rattle.ill_schema.specs.Content.{Content};
@@ -9,7 +9,7 @@ ghost use Rattle.ill_schema.specs.Presence.{default_value};
 ghost use Rattle.ill_tables.specs.Table.{kind_of};
 ghost use Rattle.ill_tables.specs.declared.node.NodeId.{NodeId};
 ghost use Rattle.ill_grammar.specs.LeafTypes.{IsContentIn, leaf_is};
-ghost use Rattle.ill_read.specs.Outline.{IsAbsent};
+ghost use Rattle.ill_grammar.specs.Outline.{IsAbsent};
 ghost use Rattle.ill_tables.specs.Numbers.{number_name};
 ghost use Rattle.ill_text.specs.Shown.{escaped, in_brackets, leaf_text, line};
 ghost use Rattle.ill_text.specs.Shown.{entry_text};

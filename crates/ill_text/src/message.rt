@@ -4,7 +4,7 @@ ghost use Rattle.ber_leaf.specs.Profile.{profile_two};
 ghost use Rattle.ill_schema.specs.Apdu.{Apdu, SpellsApdu};
 ghost use Rattle.ill_schema.specs.Message.{apdu_of};
 ghost use Rattle.ill_schema.specs.Profiles.{profile_of};
-ghost use Rattle.ill_read.specs.Outline.{IsOutlineOf};
+ghost use Rattle.ill_grammar.specs.Outline.{IsOutlineOf};
 ghost use Rattle.ill_text.specs.Shown.{shown_text};
 ghost use Rattle.ill_text.specs.TextOf.{IsSpelling, IsSpellingIn};
 

@@ -3,9 +3,9 @@ ghost use Rattle.std.specs.Prelude.{◌≡◌, ◌≤◌, ◌<◌, ℕ, ◌+◌,
 ghost use Rattle.std.specs.List.{list_all};
 ghost use Rattle.ber_leaf.specs.Leaf.{bit_count, bit_octets, bit_string, cleared, cleared_last, is_bits, value};
 ghost use Rattle.ber_leaf.specs.Profile.{is_graphic};
-ghost use Rattle.ill_schema.specs.declared.profile.Profile.{Profile as Named};
+ghost use Rattle.ill_tables.specs.declared.profile.Profile.{Profile as Named};
 ghost use Rattle.ill_grammar.specs.LeafTypes.{IsContentIn, module_leaf_is};
-ghost use Rattle.ill_read.specs.declared.mark.Mark.{Mark};
+ghost use Rattle.ill_grammar.specs.declared.outline.Mark.{Mark};
 ghost use Rattle.ill_schema.specs.Texts.{after_dot, hexadecimal, oid_components, oid_text, with_dots};
 ghost use Rattle.ill_text.specs.Shown.{content_text, leaf_text, line};
 ghost use Rattle.ill_marks.specs.Identifiers.{are_short, numbers_in};

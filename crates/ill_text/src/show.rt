@@ -1,14 +1,14 @@
 //! Outlines as lines.
 ghost use Rattle.std.specs.Prelude.{◌≡◌, ◌<◌, ◌≤◌, ℕ, List, [], ◌∷◌, ◌++◌, length, map, not, IsTrue, Option};
 ghost use Rattle.ill_schema.specs.Content.{Content, Entries, Items, sequence, list};
-ghost use Rattle.ill_read.specs.Outline.{AreEntries, AreItems, IsMarked};
-ghost use Rattle.ill_read.specs.declared.mark.Mark.{Mark};
+ghost use Rattle.ill_grammar.specs.Outline.{AreEntries, AreItems, IsMarked};
+ghost use Rattle.ill_grammar.specs.declared.outline.Mark.{Mark};
 ghost use Rattle.ill_text.specs.Shown.{entry_text};
 ghost use Rattle.ill_marks.specs.Marks.{IsEntry, is_there};
 ghost use Rattle.ill_text.specs.code.Sending.{Adds, sending};
 ghost use Rattle.ill_text.specs.code.FieldPaths.{path_of, place_at};
 ghost use Rattle.ill_text.specs.Shown.{Place, item_of, leaf_text, line, lines_of, part};
-ghost use Rattle.ill_schema.specs.declared.profile.Profile.{Profile as Named};
+ghost use Rattle.ill_tables.specs.declared.profile.Profile.{Profile as Named};
 ghost use Rattle.ill_marks.specs.code.MarkedOctets.{SaysOctets};
 ghost use Rattle.ber_leaf.specs.Leaf.{value};
 ghost use Rattle.ill_grammar.specs.LeafTypes.{IsContentIn, leaf_is};

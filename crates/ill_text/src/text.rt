@@ -3,7 +3,7 @@ ghost use Rattle.std.specs.Prelude.{◌≡◌, ◌<◌, ◌≤◌, ◌^◌, ℕ,
 ghost use Rattle.std.specs.Io.KnownBytes.{Appends};
 ghost use Rattle.ber_leaf.specs.Profile.{profile_two};
 ghost use Rattle.ill_schema.specs.Apdu.{Apdu, SpellsApdu, choice_of};
-ghost use Rattle.ill_read.specs.Outline.{IsMarked, IsOutlineOf};
+ghost use Rattle.ill_grammar.specs.Outline.{IsMarked, IsOutlineOf};
 ghost use Rattle.ill_schema.specs.Profiles.{profile_of};
 ghost use Rattle.ill_text.specs.Shown.{shown_text, shown_text_in};
 ghost use Rattle.ill_text.specs.TextOf.{IsTextOf};
@@ -16,7 +16,7 @@ use crate::text_sink::TextSink;
 use ber_core::{Sink, VecSink};
 use ill_marks::{after_leading_mark, alternative};
 use ill_read::{Mark, Outline};
-use ill_schema::{Profile, row_name, row_node};
+use ill_schema::{Profile, root_as, row_name, row_node};
 use itoa::Buffer;
 use std::alloc::{AllocError, Global};
 
@@ -149,7 +149,7 @@ fn put_marks<W: Sink>(
 {
     match alternative(marks) {
         Some(row) => {
-            let root = profile.root();
+            let root = root_as(profile);
             put_head(number, row_name(root, row as usize), out, sink);
             let node = row_node(root, row as usize);
             let _ = put_value(

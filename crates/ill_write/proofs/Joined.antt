@@ -1,7 +1,7 @@
 -- Encodings and content sizes of trees that are joined.
 use Rattle.std.proofs.Common.{◌≡◌, ℕ, List, [], ◌∷◌, ◌++◌, length, refl, sym, ap, ◌∙◌, append_assoc, set}
 use Rattle.ber_core.specs.Der.{encoding, encodings}
-use Rattle.ber_core.specs.Tree.{Trees, none, more}
+use Rattle.ber_tree.specs.Tree.{Trees, none, more}
 use Rattle.ill_schema.specs.Elements.{joined}
 use Rattle.ill_write.specs.ContentSizes.{content_sizes, all_content_sizes}
 

@@ -1,9 +1,9 @@
 -- The sizes of elements as they are measured.
 use Rattle.std.proofs.Common.{◌≡◌, ℕ, ◌+◌, ◌≤◌, true, List, [], ◌∷◌, ◌++◌, length, Option, sym, ap, subst, ◌∙◌, arith, append_assoc, append-nil, set}
-use Rattle.ber_core.specs.declared.id.Class.{Class}
+use Rattle.ber_tree.specs.declared.class.Class.{Class}
 use Rattle.ber_core.specs.Der.{header_size, size, sizes}
-use Rattle.ber_core.specs.Identifier.{Tag}
-use Rattle.ber_core.specs.Tree.{Tree, Trees, primitive, constructed, none, more}
+use Rattle.ber_tree.specs.Identifier.{Tag}
+use Rattle.ber_tree.specs.Tree.{Tree, Trees, primitive, constructed, none, more}
 use Rattle.ber_leaf.specs.Leaf.{normal_content}
 use Rattle.ber_leaf.specs.Profile.{profile_two}
 use Rattle.ber_leaf.specs.Simple.{Simple}

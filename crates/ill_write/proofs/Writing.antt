@@ -3,9 +3,9 @@ use Rattle.std.proofs.Common.{◌≡◌, ℕ, ◌+◌, ◌≤◌, true, List, []
 use Rattle.ber_core.proofs.Encodings.{length-encodings}
 use Rattle.ill_write.specs.code.Puts.{Puts}
 use Rattle.ill_write.proofs.Putting.{puts_then, puts_failed, puts_nothing, as_failed}
-use Rattle.ber_core.specs.Identifier.{Tag, identifier}
-use Rattle.ber_core.specs.Length.{shortest_length}
-use Rattle.ber_core.specs.Tree.{Tree, Trees, constructed, none, more, primitive}
+use Rattle.ber_tree.specs.Identifier.{Tag, identifier}
+use Rattle.ber_tree.specs.Length.{shortest_length}
+use Rattle.ber_tree.specs.Tree.{Tree, Trees, constructed, none, more, primitive}
 use Rattle.ber_core.specs.Der.{encoding, encodings, sizes}
 use Rattle.ill_write.specs.code.NextAre.{NextAre}
 use Rattle.ill_schema.specs.Elements.{joined, place_trees, trees_unless, row_tree}

@@ -1,7 +1,7 @@
 -- The sizes in the headers of a normal form.
 use Rattle.std.specs.Prelude.{ℕ, List, [], ◌∷◌, ◌++◌}
 use Rattle.ber_core.specs.Der.{sizes}
-use Rattle.ber_core.specs.Tree.{Tree, Trees, primitive, constructed, none, more}
+use Rattle.ber_tree.specs.Tree.{Tree, Trees, primitive, constructed, none, more}
 use Rattle.ill_schema.specs.declared.message.Message.{Message}
 use Rattle.ill_tables.specs.declared.node.NodeId.TheVariants.{IllApdu}
 use Rattle.ill_schema.specs.Apdu.{choice_of}

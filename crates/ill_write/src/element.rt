@@ -2,7 +2,7 @@
 ghost use Rattle.std.specs.Prelude.{◌≡◌, ◌+◌, ◌-◌, ◌≤◌, slice_get};
 ghost use Rattle.ber_core.specs.Der.{header_size};
 ghost use Rattle.ber_core.specs.Id.{tag_of_id, form_of_id};
-ghost use Rattle.ber_core.specs.Identifier.{HasIdentifier};
+ghost use Rattle.ber_tree.specs.Identifier.{HasIdentifier};
 ghost use Rattle.ber_leaf.specs.Profile.{profile_two};
 ghost use Rattle.ill_schema.specs.Elements.{own_number, element_tag, tag_at};
 ghost use Rattle.ill_schema.specs.Message.{apdu_of};

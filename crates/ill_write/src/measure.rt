@@ -1,8 +1,8 @@
 //! The sizes of elements, of which those of constructed contents are pushed in the order of the headers.
 ghost use Rattle.std.specs.Prelude.{◌≡◌, ◌≤◌, IfOk, IsTrue, Some, false};
 ghost use Rattle.ber_core.specs.Der.{size, sizes};
-ghost use Rattle.ber_core.specs.Identifier.{HasIdentifier};
-ghost use Rattle.ber_core.specs.Tree.{primitive};
+ghost use Rattle.ber_tree.specs.Identifier.{HasIdentifier};
+ghost use Rattle.ber_tree.specs.Tree.{primitive};
 ghost use Rattle.ber_leaf.specs.Leaf.{normal_content};
 ghost use Rattle.ber_leaf.specs.Profile.{profile_two};
 ghost use Rattle.ber_leaf.specs.Strings.{string_value};

@@ -1,9 +1,9 @@
 //! The pieces of elements: headers, and leaves.
 ghost use Rattle.std.specs.Prelude.{◌≡◌, ◌+◌, ◌≤◌, ◌<◌, ◌++◌, length, get_or, IsErr, IsTrue, true, false};
 ghost use Rattle.ber_core.specs.Der.{encoding};
-ghost use Rattle.ber_core.specs.Identifier.{identifier, HasIdentifier};
-ghost use Rattle.ber_core.specs.Length.{shortest_length};
-ghost use Rattle.ber_core.specs.Tree.{primitive};
+ghost use Rattle.ber_tree.specs.Identifier.{identifier, HasIdentifier};
+ghost use Rattle.ber_tree.specs.Length.{shortest_length};
+ghost use Rattle.ber_tree.specs.Tree.{primitive};
 ghost use Rattle.ber_leaf.specs.Leaf.{normal_content};
 ghost use Rattle.ber_leaf.specs.Profile.{profile_two};
 ghost use Rattle.ill_schema.specs.Elements.{tag_at};

@@ -4,7 +4,7 @@ use Rattle.std.specs.Prelude.{IfErr, IfOk}
 use Rattle.std.specs.Io.KnownBytes.{Appends, IsAtEnd, Keeps}
 use Rattle.ber_leaf.specs.Profile.{Profile}
 use Rattle.ill_schema.specs.Profiles.{profile_of}
-use Rattle.ill_schema.specs.declared.profile.Profile.{Profile as Named}
+use Rattle.ill_tables.specs.declared.profile.Profile.{Profile as Named}
 use Rattle.ill_schema.proofs.Streams.{accepts_once, parts_accept, tails, take_front}
 use Rattle.ill_normal.specs.Calls.{taking, putting}
 use Rattle.ill_normal.specs.Messages.{AreSpelledIn, Spelling, first, output_from}

@@ -1,5 +1,5 @@
-//! Tests alone: of the orders that words give, of the program's jobs, of dumps, and of the calls of all libraries where no memory is
-//! left. They are in a crate of their own, so that what they test is proved once and not once more with them.
+//! Tests alone: of the program's jobs, of dumps, and of the calls of all libraries where no memory is left. They are in a crate of their own,
+//! so that what they test is proved once and not once more with them.
 //!
 //! `rt try` can't run those of memory: what it watches memory with needs memory itself.
 #![tactic(auto)]
@@ -10,5 +10,3 @@ mod dump;
 mod jobs;
 #[cfg(test)]
 mod memory;
-#[cfg(test)]
-mod orders;

@@ -1,6 +1,6 @@
 -- Messages of the module profile, foreign trees, and BIT STRINGs in segments.
 use Rattle.std.specs.Prelude.{◌≡◌, ℕ, zero, suc, false, List, [], ◌∷◌, codes, Option}
-use Rattle.ber_core.specs.Tree.{Tree, Trees, primitive, constructed, none, more}
+use Rattle.ber_tree.specs.Tree.{Tree, Trees, primitive, constructed, none, more}
 use Rattle.ber_leaf.specs.declared.fault.LeafFault.{LeafFault}
 use Rattle.ber_leaf.specs.Leaf.{bit_string, content_fault, value}
 use Rattle.ber_leaf.specs.Profile.{profile_three}

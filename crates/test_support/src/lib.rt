@@ -1,12 +1,12 @@
-//! Shared helpers of the test crates: messages and octets from words, all memory that there is, and outcomes of calls.
+//! Shared helpers of the test crates: octets and texts from words, all memory that there is, and outcomes of calls.
 #![tactic(auto)]
 
-mod build;
 mod memory_hog;
 mod octets;
 mod outcome;
+mod texts;
 
-pub use build::{date_text, general_string, general_text, message, value};
 pub use memory_hog::MemoryHog;
 pub use octets::octets_of;
 pub use outcome::Outcome;
+pub use texts::{date_text, general_string, general_text};

@@ -3,7 +3,7 @@ use Rattle.std.specs.Prelude.{◌≡◌, ◌⊎◌, ◌<◌, true, List, [], ◌
 use Rattle.clap.specs.Walk.{Row, Text, first_of}
 use Rattle.clap.specs.Words.{kind_of}
 use Rattle.clap.specs.declared.error.kind.ErrorKind.{ErrorKind}
-use Rattle.ill_schema.specs.declared.profile.Profile.{Profile}
+use Rattle.ill_tables.specs.declared.profile.Profile.{Profile}
 use Rattle.ill_args.specs.CommandLine.{ProfileNames}
 use Rattle.ill_args.specs.Orders.{profile_name, verb_name, NamesProfile}
 use Rattle.ill_args.specs.Refused.{IsOutOfMemory}

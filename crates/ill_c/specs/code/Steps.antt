@@ -4,10 +4,10 @@ use Rattle.ber_leaf.specs.Profile.{Profile}
 use Rattle.ill_schema.specs.Apdu.{Apdu, Accepts, SpellsApdu, normal_form_in}
 use Rattle.ill_refusals.specs.Fault.{fault_of}
 use Rattle.ill_read.specs.Answers.{IsPartIn, IsRefusedIn, RefusesWholeIn}
-use Rattle.ill_read.specs.Outline.{IsOutlineOf}
+use Rattle.ill_grammar.specs.Outline.{IsOutlineOf}
 use Rattle.ill_read.specs.declared.failure.Failure.{Failure}
 use Rattle.ill_read.specs.declared.normal.NormalForm.{NormalForm}
-use Rattle.ill_read.specs.declared.outline_draft.Outline.{Outline}
+use Rattle.ill_grammar.specs.declared.outline.Outline.{Outline}
 use Rattle.ill_c.specs.declared.refusal.IllcanonRefusal.{IllcanonRefusal}
 use Rattle.ill_c.specs.declared.status.Status.{Status}
 use Rattle.ill_c.specs.Memory.{Change, Stays}

@@ -2,7 +2,7 @@
 use Rattle.std.specs.Prelude.{◌≡◌, Bool, List, ℕ, length}
 use Rattle.ber_leaf.specs.Profile.{Profile}
 use Rattle.ill_schema.specs.Apdu.{Apdu, SpellsApdu}
-use Rattle.ill_read.specs.Outline.{IsOutlineOf}
+use Rattle.ill_grammar.specs.Outline.{IsOutlineOf}
 use Rattle.ill_normal.specs.Messages.{spelling}
 use Rattle.ill_commands.specs.declared.piece.CheckedOutline.{CheckedOutline}
 use Rattle.ill_commands.specs.Output.{good_if}

@@ -1,6 +1,6 @@
 -- What is due by its tag.
 use Rattle.std.specs.Prelude.{Option, None}
-use Rattle.ber_core.specs.Identifier.{Tag}
+use Rattle.ber_tree.specs.Identifier.{Tag}
 use Rattle.ber_leaf.specs.Profile.{profile_two}
 use Rattle.ill_refusals.specs.Next.{Next, anything, foreigns, Due, due}
 

@@ -1,8 +1,8 @@
 -- What the cells of a node are to say.
 use Rattle.std.specs.Prelude.{ℕ, ℤ, zero, pos, drop, option_map, suc, Bool, true, false, ◌&&◌, ◌||◌, not, List, [], ◌∷◌, Option, None, is_some, map, nat_eq, if◌then◌else◌}
-use Rattle.ber_core.specs.Identifier.{Tag}
-use Rattle.ber_core.specs.declared.id.Class.{Class}
-use Rattle.ber_core.specs.Tree.{octet_string}
+use Rattle.ber_tree.specs.Identifier.{Tag}
+use Rattle.ber_tree.specs.declared.class.Class.{Class}
+use Rattle.ber_tree.specs.Tree.{octet_string}
 use Rattle.ber_leaf.specs.Profile.{profile_two}
 use Rattle.ill_tables.specs.declared.node.Kind.{Kind}
 use Rattle.ill_tables.specs.declared.node.NodeId.{NodeId}

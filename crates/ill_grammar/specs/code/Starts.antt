@@ -1,6 +1,6 @@
 -- What a tag begins.
 use Rattle.std.specs.Prelude.{◌≡◌, ℕ, List, Option, Some, None, IsTrue}
-use Rattle.ber_core.specs.Identifier.{Tag}
+use Rattle.ber_tree.specs.Identifier.{Tag}
 use Rattle.ill_tables.specs.declared.node.NodeId.{NodeId}
 use Rattle.ill_refusals.specs.Element.{Element, Start}
 use Rattle.ill_grammar.specs.Elements.{element_with}

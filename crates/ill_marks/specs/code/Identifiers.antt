@@ -1,7 +1,7 @@
 -- A number of an OBJECT IDENTIFIER while its octets are read.
 use Rattle.std.specs.Prelude.{ℕ, ◌+◌, ◌-◌, ◌*◌, nat_lt, if◌then◌else◌}
-use Rattle.ill_read.specs.declared.mark.Mark.{Mark}
-use Rattle.ill_read.specs.declared.mark.Mark.TheVariants as mark
+use Rattle.ill_grammar.specs.declared.outline.Mark.{Mark}
+use Rattle.ill_grammar.specs.declared.outline.Mark.TheVariants as mark
 
 -- the number with the seven bits of a mark's octet
 abbrev pub number_with : ℕ → Mark → ℕ

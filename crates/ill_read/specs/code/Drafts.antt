@@ -1,11 +1,11 @@
 -- What a draft holds of the elements that have been read, and what each call does to it.
 use Rattle.ill_schema.specs.Profiles.{profile_of}
-use Rattle.ill_schema.specs.declared.profile.Profile.{Profile as Named}
+use Rattle.ill_tables.specs.declared.profile.Profile.{Profile as Named}
 use Rattle.std.specs.Prelude.{◌≡◌, ℕ, ◌<◌, ◌≤◌, Bool, true, false, length, List, [], ◌∷◌, ◌++◌, take, drop, map, Option, Some, None, Result, Ok, Err, ⊤, IsTrue}
 use Rattle.ber_core.specs.Id.{tag_of_id}
-use Rattle.ber_core.specs.Identifier.{Tag}
-use Rattle.ber_core.specs.Octets.{are_octets}
-use Rattle.ber_core.specs.Tree.{Tree, Trees, constructed, primitive, tag_of}
+use Rattle.ber_tree.specs.Identifier.{Tag}
+use Rattle.ber_tree.specs.Octets.{are_octets}
+use Rattle.ber_tree.specs.Tree.{Tree, Trees, constructed, primitive, tag_of}
 use Rattle.ber_leaf.specs.Leaf.{bit_string, value, content_fault}
 use Rattle.ber_leaf.specs.Segments.{join_bits}
 use Rattle.ber_leaf.specs.declared.fault.LeafFault.{LeafFault}

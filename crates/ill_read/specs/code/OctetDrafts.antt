@@ -1,12 +1,12 @@
 -- What a draft of octets holds of the elements that have been read.
 use Rattle.ill_schema.specs.Profiles.{profile_of}
-use Rattle.ill_schema.specs.declared.profile.Profile.{Profile as Named}
+use Rattle.ill_tables.specs.declared.profile.Profile.{Profile as Named}
 use Rattle.std.specs.Prelude.{◌≡◌, ℕ, Bool, true, false, List, [], ◌∷◌, ◌++◌, length, Option, Some, None}
 use Rattle.ber_core.specs.Der.{encoding, encodings}
 use Rattle.ber_core.specs.Id.{tag_of_id}
-use Rattle.ber_core.specs.Identifier.{identifier}
-use Rattle.ber_core.specs.declared.id.Class.TheVariants.{Universal}
-use Rattle.ber_core.specs.Length.{shortest_length}
+use Rattle.ber_tree.specs.Identifier.{identifier}
+use Rattle.ber_tree.specs.declared.class.Class.TheVariants.{Universal}
+use Rattle.ber_tree.specs.Length.{shortest_length}
 use Rattle.ill_schema.specs.Apdu.{Apdu, normal_form_in}
 use Rattle.ill_schema.specs.Content.{Content}
 use Rattle.ill_schema.specs.Content as content

@@ -1,8 +1,8 @@
 -- How the values that are held grow, and what is taken from them.
-use Rattle.ill_schema.specs.declared.profile.Profile.TheVariants.{Two}
+use Rattle.ill_tables.specs.declared.profile.Profile.TheVariants.{Two}
 use Rattle.std.specs.Prelude.{◌≡◌, ℕ, List, [], ◌∷◌, ◌++◌, length, map, Option, Some, None, Result, Ok, Err, option_map}
-use Rattle.ber_core.specs.Identifier.{Tag}
-use Rattle.ber_core.specs.Tree.{Trees}
+use Rattle.ber_tree.specs.Identifier.{Tag}
+use Rattle.ber_tree.specs.Tree.{Trees}
 use Rattle.ill_schema.specs.Content.{Content, alternative}
 use Rattle.ill_schema.specs.Content as content
 use Rattle.ill_schema.specs.Value.{content_of, entries_content, items_content}

@@ -1,12 +1,12 @@
 -- What the draft of an outline holds of the elements that have been read.
 use Rattle.std.specs.Prelude.{◌≡◌, ℕ, Bool, true, false, List, [], ◌∷◌, ◌++◌, drop, map, Option, Some, None, slice_get}
-use Rattle.ber_core.specs.Identifier.{Tag}
+use Rattle.ber_tree.specs.Identifier.{Tag}
 use Rattle.ill_tables.specs.declared.part.PartId.{PartId}
 use Rattle.ill_tables.specs.declared.part.Row.{Row}
 use Rattle.ill_schema.specs.Apdu.{Apdu, choice_of}
 use Rattle.ill_tables.specs.Table.{kind_of, rows_of}
 use Rattle.ill_schema.specs.Value.{entries_of}
-use Rattle.ill_read.specs.Outline.{AreEntries, IsMarked, octets_marks}
+use Rattle.ill_grammar.specs.Outline.{AreEntries, IsMarked, octets_marks}
 use Rattle.ill_grammar.specs.Standing.{Level}
 use Rattle.ill_grammar.specs.Cells.{is_any}
 use Rattle.ill_grammar.specs.Due.{IsDueIn}
@@ -21,8 +21,8 @@ use Rattle.ill_grammar.specs.declared.due.Slot.{Slot}
 use Rattle.ill_grammar.specs.declared.due.Slot.TheVariants.{Row as AtRow}
 use Rattle.ill_grammar.specs.declared.element.Element.{Element as CodeElement}
 use Rattle.ill_grammar.specs.declared.element.Element.TheVariants.{BitString, Foreign, Leaf, ModuleLeaf, Wrapper}
-use Rattle.ill_read.specs.declared.mark.Mark.{Mark}
-use Rattle.ill_read.specs.declared.mark.Mark.TheVariants as mark
+use Rattle.ill_grammar.specs.declared.outline.Mark.{Mark}
+use Rattle.ill_grammar.specs.declared.outline.Mark.TheVariants as mark
 use Rattle.ill_read.specs.declared.outline_draft.OutlineDraft.{OutlineDraft}
 
 -- the marks of rows that have no element

@@ -1,6 +1,6 @@
 -- What each part of a step does to the path.
 use Rattle.ill_schema.specs.Profiles.{profile_of}
-use Rattle.ill_schema.specs.declared.profile.Profile.{Profile as Named}
+use Rattle.ill_tables.specs.declared.profile.Profile.{Profile as Named}
 use Rattle.std.specs.Prelude.{◌≡◌, ℕ, Bool, true, false, List, [], ◌∷◌, ◌++◌, Result}
 use Rattle.ber_core.specs.Id.{tag_of_id}
 use Rattle.ill_refusals.specs.Place.{Open}

@@ -10,7 +10,7 @@ use ill_schema::{Cause, Profile, Refusal};
 
 impl<D: Draft> Reader<D> {
     ghost use Rattle.ill_schema.specs.Profiles.{profile_of};
-    ghost use Rattle.ill_schema.specs.declared.profile.Profile.{Profile as Named};
+    ghost use Rattle.ill_tables.specs.declared.profile.Profile.{Profile as Named};
     ghost use Rattle.ill_grammar.specs.Two.{is_found_of};
     ghost use Rattle.std.specs.Prelude.{◌≡◌, ℕ, ◌+◌, ◌-◌, ◌<◌, List, ◌++◌, length, drop, take, false, true, IsTrue, Ok, Err, Some, None};
     ghost use Rattle.ill_read.specs.Paths.{HoldsAt};

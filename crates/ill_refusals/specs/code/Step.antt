@@ -1,7 +1,7 @@
 -- A machine that goes from place to place.
 use Rattle.std.specs.Prelude.{ℕ, ◌+◌, List, [], ◌∷◌, length, drop, Option}
-use Rattle.ber_core.specs.Identifier.{Tag}
-use Rattle.ber_core.specs.Tree.{Tree, Trees, primitive, constructed, none, more}
+use Rattle.ber_tree.specs.Identifier.{Tag}
+use Rattle.ber_tree.specs.Tree.{Tree, Trees, primitive, constructed, none, more}
 use Rattle.ill_refusals.specs.Element.{Element}
 use Rattle.ill_refusals.specs.Place.{Open}
 use Rattle.ill_refusals.specs.Fault.{Fault}

@@ -1,7 +1,7 @@
 -- What measuring an element returns and pushes.
 use Rattle.std.specs.Prelude.{◌≡◌, ℕ, List, ◌++◌}
 use Rattle.ber_core.specs.Der.{size, sizes}
-use Rattle.ber_core.specs.Tree.{Tree, Trees}
+use Rattle.ber_tree.specs.Tree.{Tree, Trees}
 use Rattle.ill_write.specs.ContentSizes.{content_sizes, all_content_sizes}
 
 -- n is the size of the trees, and the content sizes in them are pushed

@@ -1,6 +1,6 @@
 -- Rows whose tags have identifiers in both forms.
 use Rattle.std.specs.Prelude.{ℕ, Bool, true, false, not, ◌&&◌, ◌||◌, nat_le, nat_lt, Option, Some, None}
-use Rattle.ber_core.specs.declared.id.Class.{Class}
+use Rattle.ber_tree.specs.declared.class.Class.{Class}
 use Rattle.ill_tables.specs.declared.part.Row.{Row}
 
 abbrev pub is_universal : Class → Bool

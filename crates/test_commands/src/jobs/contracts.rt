@@ -4,7 +4,7 @@
 ghost use Rattle.std.specs.Prelude.{◌≡◌, ◌≤◌, ◌+◌, ℕ, Bool, List, [], Ok, Err, true, false, IfOk, IfErr, length};
 ghost use Rattle.ber_leaf.specs.Profile.{profile_two};
 ghost use Rattle.ill_inputs.specs.Inputs.{IsResourceFault};
-ghost use Rattle.ill_read.specs.Outline.{IsOutlineOf};
+ghost use Rattle.ill_grammar.specs.Outline.{IsOutlineOf};
 ghost use Rattle.ill_schema.specs.Apdu.{Apdu, SpellsApdu, choice_of};
 ghost use Rattle.ill_schema.specs.Profiles.{profile_of};
 ghost use Rattle.ill_schema.specs.Fits.{FitsApdu};

@@ -1,9 +1,9 @@
 //! Definitions of the module profile: worked messages, with their normal forms from outside, foreign trees, and BIT STRINGs in segments.
 ghost use Rattle.std.specs.Prelude.{◌≡◌, List, [], ◌∷◌, ℕ, codes, true, false, Some, None};
-ghost use Rattle.ber_core.specs.declared.id.Class.{Class};
+ghost use Rattle.ber_tree.specs.declared.class.Class.{Class};
 ghost use Rattle.ber_core.specs.Foreign.{is_foreign, foreign_levels};
-ghost use Rattle.ber_core.specs.Identifier.{Tag};
-ghost use Rattle.ber_core.specs.Tree.{Tree, constructed, depth, more, none, primitive};
+ghost use Rattle.ber_tree.specs.Identifier.{Tag};
+ghost use Rattle.ber_tree.specs.Tree.{Tree, constructed, depth, more, none, primitive};
 ghost use Rattle.ber_leaf.specs.declared.fault.LeafFault.{LeafFault};
 ghost use Rattle.ber_leaf.specs.Leaf.{bit_string};
 ghost use Rattle.ber_leaf.specs.Profile.{profile_three};

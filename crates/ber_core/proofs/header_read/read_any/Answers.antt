@@ -4,8 +4,8 @@ use Rattle.ber_core.specs.declared.header.Header.{Header}
 use Rattle.ber_core.specs.declared.header.HeaderFault.{HeaderFault}
 use Rattle.ber_core.specs.Header.{Judged, IsFault, IsPartHeader, HasWholeId, BeginsWithId}
 use Rattle.ber_core.specs.HeaderState.{Fed}
-use Rattle.ber_core.specs.Octets.{are_octets}
-use Rattle.ber_core.proofs.Octets.{octets_fit}
+use Rattle.ber_tree.specs.Octets.{are_octets}
+use Rattle.ber_tree.proofs.Octets.{octets_fit}
 use Rattle.ber_core.proofs.HeadersRead.{whole_header_read, no_identifier_read, no_length_read, part_identifier_read, part_length_read}
 use Rattle.ber_core.proofs.ReadOctets.{octets_left}
 use Rattle.ber_core.proofs.header_read.read_any.Goals as goal

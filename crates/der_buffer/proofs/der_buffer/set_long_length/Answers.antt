@@ -1,6 +1,6 @@
 use Rattle.std.proofs.Common.{◌≡◌, ◌+◌, ◌-◌, ◌++◌, length, take, drop, sym, ap, ◌∙◌, arith}
 use Rattle.std.proofs.lemmas.List.{length-drop, take_all}
-use Rattle.ber_core.specs.Length.{shortest_length}
+use Rattle.ber_tree.specs.Length.{shortest_length}
 use Rattle.der_buffer.proofs.OpenElements.{length_set}
 use Rattle.der_buffer.proofs.der_buffer.set_long_length.Goals as goal
 

@@ -1,6 +1,6 @@
 use Rattle.std.proofs.Common.{◌∙◌, refl, subst}
 use Rattle.ill_schema.specs.Profiles.{profile_of}
-use Rattle.ill_read.specs.Outline.{IsOutlineOf}
+use Rattle.ill_grammar.specs.Outline.{IsOutlineOf}
 use Rattle.ill_normal.proofs.Canonical.{spells_once}
 use Rattle.ill_c.specs.Calls.{json_in}
 use Rattle.ill_c.proofs.Made.{made}

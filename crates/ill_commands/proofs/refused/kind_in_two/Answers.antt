@@ -1,7 +1,7 @@
 use Rattle.std.proofs.Common.{ℕ, List, Some, subst}
 use Rattle.std.specs.Io.KnownBytes.{Consumes}
 use Rattle.ill_schema.specs.Profiles.{profile_of}
-use Rattle.ill_schema.specs.declared.profile.Profile.{Profile as Named}
+use Rattle.ill_tables.specs.declared.profile.Profile.{Profile as Named}
 use Rattle.ill_refusals.specs.Fault.{fault_of}
 use Rattle.ill_refusals.specs.Outcome.{OnlyRefuses}
 use Rattle.ill_commands.proofs.RefusalKinds.{reads_message, reads_no_further}

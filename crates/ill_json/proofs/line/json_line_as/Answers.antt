@@ -2,7 +2,7 @@ use Rattle.std.proofs.Common.{◌∙◌, sym, subst}
 use Rattle.std.proofs.lemmas.Result.{IfOk-weaker}
 use Rattle.ill_schema.specs.Apdu.{choice_of}
 use Rattle.ill_schema.specs.Profiles.{profile_of}
-use Rattle.ill_read.specs.Outline.{IsMarked}
+use Rattle.ill_grammar.specs.Outline.{IsMarked}
 use Rattle.ill_json.specs.Json.{line_json_in}
 use Rattle.ill_json.proofs.Tokens.{text_of_line}
 use Rattle.ill_json.proofs.line.json_line_as.Goals as goal

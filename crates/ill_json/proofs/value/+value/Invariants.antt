@@ -1,9 +1,9 @@
 use Rattle.std.proofs.Common.{◌≡◌, ◌+◌, ◌*◌, ◌≤◌, ◌++◌, ◌∷◌, List, [], length}
 use Rattle.json.specs.Token.{begin_array, begin_object}
 use Rattle.ill_schema.specs.Content.{Entries, Items}
-use Rattle.ill_read.specs.Outline.{AreEntries, AreItems}
-use Rattle.ill_read.specs.declared.mark.Mark.{Mark}
-use Rattle.ill_read.specs.declared.mark.Mark.TheVariants as mark
+use Rattle.ill_grammar.specs.Outline.{AreEntries, AreItems}
+use Rattle.ill_grammar.specs.declared.outline.Mark.{Mark}
+use Rattle.ill_grammar.specs.declared.outline.Mark.TheVariants as mark
 use Rattle.ill_json.proofs.Tokens.{EntriesReached, ItemsReached}
 use Rattle.ill_json.proofs.value.+value.Given as goal
 

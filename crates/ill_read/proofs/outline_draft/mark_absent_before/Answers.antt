@@ -4,7 +4,7 @@ use Rattle.std.proofs.lemmas.Result.{IfOk-weaker}
 use Rattle.ill_tables.specs.Table.{rows_of}
 use Rattle.ill_read.specs.code.Drafts.{rows_before}
 use Rattle.ill_read.specs.code.Outlines.{AreAbsent, HasAbsent, start_marks}
-use Rattle.ill_read.specs.declared.mark.Mark.TheVariants as mark
+use Rattle.ill_grammar.specs.declared.outline.Mark.TheVariants as mark
 use Rattle.ill_read.proofs.outline_draft.mark_absent_before.Goals as goal
 
 pub returns-in_ok-push-in-Either-Row : goal.returns-in_ok-push-in-Either-Row

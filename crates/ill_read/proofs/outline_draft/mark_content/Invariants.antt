@@ -1,6 +1,6 @@
 use Rattle.std.proofs.Common.{◌≡◌, ◌+◌, ◌-◌, ◌≤◌, ◌++◌, ◌∷◌, length, map, take}
 use Rattle.std.specs.Vec.{vec_len, vec_capacity}
-use Rattle.ill_read.specs.declared.mark.Mark.TheVariants as mark
+use Rattle.ill_grammar.specs.declared.outline.Mark.TheVariants as mark
 use Rattle.ill_read.proofs.outline_draft.mark_content.Given as goal
 
 abbrev pub invariant-loop-octet : goal.invariant-loop-octet

@@ -1,6 +1,6 @@
 use Rattle.std.proofs.Common.{◌≡◌, ℕ, ◌+◌, List, [], length, IsTrue}
 use Rattle.std.specs.Io.KnownBytes.{Appends, Consumes}
-use Rattle.ill_schema.specs.declared.profile.Profile.{Profile as Named}
+use Rattle.ill_tables.specs.declared.profile.Profile.{Profile as Named}
 use Rattle.ill_read.specs.Feeding.{IsOpenAt}
 use Rattle.ill_read.specs.code.ReaderCode.{IsFed}
 use Rattle.ill_read.specs.code.Filling.{NoneEndsWithin}

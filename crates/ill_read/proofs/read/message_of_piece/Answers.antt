@@ -1,7 +1,7 @@
 use Rattle.std.proofs.Common.{◌<◌, Bool, Result, get_or, IsTrue, Ok, drop, sym, ap, subst, ◌∙◌, arith}
-use Rattle.ber_core.specs.Octets.{are_octets}
-use Rattle.ber_core.proofs.Octets.{octets_fit}
-use Rattle.ill_schema.specs.declared.profile.Profile.TheVariants.{Two}
+use Rattle.ber_tree.specs.Octets.{are_octets}
+use Rattle.ber_tree.proofs.Octets.{octets_fit}
+use Rattle.ill_tables.specs.declared.profile.Profile.TheVariants.{Two}
 use Rattle.ill_read.specs.Paths.{AreMessage, AreValues}
 use Rattle.ill_read.specs.code.ReaderCode.{HasBegun, HasOutcome}
 use Rattle.ill_read.specs.declared.failure.Failure.{Failure}

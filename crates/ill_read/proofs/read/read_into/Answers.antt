@@ -1,6 +1,6 @@
 use Rattle.std.proofs.Common.{◌≡◌, ◌∙◌, ℕ, List, Ok, length, ap, subst}
 use Rattle.std.specs.Io.KnownBytes.{Appends}
-use Rattle.ill_schema.specs.declared.profile.Profile.TheVariants.{Two}
+use Rattle.ill_tables.specs.declared.profile.Profile.TheVariants.{Two}
 use Rattle.ill_read.specs.Answers.{ReadsNext}
 use Rattle.ill_read.specs.Paths.{AreMessage}
 use Rattle.ill_read.specs.code.ReaderCode.{IsReadOf}

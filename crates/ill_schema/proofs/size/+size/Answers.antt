@@ -1,6 +1,6 @@
 use Rattle.std.proofs.Common.{Some, None, ◌+◌, refl, sym, ap, ◌∙◌, arith}
 use Rattle.ber_core.specs.Der.{sizes}
-use Rattle.ber_core.specs.Tree.{none, more}
+use Rattle.ber_tree.specs.Tree.{none, more}
 use Rattle.ber_leaf.specs.Simple.{flag, whole, date, time, printable}
 use Rattle.ber_leaf.specs.Strings.{string_value}
 use Rattle.ill_schema.specs.Content.{sequence, list, alternative}

@@ -1,7 +1,7 @@
 use Rattle.std.proofs.Common.{◌≡◌, ◌∙◌, ◌++◌, ◌≤◌, ap, sym, subst, true, false, suc, codes, map, length, IsTrue, ℕ, arith, rules}
 use Rattle.ber_core.specs.Foreign.{are_foreign}
-use Rattle.ber_core.specs.Length.{shortest_length}
-use Rattle.ill_read.specs.declared.mark.Mark.TheVariants as mark
+use Rattle.ber_tree.specs.Length.{shortest_length}
+use Rattle.ill_grammar.specs.declared.outline.Mark.TheVariants as mark
 use Rattle.ill_schema.specs.Texts.{hexadecimal}
 use Rattle.ill_text.specs.Shown.{content_text, trees_text}
 use Rattle.ill_marks.specs.Marks.{octets_in}

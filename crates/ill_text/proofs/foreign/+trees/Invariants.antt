@@ -1,8 +1,8 @@
 use Rattle.std.proofs.Common.{◌≡◌, ◌+◌, ◌*◌, length, map, IsTrue}
 use Rattle.ber_core.specs.Der.{encodings}
 use Rattle.ber_core.specs.Foreign.{are_foreign}
-use Rattle.ber_core.specs.Tree.{Trees}
-use Rattle.ill_read.specs.declared.mark.Mark.TheVariants as mark
+use Rattle.ber_tree.specs.Tree.{Trees}
+use Rattle.ill_grammar.specs.declared.outline.Mark.TheVariants as mark
 use Rattle.ill_text.specs.code.Sending.{sending}
 use Rattle.ill_text.proofs.ForeignTrees.{TreesReached}
 use Rattle.ill_text.proofs.foreign.+trees.Given as goal

@@ -1,8 +1,8 @@
 use Rattle.std.proofs.Common.{◌∙◌, ap, append-nil, codes, map, sym}
 use Rattle.ber_core.specs.Der.{encoding}
 use Rattle.ber_core.specs.Foreign.{foreign_levels}
-use Rattle.ber_core.specs.Tree.{more, none}
-use Rattle.ill_read.specs.declared.mark.Mark.TheVariants as mark
+use Rattle.ber_tree.specs.Tree.{more, none}
+use Rattle.ill_grammar.specs.declared.outline.Mark.TheVariants as mark
 use Rattle.ill_text.specs.Shown.{tree_text}
 use Rattle.ill_text.specs.code.FieldPaths.{path_of}
 use Rattle.ill_text.proofs.ForeignTrees.{one_tree}

@@ -2,7 +2,7 @@ use Rattle.std.proofs.Common.{◌≡◌, ◌∙◌, ap, sym, arith, length, leng
 use Rattle.std.specs.Int.Digits.{digits_of, number_from_digits}
 use Rattle.std.proofs.lemmas.Int.Digits.{number_digits_of}
 use Rattle.std.proofs.lemmas.List.{take_at, drop_at}
-use Rattle.ill_read.specs.declared.mark.Mark.TheVariants as mark
+use Rattle.ill_grammar.specs.declared.outline.Mark.TheVariants as mark
 use Rattle.ill_marks.specs.Marks.{octets_in}
 use Rattle.ill_text.specs.code.Sending.{counted}
 use Rattle.ill_marks.proofs.MarkedValues.{marks_length, octets_back}

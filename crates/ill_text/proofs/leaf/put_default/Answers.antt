@@ -1,7 +1,7 @@
 use Rattle.std.proofs.Common.{◌∙◌, ap, sym, Option}
 use Rattle.ill_schema.specs.Content.{Content}
 use Rattle.ill_grammar.specs.Contents.{absent_content}
-use Rattle.ill_read.specs.Outline.{IsAbsent}
+use Rattle.ill_grammar.specs.Outline.{IsAbsent}
 use Rattle.ill_text.specs.Shown.{entry_text}
 use Rattle.ill_text.specs.code.FieldPaths.{place_at}
 use Rattle.ill_marks.proofs.MarkedValues.{no_default, same_row}

@@ -1,5 +1,5 @@
 use Rattle.std.proofs.Common.{inl, inr, ◌≡◌, ◌∙◌, refl, ap, sym, true, false, not, ◌∷◌, [], Some, drop, arith, rules, Bool}
-use Rattle.ill_read.specs.declared.mark.Mark.TheVariants as mark
+use Rattle.ill_grammar.specs.declared.outline.Mark.TheVariants as mark
 use Rattle.ill_text.specs.Shown.{lines_of, part}
 use Rattle.ill_marks.specs.code.MarkedOctets.{is_of_module}
 use Rattle.ill_text.specs.Shown.{entry_text}

@@ -1,8 +1,8 @@
 use Rattle.std.proofs.Common.{◌≡◌, ◌+◌, ◌*◌, ◌≤◌, ◌++◌, ◌∷◌, List, length, IsTrue}
 use Rattle.ill_schema.specs.Content.{Entries, Items}
-use Rattle.ill_read.specs.Outline.{AreEntries, AreItems}
-use Rattle.ill_read.specs.declared.mark.Mark.{Mark}
-use Rattle.ill_read.specs.declared.mark.Mark.TheVariants as mark
+use Rattle.ill_grammar.specs.Outline.{AreEntries, AreItems}
+use Rattle.ill_grammar.specs.declared.outline.Mark.{Mark}
+use Rattle.ill_grammar.specs.declared.outline.Mark.TheVariants as mark
 use Rattle.ill_text.specs.code.Sending.{sending}
 use Rattle.ill_text.specs.code.FieldPaths.{place_at}
 use Rattle.ill_text.proofs.Lines.{EntriesReached, ItemsReached}

@@ -1,7 +1,7 @@
 use Rattle.std.proofs.Common.{sym, subst, append-nil, []}
 use Rattle.ill_schema.specs.Apdu.{choice_of}
 use Rattle.ill_schema.specs.Profiles.{profile_of}
-use Rattle.ill_read.specs.Outline.{IsMarked}
+use Rattle.ill_grammar.specs.Outline.{IsMarked}
 use Rattle.ill_text.specs.Shown.{shown_text_in}
 use Rattle.ill_text.proofs.Sent.{adds_as, adds_then}
 use Rattle.ill_text.proofs.text.put_text.Goals as goal

@@ -1,9 +1,9 @@
 use Rattle.std.proofs.Common.{◌≡◌, ◌∙◌, IsTrue, Option, Some, None, false, is_some, refl, sym, subst, rules}
-use Rattle.ber_core.specs.Octets.{are_octets}
+use Rattle.ber_tree.specs.Octets.{are_octets}
 use Rattle.ber_leaf.specs.Leaf.{content_fault}
 use Rattle.ill_schema.specs.Profiles.{profile_of}
 use Rattle.ber_leaf.specs.declared.fault.LeafFault.{LeafFault}
-use Rattle.ill_schema.specs.declared.profile.Profile.TheVariants.{Two}
+use Rattle.ill_tables.specs.declared.profile.Profile.TheVariants.{Two}
 use Rattle.ill_grammar.specs.LeafTypes.{leaf_is}
 use Rattle.ill_read.proofs.ProfileOfPath.{content_two}
 use Rattle.ill_walk.proofs.value.put_value.Goals as goal

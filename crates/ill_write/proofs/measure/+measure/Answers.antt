@@ -1,6 +1,6 @@
 use Rattle.std.proofs.Common.{rules, ◌≡◌, ◌+◌, ◌≤◌, length, [], ◌∷◌, ◌++◌, Some, None, sym, ap, ◌∙◌, subst, arith, slice_get, append-nil}
 use Rattle.ber_core.specs.Der.{size, sizes}
-use Rattle.ber_core.specs.Tree.{constructed, more, none}
+use Rattle.ber_tree.specs.Tree.{constructed, more, none}
 use Rattle.ber_leaf.specs.Profile.{profile_two}
 use Rattle.ber_leaf.specs.Simple.{date, flag, printable, time, whole}
 use Rattle.ber_leaf.specs.Strings.{string_value}

@@ -1,6 +1,6 @@
 use Rattle.std.proofs.Common.{◌++◌, subst, length, false, append_assoc}
-use Rattle.ber_core.specs.Identifier.{identifier}
-use Rattle.ber_core.specs.Length.{shortest_length}
+use Rattle.ber_tree.specs.Identifier.{identifier}
+use Rattle.ber_tree.specs.Length.{shortest_length}
 use Rattle.ill_schema.specs.Elements.{tag_at}
 use Rattle.ill_write.specs.code.Puts.{Puts}
 use Rattle.ill_write.proofs.Putting.{puts_then, puts_failed, as_failed}

@@ -1,5 +1,5 @@
 use Rattle.std.proofs.Common.{rules, ◌≡◌, ◌+◌, ◌≤◌, ◌++◌, length, slice_get, IfOk, Ok, Some, None, [], refl, sym, ap, subst, ◌∙◌, arith, drop}
-use Rattle.ber_core.specs.Tree.{constructed, more, none}
+use Rattle.ber_tree.specs.Tree.{constructed, more, none}
 use Rattle.ber_leaf.specs.Simple.{date, flag, printable, time, whole}
 use Rattle.ber_leaf.specs.Strings.{string_value}
 use Rattle.ill_schema.specs.Value.{content_of, entries_content, items_content}

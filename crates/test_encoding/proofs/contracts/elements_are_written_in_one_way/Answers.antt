@@ -1,6 +1,6 @@
 use Rattle.std.proofs.Common.{◌≡◌, [], ◌∷◌, ◌++◌, length, sym, ap, ◌∙◌, append_assoc, rules}
 use Rattle.ber_core.specs.Id.{tag_of_id, form_of_id, id_octets}
-use Rattle.ber_core.specs.Length.{shortest_length}
+use Rattle.ber_tree.specs.Length.{shortest_length}
 use Rattle.test_encoding.proofs.contracts.elements_are_written_in_one_way.Goals as goal
 
 pub returns-clause-pieces : goal.returns-clause-pieces

@@ -2,7 +2,7 @@ use Rattle.std.proofs.Common.{◌<◌, ℕ, List, get_or, ap, ◌∙◌, arith, 
 use Rattle.std.specs.Int.{from_be_bytes, cast_signed}
 use Rattle.std.proofs.lemmas.Int.{to_z-of_z}
 use Rattle.ber_leaf.proofs.Integers.{extended_value}
-use Rattle.ber_core.proofs.Octets.{octets_fit}
+use Rattle.ber_tree.proofs.Octets.{octets_fit}
 use Rattle.ber_leaf.proofs.integer.Whole.read.Goals as goal
 
 pub returns : goal.returns

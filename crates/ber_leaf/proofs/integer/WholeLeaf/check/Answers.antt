@@ -2,7 +2,7 @@ use Rattle.std.proofs.Common.{◌≡◌, ◌<◌, get_or, Some, arith, rules}
 use Rattle.ber_leaf.specs.declared.fault.LeafFault.{LeafFault}
 use Rattle.ber_leaf.specs.Leaf.{integer, content_fault}
 use Rattle.ber_leaf.specs.Profile.{profile_two}
-use Rattle.ber_core.proofs.Octets.{octets_fit}
+use Rattle.ber_tree.proofs.Octets.{octets_fit}
 use Rattle.ber_leaf.proofs.Leaves.{exact}
 use Rattle.ber_leaf.proofs.integer.WholeLeaf.check.Goals as goal
 

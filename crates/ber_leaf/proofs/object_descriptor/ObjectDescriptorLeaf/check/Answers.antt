@@ -1,6 +1,6 @@
 use Rattle.std.proofs.Common.{◌<◌, get_or, None, refl, arith}
 use Rattle.ber_leaf.specs.Leaf.{object_descriptor}
-use Rattle.ber_core.proofs.Octets.{octets_fit}
+use Rattle.ber_tree.proofs.Octets.{octets_fit}
 use Rattle.ber_leaf.proofs.Leaves.{exact}
 use Rattle.ber_leaf.proofs.object_descriptor.ObjectDescriptorLeaf.check.Goals as goal
 

@@ -1,6 +1,6 @@
 use Rattle.std.proofs.Common.{◌<◌, get_or, None, refl, arith}
 use Rattle.ber_leaf.specs.Leaf.{octet_string}
-use Rattle.ber_core.proofs.Octets.{octets_fit}
+use Rattle.ber_tree.proofs.Octets.{octets_fit}
 use Rattle.ber_leaf.proofs.Leaves.{exact}
 use Rattle.ber_leaf.proofs.octet_string.OctetStringLeaf.check.Goals as goal
 

@@ -1,5 +1,5 @@
 use Rattle.std.proofs.Common.{sym, ◌∙◌}
-use Rattle.ber_core.specs.Identifier.{identifier}
+use Rattle.ber_tree.specs.Identifier.{identifier}
 use Rattle.der_buffer.proofs.OpenElements.{closed_element}
 use Rattle.der_buffer.proofs.der_buffer.DerBuffer.close.Goals as goal
 

@@ -1,7 +1,7 @@
 use Rattle.std.proofs.Common.{◌≡◌, ◌<◌, get_or, IsTrue, ap, ◌∙◌, arith}
-use Rattle.ber_core.specs.Octets.{are_octets}
+use Rattle.ber_tree.specs.Octets.{are_octets}
 use Rattle.ber_core.specs.declared.header.Len.TheVariants.{Definite}
-use Rattle.ber_core.proofs.Octets.{octets_fit}
+use Rattle.ber_tree.proofs.Octets.{octets_fit}
 use Rattle.ill_schema.specs.Profiles.{profile_of}
 use Rattle.ill_refusals.specs.Fault.{cut_fault}
 use Rattle.ber_core.specs.declared.header_read.LengthRead.TheVariants.{Whole}

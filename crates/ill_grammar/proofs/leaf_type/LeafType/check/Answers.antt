@@ -3,8 +3,8 @@ use Rattle.std.specs.List.{list_all}
 use Rattle.ber_leaf.specs.Leaf.{content_fault}
 use Rattle.ber_leaf.specs.declared.fault.LeafFault.{LeafFault}
 use Rattle.ill_schema.specs.Profiles.{general_of, profile_of}
-use Rattle.ill_schema.specs.declared.profile.Profile.{Profile as Named}
-use Rattle.ill_schema.specs.declared.profile.Profile.TheVariants.{Module}
+use Rattle.ill_tables.specs.declared.profile.Profile.{Profile as Named}
+use Rattle.ill_tables.specs.declared.profile.Profile.TheVariants.{Module}
 use Rattle.ill_grammar.specs.LeafTypes.{leaf_is}
 use Rattle.ill_grammar.specs.declared.leaf_type.LeafType.{LeafType}
 use Rattle.ill_grammar.specs.declared.leaf_type.LeafType.TheVariants.{General}

@@ -1,5 +1,5 @@
 use Rattle.std.proofs.Common.{◌<◌, get_or, arith}
-use Rattle.ber_core.proofs.Octets.{octets_fit}
+use Rattle.ber_tree.proofs.Octets.{octets_fit}
 use Rattle.ill_grammar.proofs.leaf_type.ModuleLeaf.fault.Goals as goal
 
 pub returns-clause-octets : goal.returns-clause-octets

@@ -1,5 +1,5 @@
 use Rattle.std.proofs.Common.{◌∙◌, ◌++◌, Ok, Err, sym}
-use Rattle.ill_schema.specs.declared.profile.Profile.TheVariants.{Two}
+use Rattle.ill_tables.specs.declared.profile.Profile.TheVariants.{Two}
 use Rattle.ill_read.specs.Paths.{AreMessage, AreValues, HoldsAt}
 use Rattle.ill_read.specs.declared.decoder.Decoder.{Decoder}
 use Rattle.ill_read.specs.declared.decoder.Progress.{Progress}

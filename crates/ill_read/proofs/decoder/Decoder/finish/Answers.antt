@@ -1,5 +1,5 @@
 use Rattle.std.proofs.Common.{◌∙◌, Ok, sym, ap}
-use Rattle.ill_schema.specs.declared.profile.Profile.TheVariants.{Two}
+use Rattle.ill_tables.specs.declared.profile.Profile.TheVariants.{Two}
 use Rattle.ill_read.proofs.MessageEnds.{ended_whole, ended_none, ended_failed}
 use Rattle.ill_read.proofs.decoder.Decoder.finish.Goals as goal
 

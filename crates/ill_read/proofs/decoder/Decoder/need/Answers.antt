@@ -1,4 +1,4 @@
-use Rattle.ill_schema.specs.declared.profile.Profile.TheVariants.{Two}
+use Rattle.ill_tables.specs.declared.profile.Profile.TheVariants.{Two}
 use Rattle.ill_read.proofs.decoder.Decoder.need.Goals as goal
 
 pub returns-clause-some : goal.returns-clause-some

@@ -1,7 +1,7 @@
 use Rattle.ill_schema.specs.Profiles.{profile_of}
 use Rattle.std.proofs.Common.{◌≡◌, ◌<◌, Bool, Result, get_or, length, IsTrue, Ok, Err, drop, sym, ap, subst, ◌∙◌, arith, inl}
-use Rattle.ber_core.specs.Octets.{are_octets}
-use Rattle.ber_core.proofs.Octets.{octets_fit}
+use Rattle.ber_tree.specs.Octets.{are_octets}
+use Rattle.ber_tree.proofs.Octets.{octets_fit}
 use Rattle.ill_schema.specs.declared.refusal.Cause.{Cause}
 use Rattle.ill_schema.specs.declared.refusal.Refusal.{Refusal}
 use Rattle.ill_read.specs.Answers.{NormalAnswersIn}

@@ -1,6 +1,6 @@
 use Rattle.std.proofs.Common.{◌≡◌, ◌∙◌, [], ◌∷◌, ◌++◌, false, refl, ap, sym}
 use Rattle.ber_core.specs.Id.{id_octets, tag_of_id}
-use Rattle.ber_core.specs.Identifier.{HasIdentifier, identifier}
+use Rattle.ber_tree.specs.Identifier.{HasIdentifier, identifier}
 use Rattle.ill_grammar.specs.Due.{read_as}
 use Rattle.ill_grammar.specs.declared.element.Element.TheVariants.{BitSegment, BitString}
 use Rattle.ill_read.specs.code.OctetDrafts.{form_of}

@@ -1,7 +1,7 @@
 use Rattle.std.proofs.Common.{◌∙◌, ◌++◌, [], true, false, Bool, List, ℕ, append-nil, sym, ap, subst}
 use Rattle.ber_core.specs.Der.{encoding}
 use Rattle.ber_core.specs.Id.{tag_of_id}
-use Rattle.ber_core.specs.Tree.{primitive}
+use Rattle.ber_tree.specs.Tree.{primitive}
 use Rattle.ber_leaf.specs.Leaf.{normal_content, value}
 use Rattle.ill_grammar.specs.Places.{alternative_of}
 use Rattle.ill_grammar.specs.Due.{IsDueIn, shape, slot_in}

@@ -1,7 +1,7 @@
 use Rattle.std.proofs.Common.{◌≡◌, ◌∙◌, ◌++◌, None, sym, ap, subst}
 use Rattle.ber_core.specs.Der.{encoding}
 use Rattle.ber_core.specs.Id.{tag_of_id}
-use Rattle.ber_core.specs.Tree.{primitive}
+use Rattle.ber_tree.specs.Tree.{primitive}
 use Rattle.ber_leaf.specs.Bits.{cleared_content}
 use Rattle.ber_leaf.specs.Segments.{join_bits}
 use Rattle.ill_refusals.specs.Fault.{element_fault}

@@ -1,6 +1,6 @@
 use Rattle.std.proofs.Common.{◌≡◌, ◌∙◌, refl, true, false, ap, subst, sym}
 use Rattle.ber_core.specs.Id.{id_octets, tag_of_id}
-use Rattle.ber_core.specs.Identifier.{HasIdentifier, identifier}
+use Rattle.ber_tree.specs.Identifier.{HasIdentifier, identifier}
 use Rattle.ill_grammar.specs.Due.{read_as, shape}
 use Rattle.ill_read.specs.code.OctetDrafts.{form_of}
 use Rattle.ill_grammar.specs.declared.element.Element.{Element as CodeElement}

@@ -1,6 +1,6 @@
 use Rattle.std.proofs.Common.{◌∙◌, ap, sym}
 use Rattle.ber_core.specs.Id.{id_octets, tag_of_id}
-use Rattle.ber_core.specs.Identifier.{identifier}
+use Rattle.ber_tree.specs.Identifier.{identifier}
 use Rattle.ill_grammar.specs.Due.{read_as, shape}
 use Rattle.ill_read.proofs.OctetDrafts.{not_bit_segment, not_bit_string, not_segment, octets_opened, usual_form}
 use Rattle.ill_read.proofs.normal_form_draft.NormalFormDraftDraft.open_usual.Goals as goal

@@ -6,7 +6,7 @@ use Rattle.ill_grammar.specs.declared.element.Element.{Element as CodeElement}
 use Rattle.ill_grammar.specs.declared.element.Element.TheVariants.{Foreign}
 use Rattle.ill_read.specs.code.Drafts.{IsDueAt}
 use Rattle.ill_read.specs.code.Outlines.{first_marks}
-use Rattle.ill_read.specs.declared.mark.Mark.TheVariants as mark
+use Rattle.ill_grammar.specs.declared.outline.Mark.TheVariants as mark
 use Rattle.ill_read.specs.declared.outline_draft.OutlineDraft.{OutlineDraft}
 use Rattle.ill_read.proofs.Outlines.{foreign_led, module_marks, octets_joined, outline_element}
 use Rattle.ill_read.proofs.outline_draft.OutlineDraftDraft.module_element.Goals as goal

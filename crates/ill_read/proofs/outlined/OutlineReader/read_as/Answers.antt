@@ -3,7 +3,7 @@ use Rattle.std.specs.Io.KnownBytes.{Appends}
 use Rattle.ill_schema.specs.Apdu.{choice_of}
 use Rattle.ill_schema.specs.Profiles.{profile_of}
 use Rattle.ill_read.specs.Answers.{ReadsNextIn}
-use Rattle.ill_read.specs.Outline.{IsMarked}
+use Rattle.ill_grammar.specs.Outline.{IsMarked}
 use Rattle.ill_read.specs.Outlined.{IsOutlinedIn}
 use Rattle.ill_read.specs.code.Outlines.{HasOutline}
 use Rattle.ill_read.specs.code.ReaderCode.{IsReadOf}

@@ -1,6 +1,6 @@
 use Rattle.std.proofs.Common.{◌<◌, IsTrue, get_or, ap, sym, subst, arith, ◌∙◌}
-use Rattle.ber_core.specs.Octets.{are_octets}
-use Rattle.ber_core.proofs.Octets.{octets_fit}
+use Rattle.ber_tree.specs.Octets.{are_octets}
+use Rattle.ber_tree.proofs.Octets.{octets_fit}
 use Rattle.ill_refusals.specs.Fault.{element_fault}
 use Rattle.ill_schema.specs.Profiles.{profile_of}
 use Rattle.ill_grammar.specs.Due.{read_as, shape}

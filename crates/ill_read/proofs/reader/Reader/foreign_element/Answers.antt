@@ -6,9 +6,9 @@ use Rattle.ill_read.proofs.ProfileOfPath.{headed_in, stands_at}
 use Rattle.std.proofs.lemmas.List.{take-append-drop}
 use Rattle.std.proofs.Common.{◌≡◌, ◌<◌, ◌++◌, ◌∙◌, take, drop, get_or, length, Ok, IsTrue, subst, sym, arith}
 use Rattle.ber_core.specs.Id.{tag_of_id, form_of_id}
-use Rattle.ber_core.specs.Identifier.{identifier}
-use Rattle.ber_core.specs.Octets.{are_octets}
-use Rattle.ber_core.proofs.Octets.{octets_fit}
+use Rattle.ber_tree.specs.Identifier.{identifier}
+use Rattle.ber_tree.specs.Octets.{are_octets}
+use Rattle.ber_tree.proofs.Octets.{octets_fit}
 use Rattle.ill_refusals.specs.Fault.{cut_fault}
 use Rattle.ber_core.proofs.ReadOctets.{octets_right, read_is_identifier, read_is_indefinite}
 use Rattle.ber_core.specs.declared.header.Len.TheVariants.{Indefinite}

@@ -1,4 +1,4 @@
-use Rattle.ill_schema.specs.declared.profile.Profile.{Profile as Named}
+use Rattle.ill_tables.specs.declared.profile.Profile.{Profile as Named}
 use Rattle.std.proofs.Common.{Some, sym, subst}
 use Rattle.ill_refusals.specs.Fault.{fault, fault_at}
 use Rattle.ill_refusals.specs.Place.{IsPlace}

@@ -1,7 +1,7 @@
 use Rattle.std.proofs.Common.{◌≡◌, ℕ, ◌+◌, ◌-◌, ◌*◌, ◌≤◌, List, length, drop}
 use Rattle.ill_read.specs.code.ReaderCode.{IsRunning}
 use Rattle.ill_grammar.specs.Standing.{depth_of}
-use Rattle.ill_schema.specs.declared.profile.Profile.{Profile as Named}
+use Rattle.ill_tables.specs.declared.profile.Profile.{Profile as Named}
 use Rattle.ill_read.proofs.reader.Reader.read_elements.Given as goal
 
 abbrev pub invariant-loop-size : goal.invariant-loop-size

@@ -1,7 +1,7 @@
 use Rattle.std.proofs.Common.{◌≡◌, ◌<◌, ◌-◌, ◌++◌, [], drop, take, length, get_or, Vec, Global, ℕ, IsTrue, true, false, sym, subst, ap, ◌∙◌, arith}
 use Rattle.std.proofs.lemmas.List.{length-drop, nil_from_length, take_all}
-use Rattle.ber_core.specs.Octets.{are_octets}
-use Rattle.ber_core.proofs.Octets.{octets_fit}
+use Rattle.ber_tree.specs.Octets.{are_octets}
+use Rattle.ber_tree.proofs.Octets.{octets_fit}
 use Rattle.ill_read.specs.code.ReaderCode.{HasStopped, IsRunning}
 use Rattle.ill_read.specs.declared.reader.State.TheVariants.{Open}
 use Rattle.ill_read.proofs.MessageEnds.{running_longer, ended_longer}

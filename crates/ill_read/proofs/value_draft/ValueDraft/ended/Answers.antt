@@ -1,5 +1,5 @@
 use Rattle.std.proofs.Common.{◌∙◌, ℕ, Global, Vec, refl, sym, subst, ap}
-use Rattle.ill_schema.specs.declared.profile.Profile.TheVariants.{Two}
+use Rattle.ill_tables.specs.declared.profile.Profile.TheVariants.{Two}
 use Rattle.ill_read.proofs.ProfileOfPath.{content_two}
 use Rattle.ill_grammar.specs.LeafTypes.{IsContentIn, leaf_is}
 use Rattle.ill_read.proofs.ValueDrafts.{list_ends, wrapper_ends, loose_wrapper_ends, string_ends}

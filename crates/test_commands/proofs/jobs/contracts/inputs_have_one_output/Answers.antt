@@ -1,6 +1,6 @@
 use Rattle.std.proofs.Common.{ℕ, Bool, List, Some, Result, sym, subst}
 use Rattle.std.specs.Prelude.{IfErr, IfOk}
-use Rattle.ill_schema.specs.declared.profile.Profile.{Profile as Named}
+use Rattle.ill_tables.specs.declared.profile.Profile.{Profile as Named}
 use Rattle.ill_normal.specs.Calls.{taking, putting}
 use Rattle.ill_commands.specs.Runs.{JobDone, JobFails}
 use Rattle.ill_inputs.specs.declared.run_fault.RunFault.{RunFault}

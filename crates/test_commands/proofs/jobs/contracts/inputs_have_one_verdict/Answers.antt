@@ -1,6 +1,6 @@
 use Rattle.std.proofs.Common.{◌≡◌, ◌++◌, ℕ, [], Bool, true, false, List, Option, Some, Result, Ok, IfOk, sym, ap, subst, ◌∙◌, append-nil}
 use Rattle.ill_schema.specs.Profiles.{profile_of}
-use Rattle.ill_schema.specs.declared.profile.Profile.{Profile as Named}
+use Rattle.ill_tables.specs.declared.profile.Profile.{Profile as Named}
 use Rattle.ill_normal.specs.Messages.{AreSpelledIn, Spelling}
 use Rattle.ill_inputs.specs.Hexadecimal.{hex_octets}
 use Rattle.ill_normal.specs.Calls.{taking, putting}

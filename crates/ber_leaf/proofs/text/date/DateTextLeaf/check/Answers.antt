@@ -1,7 +1,7 @@
 use Rattle.std.proofs.Common.{◌≡◌, ◌<◌, get_or, arith, rules}
 use Rattle.ber_leaf.specs.Leaf.{iso_date, content_fault}
 use Rattle.ber_leaf.specs.Profile.{profile_two}
-use Rattle.ber_core.proofs.Octets.{octets_fit}
+use Rattle.ber_tree.proofs.Octets.{octets_fit}
 use Rattle.ber_leaf.proofs.Leaves.{exact}
 use Rattle.ber_leaf.proofs.text.date.DateTextLeaf.check.Goals as goal
 

@@ -1,0 +1,4 @@
+pub mod Octets
+pub mod Identifier
+pub mod Length
+pub mod Tree

@@ -1,0 +1,159 @@
+//! Output of one input.
+use crate::put_inputs::{NamedInput, PutInputs};
+use crate::refused::{KeepRefused, OtherFiles, close_refused, open_refused};
+use crate::tally::Tally;
+use ill_files::{
+    FileId, Host, InputSource, Output, OutputOf, ProgramError, Shared, close_output, keeps_output,
+    open_and_identify, open_output, open_standard_output,
+};
+use ill_inputs::Verdict;
+use std::io::{Read, Write};
+use std::rt::Files;
+
+/// Writes what is made of one input to a file, prints the line of the error, and returns the exit status. The octets of refused messages go
+/// to the file of the name `refused`, if it is given.
+///
+/// ```
+/// let status = write_one(rt, action, "message.ber", "message.der", false, None, &mut tally);
+/// ```
+pub fn write_one<R: Print + Eprint + Input + Files + AllocGlobal + Host, A: PutInputs>(
+    rt: &R,
+    action: A,
+    input: &str,
+    output: &str,
+    whole: bool,
+    refused: Option<&str>,
+    tally: &mut Tally<'_>,
+) -> u8 {
+    let kept = Output::new();
+    let others = OtherFiles {
+        inputs: &[input.as_bytes()],
+        list: None,
+        output,
+    };
+    let file = match open_refused(rt, refused, others, &kept) {
+        Ok(file) => file,
+        Err(error) => return tally.end(rt, &Err(error)),
+    };
+    let to = file.is_some().then_some(&kept);
+    tally.progress.expect(rt, others.inputs);
+    let named = NamedInput {
+        name: input,
+        count: 1,
+    };
+    let done = write_input(rt, action, named, input, output, whole, to, tally);
+    tally.add_end(rt, input.as_bytes(), &done);
+    let status = tally.end(rt, &done);
+    close_refused(rt, file, &kept, tally, status)
+}
+
+/// Prints what is made of the input of this name.
+pub(crate) fn print_input<R: Print + Eprint + Input + Files + AllocGlobal + Host, A: PutInputs>(
+    rt: &R,
+    action: A,
+    input: NamedInput<'_>,
+    file: &str,
+    kept: Option<&OutputOf<'_, R>>,
+    tally: &mut Tally<'_>,
+) -> Result<Verdict, ProgramError> {
+    let output = Output::new();
+    let done = put_input(rt, action, input, file, &output, kept, tally);
+    output.finish(done)
+}
+
+/// Opens the input of this name, and then standard output, and writes what is made of the input. Results of lines can be lines themselves, so
+/// that they don't go to the file that they are read of.
+fn put_input<'r, R: Print + Eprint + Input + Files + AllocGlobal + Host, A: PutInputs>(
+    rt: &'r R,
+    action: A,
+    input: NamedInput<'_>,
+    file: &str,
+    output: &OutputOf<'r, R>,
+    kept: Option<&OutputOf<'_, R>>,
+    tally: &mut Tally<'_>,
+) -> Result<Verdict, ProgramError> {
+    let (mut source, read) = open_and_identify(rt, file, output, tally.progress)?;
+    if action.is_by_line() && read.is_some() && read == FileId::of_standard_output(rt) {
+        return Err(ProgramError::SameFile);
+    }
+    open_standard_output(rt, output)?;
+    put_all(rt, action, input, &mut source, output, kept, tally)
+}
+
+/// Writes what is made of the input of this name to an output. This is opened only once the input is, and only if it isn't the same file. It is
+/// replaced as [`keeps_output`] says.
+pub(crate) fn write_input<R: Print + Eprint + Input + Files + AllocGlobal + Host, A: PutInputs>(
+    rt: &R,
+    action: A,
+    input: NamedInput<'_>,
+    file: &str,
+    name: &str,
+    whole: bool,
+    kept: Option<&OutputOf<'_, R>>,
+    tally: &mut Tally<'_>,
+) -> Result<Verdict, ProgramError> {
+    let written = FileId::of_output(rt, name);
+    let output = Output::new();
+    let (mut source, read) = open_and_identify(rt, file, &output, tally.progress)?;
+    if read.is_some() && read == written {
+        return Err(ProgramError::SameFile);
+    }
+    replace_output(
+        rt,
+        action,
+        input,
+        &mut source,
+        &output,
+        name,
+        whole,
+        kept,
+        tally,
+    )
+}
+
+/// Opens an output, writes what is made of an input, and closes it.
+fn replace_output<'o, 'r: 'o, R: Print + Eprint + Input + Files + AllocGlobal + Host, A: PutInputs>(
+    rt: &'r R,
+    action: A,
+    input: NamedInput<'_>,
+    source: &mut InputSource<'o, 'r, R>,
+    output: &'o OutputOf<'r, R>,
+    name: &str,
+    whole: bool,
+    kept: Option<&OutputOf<'_, R>>,
+    tally: &mut Tally<'_>,
+) -> Result<Verdict, ProgramError> {
+    let destination = open_output(rt, output, name, whole)?;
+    let done = put_all(rt, action, input, source, output, kept, tally);
+    let keep = keeps_output(whole, &done);
+    close_output(rt, output, destination, name, keep, done)
+}
+
+/// Writes what is made of an input, and counts its messages. The octets of those that are refused go to `kept`, if there is such an output.
+pub(crate) fn put_all<
+    'o,
+    R,
+    A: PutInputs,
+    I: Read,
+    J: Read,
+    S: Write + Drop,
+    F: Write + Drop,
+    P,
+    Q,
+>(
+    rt: &R,
+    action: A,
+    input: NamedInput<'_>,
+    source: &mut Shared<'o, I, J, S, F>,
+    output: &'o Output<S, F>,
+    kept: Option<&Output<P, Q>>,
+    tally: &mut Tally<'_>,
+) -> Result<Verdict, ProgramError>
+where
+    R: Eprint + AllocGlobal,
+    P: Write + Drop,
+    Q: Write + Drop,
+{
+    tally.add_file();
+    action.put(rt, input, source, output, KeepRefused::to(kept), tally)
+}

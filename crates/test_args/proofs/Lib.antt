@@ -1,0 +1,2 @@
+pub mod OneOrder
+pub mod Profiles

@@ -1,0 +1,232 @@
+//! Orders that words give.
+mod contracts;
+
+use clap::error::ErrorKind;
+use ill_args::{LineFault, Order, Task, order};
+use ill_tables::Profile;
+use std::alloc::{AllocError, Global};
+use std::test::Fail;
+
+/// The flags of an order, in the order `--hex`, `--lines`, `--keep-going`, `--json`, `--summary`, `--whole`, `-H`.
+type Flags = [bool; 7];
+
+/// Words after the program's name, and the flags that they set.
+static ROWS: [(&str, Flags); 11] = [
+    ("check A", [false, false, false, false, false, false, false]),
+    (
+        "check --hex A",
+        [true, false, false, false, false, false, false],
+    ),
+    (
+        "check --lines A",
+        [false, true, false, false, false, false, false],
+    ),
+    (
+        "check --keep-going A",
+        [false, false, true, false, false, false, false],
+    ),
+    (
+        "show --json A",
+        [false, false, false, true, false, false, false],
+    ),
+    (
+        "check --summary A",
+        [false, false, false, false, true, false, false],
+    ),
+    (
+        "dump --hex A",
+        [true, false, false, false, false, false, false],
+    ),
+    (
+        "digest -H A",
+        [false, false, false, false, false, false, true],
+    ),
+    (
+        "show --with-filename A",
+        [false, false, false, false, false, false, true],
+    ),
+    (
+        "canonicalise --lines A B",
+        [false, true, false, false, false, false, false],
+    ),
+    (
+        "canonicalise --whole A B",
+        [false, false, false, false, false, true, false],
+    ),
+];
+
+/// Each command, and words for its files.
+static COMMANDS: [(&str, &str); 7] = [
+    ("show", "A"),
+    ("check", "A"),
+    ("digest", "A"),
+    ("dump", "A"),
+    ("same", "A B"),
+    ("canonicalise", "A B"),
+    ("canonicalise", "-o B A"),
+];
+
+/// The program's name, and words that are parted by blanks.
+fn words_of(alloc: Global, text: &str) -> Result<Vec<String>, AllocError> {
+    let mut words = Vec::new(alloc);
+    words.push(String::from_str(alloc, "illcanon")?)?;
+    for word in text.split(' ') {
+        words.push(String::from_str(alloc, word)?)?;
+    }
+    Ok(words)
+}
+
+fn flags_of(order: &Order<'_>) -> Flags {
+    [
+        order.hex,
+        order.lines,
+        order.keep_going,
+        order.json,
+        order.summary,
+        order.whole,
+        order.with_filename,
+    ]
+}
+
+/// Tells whether words set these flags and no others.
+fn are_set(alloc: Global, words: &str, flags: Flags) -> Result<bool, AllocError> {
+    let words = words_of(alloc, words)?;
+    match order(alloc, &words) {
+        Ok(order) => Ok(flags_of(&order) == flags),
+        Err(_fault) => Ok(false),
+    }
+}
+
+/// The profile of the order that words give, if they give one.
+fn profile_of(alloc: Global, words: &str) -> Result<Option<Profile>, AllocError> {
+    let words = words_of(alloc, words)?;
+    match order(alloc, &words) {
+        Ok(order) => Ok(Some(order.profile)),
+        Err(_fault) => Ok(None),
+    }
+}
+
+/// The kind of the mistake that clap reports of words, if it reports one.
+fn mistake_of(alloc: Global, words: &str) -> Result<Option<ErrorKind>, AllocError> {
+    let words = words_of(alloc, words)?;
+    match order(alloc, &words) {
+        Err(LineFault::Line(error)) => Ok(Some(error.kind())),
+        _ => Ok(None),
+    }
+}
+
+#[test]
+fn each_command_reads_each_profile(rt: HostRuntime) -> Result<(), Fail> {
+    let options = [
+        ("", Profile::Two),
+        ("--profile 2 ", Profile::Two),
+        ("--profile=2 ", Profile::Two),
+        ("--profile module ", Profile::Module),
+        ("--profile=module ", Profile::Module),
+    ];
+    for (command, files) in &COMMANDS {
+        for (option, profile) in &options {
+            let words = format!(in rt.alloc(); "{command} {option}{files}")?;
+            assert!(rt;
+                profile_of(rt.alloc(), &words)? == Some(*profile),
+                "{words}"
+            );
+        }
+    }
+    Ok(())
+}
+
+#[test]
+fn no_other_profile_is_read(rt: HostRuntime) -> Result<(), Fail> {
+    let options = [
+        ("--profile 3", ErrorKind::InvalidValue),
+        ("--profile Module", ErrorKind::InvalidValue),
+        ("--profile=", ErrorKind::InvalidValue),
+        ("--profile", ErrorKind::InvalidValue),
+        ("--profile --hex", ErrorKind::InvalidValue),
+        ("--profile 2 --profile 2", ErrorKind::ArgumentConflict),
+        ("--profile=2 --profile module", ErrorKind::ArgumentConflict),
+    ];
+    for (command, files) in &COMMANDS {
+        for (option, mistake) in &options {
+            let words = format!(in rt.alloc(); "{command} {files} {option}")?;
+            assert!(rt;
+                mistake_of(rt.alloc(), &words)? == Some(*mistake),
+                "{words}"
+            );
+        }
+    }
+    Ok(())
+}
+
+#[test]
+fn each_flag_goes_with_a_profile(rt: HostRuntime) -> Result<(), Fail> {
+    for (words, flags) in &ROWS {
+        let words = format!(in rt.alloc(); "{words} --profile module")?;
+        assert!(rt; are_set(rt.alloc(), &words, *flags)?, "{words}");
+        assert!(rt;
+            profile_of(rt.alloc(), &words)? == Some(Profile::Module),
+            "{words}"
+        );
+    }
+    Ok(())
+}
+
+#[test]
+fn each_flag_is_its_own(rt: HostRuntime) -> Result<(), Fail> {
+    for (words, flags) in &ROWS {
+        assert!(rt; are_set(rt.alloc(), words, *flags)?, "{words}");
+    }
+    Ok(())
+}
+
+/// Tells whether words give an order of `canonicalise` with these flags, from one word to another.
+fn gives_canonicalise(
+    alloc: Global,
+    words: &str,
+    flags: Flags,
+    from: &str,
+    to: &str,
+) -> Result<bool, AllocError> {
+    let words = words_of(alloc, words)?;
+    match order(alloc, &words) {
+        Ok(order) => Ok(
+            flags_of(&order) == flags
+                && matches!(order.task, Task::Canonicalise { input, output } if input == from && output == to),
+        ),
+        Err(_fault) => Ok(false),
+    }
+}
+
+#[test]
+fn canonicalise_has_its_flags_and_files(rt: HostRuntime) -> Result<(), Fail> {
+    let hex = [true, false, false, false, false, false, false];
+    assert!(rt; gives_canonicalise(rt.alloc(), "canonicalise --hex - -", hex, "-", "-")?);
+    Ok(())
+}
+
+/// Tells whether words are refused for the same word.
+fn is_same_word(alloc: Global, words: &str) -> Result<bool, AllocError> {
+    let words = words_of(alloc, words)?;
+    Ok(matches!(order(alloc, &words), Err(LineFault::SameWord)))
+}
+
+#[test]
+fn only_two_commands_have_the_same_word(rt: HostRuntime) -> Result<(), Fail> {
+    assert!(rt; is_same_word(rt.alloc(), "same - -")?);
+    assert!(rt; is_same_word(rt.alloc(), "canonicalise A A")?);
+    for words in ["show - -", "canonicalise - -", "canonicalise -o A A"] {
+        assert!(rt; !is_same_word(rt.alloc(), words)?, "{words}");
+    }
+    Ok(())
+}
+
+#[test]
+fn only_files_are_replaced_as_a_whole(rt: HostRuntime) -> Result<(), Fail> {
+    for words in ["canonicalise --whole A -", "canonicalise --whole -o - A"] {
+        let words = words_of(rt.alloc(), words)?;
+        let is_refused = matches!(order(rt.alloc(), &words), Err(LineFault::WholeNeedsFile));
+        assert!(rt; is_refused, "{words:?}");
+    }
+    Ok(())
+}
