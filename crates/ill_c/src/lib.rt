@@ -16,8 +16,6 @@ mod profile;
 mod put;
 mod refusal;
 mod status;
-#[cfg(test)]
-mod tests;
 mod verdict;
 mod version;
 mod whole;
