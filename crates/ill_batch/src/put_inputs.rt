@@ -14,7 +14,7 @@ pub struct NamedInput<'a> {
     pub count: usize,
 }
 
-/// A document that the results of all inputs are parts of.
+/// A document that holds the results of all inputs.
 #[derive(Clone, Copy)]
 pub struct Document {
     /// The text before the results.
@@ -23,7 +23,7 @@ pub struct Document {
     pub end: &'static str,
 }
 
-/// Writes what a command makes of each of its inputs.
+/// Writes the results of a command for each of its inputs.
 pub trait PutInputs: Copy {
     /// Tells whether the lines of results are JSON.
     fn is_json(&self) -> bool;
@@ -34,7 +34,7 @@ pub trait PutInputs: Copy {
     /// Tells whether there is a result for each line of an input.
     fn is_by_line(&self) -> bool;
 
-    /// The document that the results are parts of; None where there is none.
+    /// The document around the results, if there is one.
     fn document(&self) -> Option<Document>;
 
     /// Writes what is made of an input, and counts its messages. The octets of those that are refused go to `kept`.
