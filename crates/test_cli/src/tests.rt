@@ -6,6 +6,7 @@ mod json;
 mod lines;
 mod lists;
 mod names;
+mod orders;
 mod outputs;
 mod profiles;
 mod program;

@@ -10,7 +10,7 @@ use Rattle.ill_args.specs.declared.orders.FileJob.{FileJob}
 use Rattle.ill_args.specs.declared.orders.Order.{Order}
 use Rattle.ill_args.specs.declared.orders.Task.{Task}
 use Rattle.ill_args.specs.declared.orders.Verb.{Verb}
-use Rattle.test_args.specs.Tasks.{HasSameFlags, IsSameTask, named}
+use Rattle.test_cli.specs.Tasks.{HasSameFlags, IsSameTask, named}
 
 verb_is : (v w : Verb) → verb_name v ≡ verb_name w → v ≡ w
 verb_is Verb.Show Verb.Show e = refl

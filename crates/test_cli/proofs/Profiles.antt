@@ -7,7 +7,7 @@ use Rattle.ill_tables.specs.declared.profile.Profile.{Profile}
 use Rattle.ill_args.specs.CommandLine.{program}
 use Rattle.ill_args.specs.Orders.{profile_name, IsOrderOf}
 use Rattle.ill_args.specs.declared.orders.Order.{Order}
-use Rattle.test_args.proofs.OneOrder.{one_profile}
+use Rattle.test_cli.proofs.OneOrder.{one_profile}
 
 -- the value of `--profile` for the command that was found
 abbrev pub named_in : Option (Text × List Row) → Option Text
