@@ -1,81 +1,171 @@
-//! Tags that begin at the first places of a message.
+//! Elements that are due at places of a message, by the tags that lead there.
 
 mod contracts;
 
 use ber_core::{Class, Id};
 use ill_grammar::{ElementType, EntryRole, Found, Place};
 use ill_schema::{NodeId, PartId};
-use std::test::Fail;
+
+/// A tag on the way to a place: of an element that the way goes into, or of one that it passes.
+#[derive(Clone, Copy)]
+enum Step {
+    Into(Class, u32),
+    Past(Class, u32),
+}
 
 /// The element that is due with a tag.
-fn found(at: Place, class: Class, number: u32) -> Result<Found, Fail> {
-    let id = Id::new(class, true, number).ok_or("an identifier")?;
-    Ok(at.find(id).ok_or("nothing is due")?)
+fn found(at: Place, class: Class, number: u32) -> Option<Found> {
+    at.find(Id::new(class, true, number)?)
 }
 
-/// Tells whether nothing is due with a tag.
-fn is_nothing(at: Place, class: Class, number: u32) -> Result<bool, Fail> {
-    let id = Id::new(class, true, number).ok_or("an identifier")?;
-    Ok(at.find(id).is_none())
+/// The place that the tags lead to, None where one of them isn't due.
+fn place_at(way: &[Step]) -> Option<Place> {
+    let mut place = Place::top();
+    for step in way {
+        place = match *step {
+            Step::Into(class, number) => found(place, class, number)?.first(),
+            Step::Past(class, number) => found(place, class, number)?.after(),
+        };
+    }
+    Some(place)
+}
+
+/// The type of an element, its alternative, and the default of its row.
+type Description = (ElementType, Option<u8>, Option<i64>);
+
+/// A name, the way to a place, the tag of an element that is due there, and its description.
+type Row = (&'static str, &'static [Step], (Class, u32), Description);
+
+static ROWS: [Row; 6] = [
+    (
+        "Expired",
+        &[],
+        (Class::Application, 20),
+        (ElementType::LooseWrapper, Some(19), None),
+    ),
+    (
+        "Expired.protocol-version-num",
+        &[
+            Step::Into(Class::Application, 20),
+            Step::Into(Class::Universal, 16),
+        ],
+        (Class::Context, 0),
+        (ElementType::Integer, None, None),
+    ),
+    (
+        "ILL-Request.transaction-type",
+        &[
+            Step::Into(Class::Application, 1),
+            Step::Past(Class::Context, 0),
+            Step::Past(Class::Context, 1),
+            Step::Past(Class::Context, 2),
+        ],
+        (Class::Context, 5),
+        (ElementType::Enumerated, None, Some(1)),
+    ),
+    (
+        "ILL-Request.delivery-service",
+        &[
+            Step::Into(Class::Application, 1),
+            Step::Past(Class::Context, 0),
+            Step::Past(Class::Context, 1),
+            Step::Past(Class::Context, 2),
+            Step::Past(Class::Context, 5),
+        ],
+        (Class::Context, 7),
+        (ElementType::Wrapper, Some(0), None),
+    ),
+    (
+        "its physical-delivery",
+        &[
+            Step::Into(Class::Application, 1),
+            Step::Past(Class::Context, 0),
+            Step::Past(Class::Context, 1),
+            Step::Past(Class::Context, 2),
+            Step::Past(Class::Context, 5),
+            Step::Into(Class::Context, 7),
+        ],
+        (Class::Universal, 26),
+        (ElementType::Visible, None, None),
+    ),
+    (
+        "a segment of that",
+        &[
+            Step::Into(Class::Application, 1),
+            Step::Past(Class::Context, 0),
+            Step::Past(Class::Context, 1),
+            Step::Past(Class::Context, 2),
+            Step::Past(Class::Context, 5),
+            Step::Into(Class::Context, 7),
+            Step::Into(Class::Universal, 26),
+        ],
+        (Class::Universal, 4),
+        (ElementType::Segment, None, None),
+    ),
+];
+
+/// The description of the element that is due with a tag where a way leads.
+fn described(way: &[Step], (class, number): (Class, u32)) -> Option<Description> {
+    let found = found(place_at(way)?, class, number)?;
+    Some((
+        found.element_type(),
+        found.alternative(),
+        found.default_value(),
+    ))
 }
 
 #[test]
-fn a_message_begins_with_an_apdu(rt: HostRuntime) -> Result<(), Fail> {
-    let expired = found(Place::top(), Class::Application, 20)?;
-    assert!(rt;
-        expired.element_type() == ElementType::LooseWrapper
-            && expired.node() == NodeId::Expired
-            && expired.slot() == EntryRole::Inner
-            && expired.alternative() == Some(19)
-    );
-    assert!(rt; Place::top().is_missing() && !expired.after().is_missing());
-    assert!(rt; is_nothing(Place::top(), Class::Context, 20)?);
-    Ok(())
+fn elements_are_due_as_the_rows_say(rt: HostRuntime) {
+    for (name, way, tag, description) in &ROWS {
+        assert!(rt; described(way, *tag) == Some(*description), "{name}");
+    }
+}
+
+/// Tells whether an element is due with a tag where a way leads.
+fn is_due(way: &[Step], class: Class, number: u32) -> bool {
+    place_at(way).is_some_and(|place| found(place, class, number).is_some())
 }
 
 #[test]
-fn rows_come_in_order(rt: HostRuntime) -> Result<(), Fail> {
-    let expired = found(Place::top(), Class::Application, 20)?;
-    let sequence = found(expired.first(), Class::Universal, 16)?;
-    let first = found(sequence.first(), Class::Context, 0)?;
-    assert!(rt; first.element_type() == ElementType::Integer);
-    assert!(rt; is_nothing(sequence.first(), Class::Context, 1)?);
+fn no_other_tag_is_due(rt: HostRuntime) {
+    let body = [
+        Step::Into(Class::Application, 20),
+        Step::Into(Class::Universal, 16),
+    ];
+    assert!(rt; !is_due(&[], Class::Context, 20) && !is_due(&body, Class::Context, 1));
+}
+
+/// Tells whether an element is the body of an APDU.
+fn is_body(found: Option<Found>, node: NodeId) -> bool {
+    found.is_some_and(|found| found.node() == node && found.slot() == EntryRole::Inner)
+}
+
+#[test]
+fn a_message_begins_with_an_apdu(rt: HostRuntime) {
+    let expired = found(Place::top(), Class::Application, 20);
+    assert!(rt; is_body(expired, NodeId::Expired) && Place::top().is_missing());
+}
+
+/// The part that is missing where a way leads.
+fn missing_at(way: &[Step]) -> Option<PartId> {
+    place_at(way)?.missing()
+}
+
+#[test]
+fn rows_come_in_order(rt: HostRuntime) {
     let part = PartId {
         node: NodeId::Expired,
         row: 1,
     };
-    let bare = found(expired.first(), Class::Context, 0)?;
-    assert!(rt; first.after().missing() == Some(part) && bare.after().missing() == Some(part));
-    Ok(())
-}
-
-/// The transaction type of an ILL-Request.
-fn transaction_type() -> Result<Found, Fail> {
-    let request = found(Place::top(), Class::Application, 1)?;
-    let version = found(request.first(), Class::Context, 0)?;
-    let transaction = found(version.after(), Class::Context, 1)?;
-    let date = found(transaction.after(), Class::Context, 2)?;
-    found(date.after(), Class::Context, 5)
-}
-
-#[test]
-fn defaults_are_those_of_the_rows(rt: HostRuntime) -> Result<(), Fail> {
-    let kind = transaction_type()?;
-    assert!(rt; kind.element_type() == ElementType::Enumerated && kind.default_value() == Some(1));
-    let delivery = found(kind.after(), Class::Context, 7)?;
-    assert!(rt;
-        delivery.element_type() == ElementType::Wrapper && delivery.alternative() == Some(0)
-    );
-    assert!(rt; delivery.default_value().is_none());
-    Ok(())
-}
-
-#[test]
-fn strings_have_segments(rt: HostRuntime) -> Result<(), Fail> {
-    let delivery = found(transaction_type()?.after(), Class::Context, 7)?;
-    let text = found(delivery.first(), Class::Universal, 26)?;
-    assert!(rt; text.element_type() == ElementType::Visible && text.alternative().is_none());
-    let segment = found(text.first(), Class::Universal, 4)?;
-    assert!(rt; segment.element_type() == ElementType::Segment);
-    Ok(())
+    let body = [
+        Step::Into(Class::Application, 20),
+        Step::Into(Class::Universal, 16),
+        Step::Past(Class::Context, 0),
+    ];
+    let bare = [
+        Step::Into(Class::Application, 20),
+        Step::Past(Class::Context, 0),
+    ];
+    assert!(rt; missing_at(&body) == Some(part) && missing_at(&bare) == Some(part));
+    assert!(rt; missing_at(&[Step::Past(Class::Application, 20)]).is_none());
 }

@@ -128,95 +128,76 @@ fn slices_are_normal_in_each_profile(
     )
 }
 
-#[test]
-fn messages_of_the_module_profile_are_taken(rt: HostRuntime) -> Result<(), Fail> {
-    let profile = Profile::Module;
-    let octets = octets_of(rt.alloc(), EXTENDED_HEX)?;
-    let normal = octets_of(rt.alloc(), EXTENDED_NORMAL_HEX)?;
-    let mut sink: Room<64> = Room::new(7, None);
-    let written = normalise_as(
-        rt.alloc(),
+/// Tells whether a message is normalised in a profile, one by one and as a stream.
+fn is_normalised(alloc: Global, profile: Profile, octets: &[u8], normal: &[u8]) -> bool {
+    let mut one: Room<64> = Room::new(7, None);
+    let mut stream: Room<64> = Room::new(7, None);
+    let size = normalise_as(alloc, profile, &mut Pieces::new(octets, 7, None), &mut one);
+    let count = normalise_stream_as(
+        alloc,
         profile,
-        &mut Pieces::new(&octets, 7, None),
-        &mut sink,
+        &mut Pieces::new(octets, 7, None),
+        &mut stream,
     );
-    assert!(rt; matches!(written, Ok(Some(45))));
-    assert!(rt; sink.octets() == normal.as_slice());
-    let checked = check_one_as(rt.alloc(), profile, &mut Pieces::new(&octets, 7, None));
-    let want = Checked {
+    size == Ok(Some(45))
+        && one.octets() == normal
+        && matches!(count, Ok(1))
+        && stream.octets() == normal
+}
+
+/// Tells whether a message is checked, and compared with its normal form, in a profile.
+fn is_compared(alloc: Global, profile: Profile, octets: &[u8], normal: &[u8]) -> bool {
+    let checked = Checked {
         apdu: 20,
         octets: 48,
         normal: 45,
         is_normal: false,
     };
-    assert!(rt; checked == Ok(Some(want)));
-    let mut stream: Room<64> = Room::new(7, None);
-    let count = normalise_stream_as(
-        rt.alloc(),
-        profile,
-        &mut Pieces::new(&octets, 7, None),
-        &mut stream,
+    check_one_as(alloc, profile, &mut Pieces::new(octets, 7, None)) == Ok(Some(checked))
+        && same_message_as(alloc, profile, octets, normal) == Ok(true)
+        && is_normal_as(alloc, profile, octets) == Ok(false)
+        && is_normal_as(alloc, profile, normal) == Ok(true)
+}
+
+#[test]
+fn messages_of_the_module_profile_are_taken(rt: HostRuntime) -> Result<(), Fail> {
+    let octets = octets_of(rt.alloc(), EXTENDED_HEX)?;
+    let normal = octets_of(rt.alloc(), EXTENDED_NORMAL_HEX)?;
+    assert!(rt;
+        is_normalised(rt.alloc(), Profile::Module, &octets, &normal)
+            && is_compared(rt.alloc(), Profile::Module, &octets, &normal)
     );
-    assert!(rt; matches!(count, Ok(1)));
-    assert!(rt; stream.octets() == normal.as_slice());
-    assert!(rt; same_message_as(rt.alloc(), profile, &octets, &normal) == Ok(true));
-    assert!(rt; is_normal_as(rt.alloc(), profile, &octets) == Ok(false));
-    assert!(rt; is_normal_as(rt.alloc(), profile, &normal) == Ok(true));
     Ok(())
+}
+
+/// Tells whether an extension is refused as left out.
+fn is_left_out(refusal: Refusal) -> bool {
+    refusal.at == 33 && matches!(refusal.cause, Cause::LeftOut(_))
+}
+
+/// Tells whether a message is neither normalised nor checked, since its extension is left out.
+fn is_refused(alloc: Global, profile: Profile, octets: &[u8]) -> bool {
+    let mut sink: Room<64> = Room::new(7, None);
+    let written = normalise_as(alloc, profile, &mut Pieces::new(octets, 7, None), &mut sink);
+    let checked = check_one_as(alloc, profile, &mut Pieces::new(octets, 7, None));
+    matches!(written, Err(NormalFailure::Refused(refusal)) if is_left_out(refusal))
+        && matches!(checked, Err(ReadFailure::Refused(refusal)) if is_left_out(refusal))
+}
+
+/// Tells whether a message isn't compared, since its extension is left out.
+fn is_not_compared(alloc: Global, profile: Profile, octets: &[u8]) -> bool {
+    let same = same_message_as(alloc, profile, octets, octets);
+    let found = is_normal_as(alloc, profile, octets);
+    matches!(same, Err((Side::First, Failure::Refused(refusal))) if is_left_out(refusal))
+        && matches!(found, Err(Failure::Refused(refusal)) if is_left_out(refusal))
 }
 
 #[test]
 fn extensions_are_left_out_in_profile_2(rt: HostRuntime) -> Result<(), Fail> {
-    let profile = Profile::Two;
     let octets = octets_of(rt.alloc(), EXTENDED_HEX)?;
-    let mut sink: Room<64> = Room::new(7, None);
-    let written = normalise_as(
-        rt.alloc(),
-        profile,
-        &mut Pieces::new(&octets, 7, None),
-        &mut sink,
-    );
     assert!(rt;
-        matches!(
-            written,
-            Err(NormalFailure::Refused(Refusal {
-                at: 33,
-                cause: Cause::LeftOut(_)
-            }))
-        )
-    );
-    let checked = check_one_as(rt.alloc(), profile, &mut Pieces::new(&octets, 7, None));
-    assert!(rt;
-        matches!(
-            checked,
-            Err(ReadFailure::Refused(Refusal {
-                at: 33,
-                cause: Cause::LeftOut(_)
-            }))
-        )
-    );
-    let compared = same_message_as(rt.alloc(), profile, &octets, &octets);
-    assert!(rt;
-        matches!(
-            compared,
-            Err((
-                Side::First,
-                Failure::Refused(Refusal {
-                    at: 33,
-                    cause: Cause::LeftOut(_)
-                })
-            ))
-        )
-    );
-    let found = is_normal_as(rt.alloc(), profile, &octets);
-    assert!(rt;
-        matches!(
-            found,
-            Err(Failure::Refused(Refusal {
-                at: 33,
-                cause: Cause::LeftOut(_)
-            }))
-        )
+        is_refused(rt.alloc(), Profile::Two, &octets)
+            && is_not_compared(rt.alloc(), Profile::Two, &octets)
     );
     Ok(())
 }
