@@ -12,7 +12,7 @@ pub fn one_frame()
     ensures judgment { (b : List ℕ) (r s : Framing) → HasFraming b r → HasFraming b s → r ≡ s }
 {}
 
-/// An encoding is framed, if it has at most 4,294,967,294 octets and at most 18,446,744,073,709,551,615 elements in one another.
+/// An encoding is framed if it has at most 4,294,967,294 octets, and its elements are nested at most 18,446,744,073,709,551,615 deep.
 pub fn spellings_are_framed()
     ensures { (t : Tree) (b : List ℕ) → Spells t b → length b ≤ 4_294_967_294
         → depth t ≤ 18_446_744_073_709_551_615 → IsFrame b }

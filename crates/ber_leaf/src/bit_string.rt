@@ -37,7 +37,7 @@ impl Model for BitString {
 }
 
 impl BitString {
-    /// The bits whose content the octets are, or why they are none.
+    /// The bits with these contents octets, or the fault that they have.
     pub fn new(octets: Vec<u8>) -> Result<Self, LeafFault>
         ensures value { IfOk result
             (λ string. bits string.0 string.1 ≡ value bit_string octets.items) }
@@ -110,7 +110,7 @@ impl Eq for BitString {
         (on_equiv (λ v. v.1) nat_list_eq_equiv) };
 }
 
-/// Tells whether the octets are a number of unused bits and octets that have these.
+/// Tells whether the octets are a number of unused bits, and octets that have as many.
 pub fn is_bits(octets: &[u8]) -> bool
     ensures { result ≡ is_bits octets.now }
 {
@@ -133,7 +133,7 @@ pub fn clear_unused(content: &mut [u8])
     }
 }
 
-/// The octet with its last bits 0, as many as are unused.
+/// The octet with its unused bits, the last ones, set to 0.
 fn cleared(unused: u8, octet: u8) -> u8
     requires { unused ≤ 7 }
     ensures { result ≡ cleared unused octet }

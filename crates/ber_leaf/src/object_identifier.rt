@@ -34,7 +34,7 @@ impl Model for ObjectIdentifier {
 }
 
 impl ObjectIdentifier {
-    /// The identifier whose content the octets are, or why they are none.
+    /// The identifier with these contents octets, or the fault that they have.
     pub fn new(octets: Vec<u8>) -> Result<Self, LeafFault>
         ensures value { IfOk result (λ identifier. identifier ≡ octets.items) }
         ensures succeeds { IsOk result ↔ IsContent object_identifier octets.items }

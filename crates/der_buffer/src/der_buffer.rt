@@ -63,14 +63,14 @@ impl DerBuffer {
         DerBuffer { octets: buffer }
     }
 
-    /// Takes all octets back, and keeps the memory.
+    /// Removes all octets, and keeps the memory.
     pub fn clear(&mut self)
         ensures { self.new ≡ [] }
     {
         self.octets.clear();
     }
 
-    /// Takes back what was written from `contents_start` octets on. Where `contents_start` is beyond the end, nothing happens.
+    /// Removes what was written after the first `contents_start` octets. Where `contents_start` is beyond the end, nothing happens.
     pub fn cut(&mut self, contents_start: usize)
         ensures { self.new ≡ take contents_start self.old }
     {

@@ -16,7 +16,7 @@ use ill_schema::{normal_form_is_a_spelling, one_meaning};
 use ill_write::normal_bytes;
 use std::alloc::Global;
 
-/// The reason why an APDU isn't sent, or nothing comes of the octets that are received.
+/// The reason why an APDU isn't sent, received or archived.
 #[derive(Clone, Copy)]
 pub enum Fault {
     /// The normal form has more than 1,048,576 octets, so there is no message.

@@ -132,7 +132,7 @@ fn message<'a>(alloc: Global) -> Arg<'a>
         .help(MESSAGE)
 }
 
-/// The option `--profile NAME`, which has one of these names.
+/// The option `--profile NAME`, where NAME is one of these.
 fn profile<'a>(alloc: Global, names: &'a [&'a str]) -> Arg<'a>
     ensures rule { rule_of result ≡ profile_rule names.entry }
     ensures local { result.global ≡ false }

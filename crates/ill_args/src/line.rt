@@ -136,14 +136,14 @@ fn reads_output(order: &Order<'_>) -> bool
     }
 }
 
-/// Tells whether a file of this name is read, which isn't standard output.
+/// Tells whether a file with this name is read, which isn't standard output.
 fn is_read(inputs: &Inputs<'_>, output: &str) -> bool
     ensures { IsTrue result ↔ IsInputFile inputs.now output.now }
 {
     output != "-" && reads(inputs, output) > 0
 }
 
-/// The number of times that a file of this name is read.
+/// The number of times that a file with this name is read.
 fn reads(inputs: &Inputs<'_>, name: &str) -> usize
     ensures { result ≡ reads inputs.now name.now }
 {

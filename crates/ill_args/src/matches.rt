@@ -104,7 +104,7 @@ fn number_of(words: &ArgMatches<'_>, name: &str) -> Option<u32>
     words.get_one(name)
 }
 
-/// The command of this name.
+/// The command with this name.
 fn verb_of(name: &str) -> Verb
     requires { IsVerb name.now }
     ensures { name.now ≡ verb_name result }

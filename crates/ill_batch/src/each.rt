@@ -14,8 +14,8 @@ use ill_files::{
 use ill_inputs::Verdict;
 use std::rt::Files;
 
-/// Prints what is made of each input, and the line of each error, and returns the exit status. Of several files each line names its file,
-/// and of one where that is asked for. The octets of refused messages go to the file of the name `refused`, if it is given.
+/// Prints the results of each input and a line for each error, and returns the exit status. The lines name their file where there are
+/// several files, or where the action asks for it. The octets of refused messages go to the file named `refused`, if there is one.
 ///
 /// ```
 /// let status = print_each(rt, action, &inputs, Some("refused.ber"), &mut tally);
@@ -33,7 +33,7 @@ pub fn print_each<R: Print + Eprint + Input + Files + AllocGlobal + Host, A: Put
     }
 }
 
-/// Prints what the action makes of the inputs, those of a list among them.
+/// Prints the results of the inputs, including those in a list.
 fn print_inputs<R: Print + Eprint + Input + Files + AllocGlobal + Host, A: PutInputs>(
     rt: &R,
     action: A,
@@ -51,7 +51,7 @@ fn print_inputs<R: Print + Eprint + Input + Files + AllocGlobal + Host, A: PutIn
     print_names(rt, action, files, refused, tally)
 }
 
-/// Prints what the action makes of the files with these names, and writes the octets of refused messages into a file of their own.
+/// Prints the results of the files with these names, and writes the octets of refused messages to a file of their own.
 fn print_names<R: Print + Eprint + Input + Files + AllocGlobal + Host, A: PutInputs>(
     rt: &R,
     action: A,
@@ -67,7 +67,7 @@ fn print_names<R: Print + Eprint + Input + Files + AllocGlobal + Host, A: PutInp
     Ok(close_refused(rt, file, &output, tally, status))
 }
 
-/// Prints what is made of the files of these names, and the line of each error, and returns the exit status.
+/// Prints the results of the files with these names and a line for each error, and returns the exit status.
 fn print_files<R: Print + Eprint + Input + Files + AllocGlobal + Host, A: PutInputs>(
     rt: &R,
     action: A,
@@ -87,7 +87,7 @@ fn print_files<R: Print + Eprint + Input + Files + AllocGlobal + Host, A: PutInp
     }
 }
 
-/// Prints what is made of each file as one document, and the line of each error, and returns the exit status.
+/// Prints the results of all files as one document and a line for each error, and returns the exit status.
 fn print_document<R: Print + Eprint + Input + Files + AllocGlobal + Host, A: PutInputs>(
     rt: &R,
     action: A,
@@ -103,13 +103,13 @@ fn print_document<R: Print + Eprint + Input + Files + AllocGlobal + Host, A: Put
     let status = each_file(rt, action, names, kept, tally);
     match print!(rt; "{end}") {
         Ok(()) => status,
-        // Where the output was lost before, this was said.
+        // An output that was lost before was reported then.
         Err(_) if status == 3 => status,
         Err(error) => tally.end(rt, &Err(ProgramError::of_output(&error))),
     }
 }
 
-/// Prints what is made of each file, and the line of each error, and returns the status of all that were done. Once output is lost, no
+/// Prints the results of each file and a line for each error, and returns the status of all that were done. Once output is lost, no
 /// file more is done.
 fn each_file<R: Print + Eprint + Input + Files + AllocGlobal + Host, A: PutInputs>(
     rt: &R,
@@ -132,7 +132,7 @@ fn each_file<R: Print + Eprint + Input + Files + AllocGlobal + Host, A: PutInput
     status
 }
 
-/// Prints what is made of the file of this name, one of `count`, and counts it.
+/// Prints the results of the file with this name, one of `count`, and counts it.
 fn one_file<R: Print + Eprint + Input + Files + AllocGlobal + Host, A: PutInputs>(
     rt: &R,
     action: A,
@@ -146,7 +146,7 @@ fn one_file<R: Print + Eprint + Input + Files + AllocGlobal + Host, A: PutInputs
     done
 }
 
-/// Prints what is made of the file of this name, one of `count`.
+/// Prints the results of the file with this name, one of `count`.
 fn print_file<R: Print + Eprint + Input + Files + AllocGlobal + Host, A: PutInputs>(
     rt: &R,
     action: A,
@@ -157,7 +157,7 @@ fn print_file<R: Print + Eprint + Input + Files + AllocGlobal + Host, A: PutInpu
 ) -> Result<Verdict, ProgramError> {
     let alloc = rt.alloc();
     let file = text_of(alloc, name)?;
-    // JSON has a form of its own for each character.
+    // JSON has its own escapes for names.
     if action.is_json() {
         let input = NamedInput { name: file, count };
         return print_input(rt, action, input, file, kept, tally);

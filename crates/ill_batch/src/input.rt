@@ -10,8 +10,8 @@ use ill_inputs::Verdict;
 use std::io::{Read, Write};
 use std::rt::Files;
 
-/// Writes what is made of one input to a file, prints the line of the error, and returns the exit status. The octets of refused messages go
-/// to the file of the name `refused`, if it is given.
+/// Writes the results of one input to a file, prints a line if there is an error, and returns the exit status. The octets of refused
+/// messages go to the file named `refused`, if there is one.
 ///
 /// ```
 /// let status = write_one(rt, action, "message.ber", "message.der", false, None, &mut tally);
@@ -47,7 +47,7 @@ pub fn write_one<R: Print + Eprint + Input + Files + AllocGlobal + Host, A: PutI
     close_refused(rt, file, &kept, tally, status)
 }
 
-/// Prints what is made of the input of this name.
+/// Prints the results of the input with this name.
 pub(crate) fn print_input<R: Print + Eprint + Input + Files + AllocGlobal + Host, A: PutInputs>(
     rt: &R,
     action: A,
@@ -61,8 +61,8 @@ pub(crate) fn print_input<R: Print + Eprint + Input + Files + AllocGlobal + Host
     output.finish(done)
 }
 
-/// Opens the input of this name, and then standard output, and writes what is made of the input. Results of lines can be lines themselves, so
-/// that they don't go to the file that they are read of.
+/// Opens the input with this name, and then standard output, and writes the results. Results of lines can be lines themselves, so they
+/// must not go to the file that the lines are read from.
 fn put_input<'r, R: Print + Eprint + Input + Files + AllocGlobal + Host, A: PutInputs>(
     rt: &'r R,
     action: A,
@@ -80,7 +80,7 @@ fn put_input<'r, R: Print + Eprint + Input + Files + AllocGlobal + Host, A: PutI
     put_all(rt, action, input, &mut source, output, kept, tally)
 }
 
-/// Writes what is made of the input of this name to an output. This is opened only once the input is, and only if it isn't the same file. It is
+/// Writes the results of the input with this name to an output. The output is opened after the input, and only if it isn't the same file. It is
 /// replaced as [`keeps_output`] says.
 pub(crate) fn write_input<R: Print + Eprint + Input + Files + AllocGlobal + Host, A: PutInputs>(
     rt: &R,
@@ -111,7 +111,7 @@ pub(crate) fn write_input<R: Print + Eprint + Input + Files + AllocGlobal + Host
     )
 }
 
-/// Opens an output, writes what is made of an input, and closes it.
+/// Opens an output, writes the results of an input, and closes the output.
 fn replace_output<'o, 'r: 'o, R: Print + Eprint + Input + Files + AllocGlobal + Host, A: PutInputs>(
     rt: &'r R,
     action: A,
@@ -129,7 +129,7 @@ fn replace_output<'o, 'r: 'o, R: Print + Eprint + Input + Files + AllocGlobal + 
     close_output(rt, output, destination, name, keep, done)
 }
 
-/// Writes what is made of an input, and counts its messages. The octets of those that are refused go to `kept`, if there is such an output.
+/// Writes the results of an input, and counts its messages. The octets of refused messages go to `kept`, if there is such an output.
 pub(crate) fn put_all<
     'o,
     R,

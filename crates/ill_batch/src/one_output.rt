@@ -12,8 +12,8 @@ use ill_files::{
 use ill_inputs::Verdict;
 use std::rt::Files;
 
-/// Writes what is made of each file to one output, prints the line of each error, and returns the exit status. The output is opened after
-/// the first of the files, and only if it is not one of the files. It stays as it was if [`keeps_output`] says so of one of the files.
+/// Writes the results of all files to one output, prints a line for each error, and returns the exit status. The output is opened after
+/// the first of the files, and only if it is not one of them. It stays as it was if [`keeps_output`] says so of one of the files.
 ///
 /// ```
 /// let status = collect(rt, action, &inputs, "all.der", true, None, &mut tally);
@@ -33,7 +33,7 @@ pub fn collect<R: Print + Eprint + Input + Files + AllocGlobal + Host, A: PutInp
     }
 }
 
-/// Writes the normal forms of the inputs, those of a list among them, into one output.
+/// Writes the normal forms of the inputs, including those in a list, to one output.
 fn collect_inputs<R: Print + Eprint + Input + Files + AllocGlobal + Host, A: PutInputs>(
     rt: &R,
     action: A,
@@ -57,7 +57,7 @@ fn collect_inputs<R: Print + Eprint + Input + Files + AllocGlobal + Host, A: Put
     collect_names(rt, action, files, whole, refused, tally)
 }
 
-/// Writes the normal forms of the files with these names, and the octets of refused messages into a file of their own.
+/// Writes the normal forms of the files with these names, and the octets of refused messages to a file of their own.
 fn collect_names<R: Print + Eprint + Input + Files + AllocGlobal + Host, A: PutInputs>(
     rt: &R,
     action: A,
@@ -74,7 +74,7 @@ fn collect_names<R: Print + Eprint + Input + Files + AllocGlobal + Host, A: PutI
     Ok(close_refused(rt, file, &output, tally, status))
 }
 
-/// Writes what is made of the files, prints the line of each error, and returns the exit status.
+/// Writes the results of the files, prints a line for each error, and returns the exit status.
 fn collect_files<R: Print + Eprint + Input + Files + AllocGlobal + Host, A: PutInputs>(
     rt: &R,
     action: A,
@@ -93,7 +93,7 @@ fn collect_files<R: Print + Eprint + Input + Files + AllocGlobal + Host, A: PutI
     }
 }
 
-/// Writes what is made of the one file that is named.
+/// Writes the results of the one file that is named.
 fn canonicalise_one<R: Print + Eprint + Input + Files + AllocGlobal + Host, A: PutInputs>(
     rt: &R,
     action: A,
@@ -108,7 +108,7 @@ fn canonicalise_one<R: Print + Eprint + Input + Files + AllocGlobal + Host, A: P
     write_input(rt, action, input, name, output, whole, kept, tally)
 }
 
-/// Writes what is made of several files.
+/// Writes the results of several files.
 fn canonicalise_all<R: Print + Eprint + Input + Files + AllocGlobal + Host, A: PutInputs>(
     rt: &R,
     action: A,
@@ -175,7 +175,7 @@ fn close_if_open<'o, 'r, R: Print + Eprint + Files + AllocGlobal + Host>(
     }
 }
 
-/// Writes what is made of each file, and prints the line of its error.
+/// Writes the results of each file, and prints a line if it has an error.
 ///
 /// # Errors
 ///
@@ -197,7 +197,7 @@ fn append_files<'o, 'r, R: Print + Eprint + Input + Files + AllocGlobal + Host, 
     Ok(Verdict::Good)
 }
 
-/// Writes what is made of the next file, one of `count`.
+/// Writes the results of the next file, one of `count`.
 ///
 /// # Errors
 ///
@@ -230,7 +230,7 @@ fn append_file<'o, 'r, R: Print + Eprint + Input + Files + AllocGlobal + Host, A
     }
 }
 
-/// Opens an input, and then the output, and writes what is made of the input.
+/// Opens an input, and then the output, and writes the results of the input.
 ///
 /// # Errors
 ///
@@ -252,7 +252,7 @@ fn append_input<'o, 'r, R: Print + Eprint + Input + Files + AllocGlobal + Host, 
     fail_if_lost(put_all(rt, action, input, &mut source, to.output, kept, tally))
 }
 
-/// Fails if the output is lost. Any other error is of the input alone.
+/// Fails if the output is lost. Any other error concerns the input alone.
 fn fail_if_lost(
     done: Result<Verdict, ProgramError>,
 ) -> Result<Result<Verdict, ProgramError>, ProgramError> {

@@ -28,7 +28,7 @@ pub trait PutInputs: Copy {
     /// Tells whether the lines of results are JSON.
     fn is_json(&self) -> bool;
 
-    /// Tells whether lines name their input, even if there is one input.
+    /// Tells whether lines name their input even if there is only one.
     fn names_inputs(&self) -> bool;
 
     /// Tells whether there is a result for each line of an input.
@@ -37,7 +37,7 @@ pub trait PutInputs: Copy {
     /// The document around the results, if there is one.
     fn document(&self) -> Option<Document>;
 
-    /// Writes what is made of an input, and counts its messages. The octets of those that are refused go to `kept`.
+    /// Writes the results of an input, and counts its messages. The octets of refused messages go to `kept`.
     ///
     /// # Errors
     ///

@@ -11,14 +11,14 @@ use std::io::Write;
 use std::rt::Files;
 use std::str;
 
-/// The file of refused messages: its name, and what is done with it at the end.
+/// The file of refused messages: its name, and how it is closed.
 #[derive(Drop)]
 pub struct RefusedFile<'a> {
     name: &'a str,
     destination: OutputDestination,
 }
 
-/// The other files of a command: those that are read, by their names, their list, and the output.
+/// The other files of a command: the inputs, by name, their list, and the output.
 #[derive(Clone, Copy)]
 pub struct OtherFiles<'a> {
     pub inputs: &'a [&'a [u8]],
@@ -27,7 +27,7 @@ pub struct OtherFiles<'a> {
 }
 
 impl OtherFiles<'_> {
-    /// Tells whether one of the files is that of this name.
+    /// Tells whether one of the files has this name.
     fn contain<R: Files>(&self, rt: &R, name: &str) -> bool {
         let file = FileId::of_output(rt, name);
         let is_read = file.is_some() && (file == self.list || is_one_of(rt, self.inputs, file));
@@ -47,7 +47,7 @@ pub fn is_one_of<R: Files>(rt: &R, names: &[&[u8]], file: Option<FileId>) -> boo
     false
 }
 
-/// Opens the file of refused messages, where there is one, as OUT is opened.
+/// Opens the file of refused messages, if there is one, in the same way as OUT.
 ///
 /// # Errors
 ///
@@ -68,7 +68,7 @@ pub fn open_refused<'a, 'r, R: Print + Eprint + Files + AllocGlobal + Host>(
     Ok(Some(RefusedFile { name, destination }))
 }
 
-/// Ends the file of refused messages, where there is one: it takes its name, unless no input could be opened. Returns the exit status, which was
+/// Ends the file of refused messages, if there is one: it gets its name, unless no input could be opened. Returns the exit status, which was
 /// `status` before.
 pub fn close_refused<'r, R: Print + Eprint + Files + AllocGlobal + Host>(
     rt: &'r R,
@@ -102,7 +102,7 @@ pub fn close_refused<'r, R: Print + Eprint + Files + AllocGlobal + Host>(
     status
 }
 
-/// Writes the octets of refused messages to their file, where there is one.
+/// Writes the octets of refused messages to their file, if there is one.
 #[derive(Drop)]
 pub struct KeepRefused<'o, S: Write + Drop, F: Write + Drop> {
     output: Option<&'o Output<S, F>>,
@@ -122,7 +122,7 @@ impl<'o, S: Write + Drop, F: Write + Drop> KeepRefused<'o, S, F> {
         }
     }
 
-    /// Writes the octets of a message, if they are all there and its end is known: so the next one begins after it.
+    /// Writes the octets of a message if they are complete and its end is known, so that the next one begins after it.
     pub fn keep(&mut self, report: RefusalReport, octets: &[u8]) {
         let Some(output) = self.output else {
             return;

@@ -1,4 +1,4 @@
-//! The lines of messages that are refused, where the work goes on after them.
+//! Lines for refused messages, where the work goes on after them.
 use crate::refused::KeepRefused;
 use crate::summary::LeftAt;
 use ill_files::{FileNameRef, ProgressLine, RunLine};
@@ -7,7 +7,7 @@ use ill_normal::{RefusalReport, ReportRefusals};
 use std::fmt;
 use std::io::Write;
 
-/// A message that is refused, as one line.
+/// A refused message, as one line.
 #[derive(Clone, Copy)]
 pub struct ReportLine(pub RefusalReport);
 
@@ -30,12 +30,12 @@ impl fmt::Display for ReportLine {
     }
 }
 
-/// Prints the line of each message that is refused, with the name of its file where there are several.
+/// Prints a line for each refused message, with the name of its file where there are several.
 #[derive(Drop)]
 pub struct PrintReports<'a, R, S: Write + Drop, F: Write + Drop> {
     pub rt: &'a R,
     pub name: Option<&'a str>,
-    /// True if the name is the file's own, and not yet as names are printed.
+    /// True if the name is the file's own, not yet escaped for printing.
     pub is_raw: bool,
     pub progress: &'a ProgressLine,
     /// Gets the octets of the messages.

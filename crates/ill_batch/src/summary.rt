@@ -4,7 +4,7 @@ use ill_inputs::RunFault;
 use ill_normal::{RefusalReport, SkippingCounts};
 use std::fmt;
 
-/// The files that a command read, and their messages, in numbers. What is too great for a number stays at the greatest one.
+/// The counts of the files that a command read, and of their messages. A count that would overflow stays at the greatest number.
 #[derive(Clone, Copy)]
 pub struct Summary {
     /// Files that were opened.
@@ -43,7 +43,7 @@ impl Summary {
         self.files = self.files.saturating_add(1);
     }
 
-    /// Takes back a file that was opened, but can't be read.
+    /// Uncounts a file that was opened, but can't be read.
     pub fn remove_file(&mut self) {
         self.files = self.files.saturating_sub(1);
     }

@@ -44,7 +44,7 @@ impl<'p> Tally<'p> {
         self.progress.add_file();
     }
 
-    /// Counts the file of this name, if it can't be opened, or was left before its end.
+    /// Counts the file with this name if it can't be opened, or was left before its end.
     pub fn add_end<R: Files>(&mut self, rt: &R, name: &[u8], done: &Result<Verdict, ProgramError>) {
         match done {
             Err(ProgramError::CannotOpen(unopened, _)) if is_name(unopened, name) => {
@@ -104,7 +104,7 @@ impl<'p> Tally<'p> {
     }
 }
 
-/// Tells whether a file that can't be opened is that of this name, or of this word of the command line that is no UTF-8 text.
+/// Tells whether a file that can't be opened has this name, or this word of the command line that isn't UTF-8 text as its name.
 fn is_name(unopened: &FileName, name: &[u8]) -> bool {
     unopened.0.as_slice() == name || name.starts_with(b"\0")
 }

@@ -24,7 +24,7 @@ use ill_lines::{LineOptions, LinesFault, run_lines_as};
 use std::alloc::Global;
 use std::io::Write;
 
-/// Writes what is made of a source.
+/// Writes the results of a source.
 pub(crate) fn put_source<
     R: Eprint + AllocGlobal,
     B: BufferedSource,

@@ -255,7 +255,7 @@ pub enum InputAction<'a> {
 }
 
 impl<'a> InputAction<'a> {
-    /// The action of a command on the input of this name, which is one of `count`. Lines name it where there are several, or where that is
+    /// The action of a command on the input with this name, which is one of `count`. Lines name it where there are several, or where that is
     /// asked for.
     ///
     /// ```

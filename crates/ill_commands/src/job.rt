@@ -87,7 +87,7 @@ impl JobOptions<'_> {
 pub struct Counts {
     /// Their number.
     pub messages: u32,
-    /// The number of are that good: those in normal form where messages are compared, else all.
+    /// The number of those that are good: those in normal form where messages are compared, else all.
     pub good: u32,
     /// The number of octets that they have in the input.
     pub octets: u64,

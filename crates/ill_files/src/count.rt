@@ -1,7 +1,7 @@
 //! Numbers of things in the lines that the program prints.
 use std::fmt;
 
-/// A number of things of this name: `1 file`, `2 files`.
+/// A number and its noun: `1 file`, `2 files`.
 #[derive(Clone, Copy, Debug, PartialEq, Eq)]
 pub struct Count(pub u64, pub &'static str);
 

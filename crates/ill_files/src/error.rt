@@ -36,13 +36,13 @@ pub enum ProgramError {
     /// The file of refused messages is another regular file of the command. Nothing was written.
     #[error("--refused needs a file of its own")]
     RefusedIsShared,
-    /// A file of this name can't be opened, to be read or to be written, for this reason.
+    /// A file with this name can't be opened for reading or writing, for this reason.
     #[error("cannot open {0}")]
     CannotOpen(FileName, OpenObstacle),
-    /// The output was written to a new file, which can't be given this name. The file of this name is as it was.
+    /// The output was written to a new file, which can't be given this name. The file with this name is as it was.
     #[error("cannot replace {0}")]
     CannotReplace(FileName),
-    /// The output was to be written to a new file beside the file of this name, but all names for it are taken. Nothing was written.
+    /// The output was to be written to a new file beside the file with this name, but all names for it are taken. Nothing was written.
     #[error("cannot write {0}: all names from {0}.part to {0}.part99 are taken")]
     NamesAreTaken(FileName),
     /// The end of the output could not be written. A file that was to be replaced is as it was.
@@ -67,7 +67,7 @@ impl ProgramError {
         }
     }
 
-    /// The file of this name can't be opened, to be read or to be written, for this reason.
+    /// The file with this name can't be opened for reading or writing, for this reason.
     pub fn cannot_open(alloc: Global, name: &str, why: OpenObstacle) -> ProgramError {
         // A word of the command line that is no UTF-8 text begins so.
         let why = if name.starts_with('\0') {
@@ -89,7 +89,7 @@ impl ProgramError {
         }
     }
 
-    /// All names for a new file beside the one of this name are taken.
+    /// All names for a new file beside the one with this name are taken.
     pub fn names_are_taken(alloc: Global, name: &str) -> ProgramError {
         match FileName::of(alloc, name) {
             Ok(name) => ProgramError::NamesAreTaken(name),

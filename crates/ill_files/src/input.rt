@@ -76,11 +76,11 @@ pub type InputSource<'o, 'r, R> = Shared<
     <R as Files>::File,
 >;
 
-/// Opens the input of this name, standard input for `-`.
+/// Opens the input with this name, standard input for `-`.
 ///
 /// # Errors
 ///
-/// There is no file of this name that can be read, or memory ran out.
+/// There is no file with this name that can be read, or memory ran out.
 pub fn open_input<'o, 'r: 'o, R: Print + Eprint + Input + Files + AllocGlobal + Host>(
     rt: &'r R,
     name: &str,
@@ -95,7 +95,7 @@ pub fn open_input<'o, 'r: 'o, R: Print + Eprint + Input + Files + AllocGlobal + 
 ///
 /// # Errors
 ///
-/// There is no file of this name that can be read, reading it fails, or memory ran out.
+/// There is no file with this name that can be read, reading it fails, or memory ran out.
 pub fn read_whole<R: Input + Files + AllocGlobal>(
     rt: &R,
     name: &str,
@@ -122,11 +122,11 @@ fn read_all<S: Source + Drop>(alloc: Global, source: S) -> Result<Vec<u8>, Progr
 /// The source of an input that has no output to share. Its reader reads as many octets as are asked for.
 pub type AloneSource<R> = Opened<FromRead<Box<<R as Input>::Reader>>, FromRead<<R as Files>::File>>;
 
-/// Opens the input of this name, standard input for `-`, whose reads wait for nothing.
+/// Opens the input with this name, standard input for `-`, whose reads wait for nothing.
 ///
 /// # Errors
 ///
-/// There is no file of this name that can be read, or memory ran out.
+/// There is no file with this name that can be read, or memory ran out.
 pub fn open_alone<R: Input + Files + AllocGlobal>(
     rt: &R,
     name: &str,
@@ -143,7 +143,7 @@ fn standard_input<R: Input + AllocGlobal>(rt: &R) -> Result<Box<R::Reader>, Prog
     Box::new(rt.alloc(), rt.reader()).map_err(|_| ProgramError::out_of_memory())
 }
 
-/// Opens the file of this name.
+/// Opens the file with this name.
 fn open_file<R: Files + AllocGlobal>(rt: &R, name: &str) -> Result<R::File, ProgramError> {
     match fs::open(rt, name) {
         Ok(file) => Ok(file),

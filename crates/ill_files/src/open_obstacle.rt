@@ -5,7 +5,7 @@ use std::io::ErrorKind;
 /// The reason why a file can't be opened.
 #[derive(Clone, Copy, Debug, PartialEq, Eq)]
 pub enum OpenObstacle {
-    /// There is no file of this name.
+    /// There is no file with this name.
     Absent,
     /// It may not be opened.
     Denied,

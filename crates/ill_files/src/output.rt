@@ -240,11 +240,11 @@ const STANDARD_OUTPUT: &str = "/dev/stdout";
 pub enum OutputDestination {
     /// To the output itself.
     InPlace,
-    /// To a new file of this name, which takes the name of the output at the end.
+    /// To a new file with this name, which takes the name of the output at the end.
     NewFile(String),
 }
 
-/// Opens the output of this name, `-` or `/dev/stdout` for standard output. Nothing else is opened where it is to be replaced as a whole.
+/// Opens the output with this name, `-` or `/dev/stdout` for standard output. Nothing else is opened where it is to be replaced as a whole.
 /// A regular file that can't be replaced is written directly, and a line on standard error says so.
 ///
 /// # Errors
@@ -288,7 +288,7 @@ fn open_beside<'r, R: Print + Host + AllocGlobal>(
     }
 }
 
-/// Opens the file of this name as the output, and says so if a regular file is lost by that.
+/// Opens the file with this name as the output, and reports it if a regular file is lost by that.
 fn open_directly<'r, R: Print + Eprint + Host + AllocGlobal>(
     rt: &'r R,
     output: &OutputOf<'r, R>,

@@ -73,7 +73,7 @@ impl ProgressLine {
         }
     }
 
-    /// Takes the sizes of the files of these names, if a line is wanted.
+    /// Takes the sizes of the files with these names, if a line is wanted.
     pub fn expect<R: Host>(&self, rt: &R, names: &[&[u8]]) {
         let state = self.state.get();
         if state.due.is_some() {
@@ -183,7 +183,7 @@ impl fmt::Display for Rest {
     }
 }
 
-/// The number of octets of the files of these names; None where one is no regular file.
+/// The number of octets of the files with these names; None where one is no regular file.
 fn total_len<R: Files>(rt: &R, names: &[&[u8]]) -> Option<u64> {
     let mut total: u64 = 0;
     for name in names {
@@ -192,7 +192,7 @@ fn total_len<R: Files>(rt: &R, names: &[&[u8]]) -> Option<u64> {
     Some(total)
 }
 
-/// The number of octets of the file of this name, standard input for `-`.
+/// The number of octets of the file with this name, standard input for `-`.
 fn file_len<R: Files>(rt: &R, name: &[u8]) -> Option<u64> {
     let name = match str::from_utf8(name) {
         Ok("-") => STANDARD_INPUT,

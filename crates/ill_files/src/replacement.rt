@@ -72,12 +72,12 @@ enum ExistingFile {
     Other(Option<ReplaceObstacle>),
 }
 
-/// Creates a new file beside the one of this name, with its owner, group and mode, or says why the file of this name has to
+/// Creates a new file beside the one with this name, with its owner, group and mode, or says why the file with this name has to
 /// be written directly.
 ///
 /// # Errors
 ///
-/// The file of this name is there and may not be written to, all names for a new file are taken, or memory ran out.
+/// The file with this name is there and may not be written to, all names for a new file are taken, or memory ran out.
 pub fn begin<R: Host + AllocGlobal>(
     rt: &R,
     name: &str,

@@ -39,7 +39,7 @@ impl FileId {
         FileId::of_name(rt, STANDARD_OUTPUT)
     }
 
-    /// The regular file that an input of this name comes from, standard input for `-`.
+    /// The regular file that an input with this name comes from, standard input for `-`.
     pub fn of_input<R: Files>(rt: &R, name: &str) -> Option<FileId> {
         if name == "-" {
             return FileId::of_standard_input(rt);
@@ -47,7 +47,7 @@ impl FileId {
         FileId::of_name(rt, name)
     }
 
-    /// The regular file that an output of this name goes to, standard output for `-`.
+    /// The regular file that an output with this name goes to, standard output for `-`.
     pub fn of_output<R: Files>(rt: &R, name: &str) -> Option<FileId> {
         if name == "-" {
             return FileId::of_standard_output(rt);
@@ -55,7 +55,7 @@ impl FileId {
         FileId::of_name(rt, name)
     }
 
-    /// The regular file of this name.
+    /// The regular file with this name.
     pub fn of_name<R: Files>(rt: &R, name: &str) -> Option<FileId> {
         FileId::of(fs::metadata(rt, name))
     }

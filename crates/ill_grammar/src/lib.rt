@@ -1,6 +1,6 @@
-//! The elements of a message as code reads them: the element that a tag begins at a place, the open elements, and the judgement of the
-//! octets at a place. All of it is proved to be what the definitions say. A caller needs it only to walk through elements, as `ill_dump`
-//! does.
+//! The elements of a message as code reads them: the element that a tag begins at a place, the open elements, the judgement of the
+//! octets at a place, and the outline of a message that was read. All of it is proved to be what the definitions say. A caller needs it
+//! only to walk through elements, as `ill_dump` does.
 //!
 //! ```
 //! // What follows an element that is found at a place

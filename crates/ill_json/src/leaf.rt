@@ -20,7 +20,7 @@ use ill_marks::{is_set, number_in};
 use ill_schema::{Kind, LeafKind, NodeId, PartId, Presence, kind, number_name, row};
 use json::Token;
 
-/// Puts a leaf with these octets, in a row of this name.
+/// Puts a leaf with these octets, in a row with this name.
 pub fn put_leaf(leaf: LeafType, octets: &[Mark], name: &str, out: &mut LineWriter)
     ensures { (p : Named) → IsContentIn p (leaf_is leaf) (octets_in octets.now)
         → Adds (json_tokens (leaf_json name.now (value (leaf_is leaf) (octets_in octets.now))))
@@ -63,7 +63,7 @@ fn put_value_of(node: NodeId, number: i64, name: &str, out: &mut LineWriter)
     }
 }
 
-/// Puts a number in a row of this name: with its name, if it has one.
+/// Puts a number in a row with this name: with its name, if it has one.
 fn put_number(row: &str, number: i64, out: &mut LineWriter)
     ensures { Adds (json_tokens (number_json number (number_name row.now number))) out.old out.new }
 {

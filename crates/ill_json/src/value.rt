@@ -23,7 +23,7 @@ use ill_marks::{
 use ill_schema::{NodeId, PartId, row_name, row_node};
 use json::Token;
 
-/// Puts the value that the marks begin with, of this node in a row of this name, and returns the marks after it.
+/// Puts the value that the marks begin with, of this node in a row with this name, and returns the marks after it.
 #[cycle(value)]
 pub fn put_value<'m>(
     marks: &'m [Mark],

@@ -101,7 +101,7 @@ pub trait Render {
     /// A reader that has read nothing. That takes no memory.
     fn reader(alloc: Global) -> Self::Reader;
 
-    /// Reads the message that the source begins with, as [`read_message`](crate::read_message) does, and makes of it what is written. This
+    /// Reads the message that the source begins with, as [`read_message`](crate::read_message) does, and makes the output for it. This
     /// may use the memory of `buffer`, whose contents are forgotten. What the reader read before makes no difference.
     ///
     /// # Errors
@@ -159,7 +159,7 @@ pub struct StreamError {
     pub why: StreamErrorKind,
 }
 
-/// Writes what is made of each message of an input, one after another up to its end, with the lookahead `L`. All that is
+/// Writes the output for each message of an input, one after another up to its end, with the lookahead `L`. All that is
 /// needed of a message is made before any of it is written, and one message is held at a time. Its memory is used again for the next one.
 /// One reader reads all of them.
 ///
@@ -201,7 +201,7 @@ pub fn for_each_message<M: Render, R: Source, L: Lookahead<R>, W: Sink>(
     }
 }
 
-/// Writes what is made of each message. A refused message stops it.
+/// Writes the output for each message. A refused message stops it.
 #[derive(Drop)]
 struct MessageWriter<'a, M: Render> {
     alloc: Global,

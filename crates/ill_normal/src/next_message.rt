@@ -1,4 +1,4 @@
-//! The next message of an input: its octets, up to where they end by their framing, and what is made of them.
+//! The next message of an input: its octets, up to where they end by their framing, and the output for it.
 ghost use Rattle.std.specs.Prelude.{◌≡◌, ℕ, ◌-◌, ◌<◌, ◌≤◌, List, [], ◌++◌, length, take, IfOk, IfErr, OnOk, IsTrue, MatchOption};
 ghost use Rattle.std.specs.Io.KnownBytes.{Consumes, IsAtEnd, Keeps};
 ghost use Rattle.ber_framing.specs.Framed.{IsPartOfFrame};
@@ -49,7 +49,7 @@ impl TakeError {
     }
 }
 
-/// Reads the next message, and has made of it what is written, or says why it is refused; None at the end of the input. It takes the octets
+/// Reads the next message, and makes the output for it, or says why it is refused; None at the end of the input. It takes the octets
 /// of one element, as its framing gives it, and records the first 1,048,576 of them; `recorded` forgets what it had before.
 ///
 /// ```

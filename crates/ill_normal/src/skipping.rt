@@ -58,7 +58,7 @@ pub struct SkippingError {
     pub why: SkippingErrorKind,
 }
 
-/// Writes what is made of each accepted message of an input, one after another up to its end, with the lookahead `L`.
+/// Writes the output for each accepted message of an input, one after another up to its end, with the lookahead `L`.
 /// A message that is refused is reported, and then the work goes on after its end, as its framing gives it: its outermost element ends
 /// where its length says, or with its end mark. Where the end can't be known, the report says so, and that was the last message.
 ///
@@ -107,7 +107,7 @@ pub fn for_each_accepted_message<M: Render, R: Source, L: Lookahead<R>, W: Sink,
     }
 }
 
-/// Writes what is made of each accepted message, and reports each refused one.
+/// Writes the output for each accepted message, and reports each refused one.
 #[derive(Drop)]
 struct AcceptedWriter<'a, M: Render> {
     alloc: Global,

@@ -91,7 +91,7 @@ impl OpenValues {
         Ok(())
     }
 
-    /// The sequence whose entries are held from a contents_start on, where this may come next in it.
+    /// The sequence whose entries are held from index `contents_start` on, where this may come next in it.
     pub fn sequence(&mut self, next: Next, contents_start: usize) -> Result<Value, AllocError>
         ensures { IfOk result (λ v. IsSequence (rows_left next) contents_start v
             self.old.entries.items self.new.entries.items) }
@@ -101,7 +101,7 @@ impl OpenValues {
         Ok(Value::Seq(self.entries.split_off(contents_start)?))
     }
 
-    /// The list whose items are held from a contents_start on.
+    /// The list whose items are held from index `contents_start` on.
     pub fn list(&mut self, alloc: Global, contents_start: usize) -> Result<Value, AllocError>
         ensures { IfOk result (λ v. IsList contents_start v self.old.entries.items
             self.new.entries.items) }

@@ -1,4 +1,4 @@
-//! When two values are the same.
+//! The equality of values.
 ghost use Rattle.std.specs.Prelude.{◌≡◌, ◌↔◌, IsTrue};
 ghost use Rattle.ill_schema.specs.Value.{content_of, entries_content, items_content};
 

@@ -1,4 +1,4 @@
-//! Which values have the shape of a node.
+//! The shapes of nodes, and the values that have them.
 ghost use Rattle.std.specs.Prelude.{◌≡◌, ◌↔◌, IsTrue, MatchOption};
 ghost use Rattle.ber_leaf.specs.Profile.{profile_two};
 ghost use Rattle.ber_leaf.specs.Simple.{flag, whole, date, time, printable};

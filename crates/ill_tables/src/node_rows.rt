@@ -16,9 +16,9 @@ macro_rules! headed {
     };
 }
 
-/// The rows of a node: for each its name, presence, tag, mode and node, or name, presence, `untagged` and node. They are handed to the macro that is
-/// named, after the node and the class of their tags: what is made of the tables is made from here. Where profile 2 and the
-/// module differ in a few rows of many, a rule whose name begins with `@` has those that they share.
+/// The rows of a node: for each its name, presence, tag, mode and node, or name, presence, `untagged` and node. They are given to the macro that is
+/// named, after the node and the class of their tags: all tables are made from here. Where profile 2 and the module differ in a few rows
+/// only, a rule whose name begins with `@` has those that they share.
 #[macro_export]
 macro_rules! table {
     (@ItemId $node:ident, $made:ident, $bibliography:tt, $system:tt) => {

@@ -27,7 +27,7 @@ use ill_schema::{
 };
 use itoa::Buffer;
 
-/// Puts the line of a leaf whose octets the marks begin with, in a row of this name, and returns how many octets it has.
+/// Puts the line of a leaf whose octets the marks begin with, in a row with this name, and returns how many octets it has.
 #[inline(always)]
 pub fn put_leaf<W: Sink>(
     leaf: LeafType,

@@ -128,7 +128,7 @@ fn put_last<W: Sink>(unused: u8, mark: Mark, out: &mut TextSink, sink: &mut W)
     }
 }
 
-/// The octet with its last bits 0, as many as are unused.
+/// The octet with its unused bits, the last ones, set to 0.
 fn cleared(unused: u8, octet: u8) -> u8
     ensures { unused ≤ 7 → result ≡ cleared unused octet }
 {

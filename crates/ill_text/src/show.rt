@@ -23,7 +23,7 @@ use ill_marks::{absent_row, after_leading_mark, has_default, is_at_end, leading_
 use ill_read::{LeafType, Mark};
 use ill_schema::{NodeId, PartId, row_name, row_node};
 
-/// Puts the lines of the value that the marks begin with, of this node in a row of this name, and returns the marks after it.
+/// Puts the lines of the value that the marks begin with, of this node in a row with this name, and returns the marks after it.
 #[cycle(show)]
 #[inline(always)]
 pub fn put_value<'m, W: Sink>(

@@ -14,7 +14,7 @@ pub trait BufferedSource: Source {
         ensures hand { result.now ≡ hand self.now }
         ensures front { IfSome (Self.left self.now) (λ octets. StartsWith octets result.now) };
 
-    /// Takes the first octets at hand, as many as `count` says.
+    /// Takes the first `count` octets at hand.
     fn consume(&mut self, count: usize)
         requires { count ≤ length (hand self.old) }
         ensures octets { Consumes (Self.left self.old) (Self.left self.new)

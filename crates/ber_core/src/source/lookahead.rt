@@ -30,7 +30,7 @@ pub trait Lookahead<R: Source> {
         ensures hand { result.now ≡ hand source.now }
         ensures front { IfSome (R.left source.now) (λ octets. StartsWith octets result.now) };
 
-    /// Takes the first octets that are seen, as many as `count` says.
+    /// Takes the first `count` octets that are seen.
     fn consume(source: &mut R, count: usize)
         requires { count ≤ length (hand source.old) }
         ensures octets { Consumes (R.left source.old) (R.left source.new)

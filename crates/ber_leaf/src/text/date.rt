@@ -31,7 +31,7 @@ impl Model for DateText {
 }
 
 impl DateText {
-    /// The text that the octets are, or why they are not one.
+    /// The text with these octets, or the fault that they have.
     pub fn new(octets: Vec<u8>) -> Result<Self, LeafFault>
         ensures text { IfOk result (λ text. text ≡ octets.items) }
         ensures succeeds { IsOk result ↔ IsContent iso_date octets.items }

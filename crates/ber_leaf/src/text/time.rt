@@ -30,7 +30,7 @@ impl Model for TimeText {
 }
 
 impl TimeText {
-    /// The text that the octets are, or why they are not one.
+    /// The text with these octets, or the fault that they have.
     pub fn new(octets: Vec<u8>) -> Result<Self, LeafFault>
         ensures text { IfOk result (λ text. text ≡ octets.items) }
         ensures succeeds { IsOk result ↔ IsContent iso_time octets.items }
