@@ -12,7 +12,7 @@ use ill_schema::{Cause, Refusal};
 
 /// A constructed element: the size of its header, and its end.
 #[derive(Clone, Copy)]
-pub struct Opening {
+pub struct ConstructedElement {
     pub found: Found,
     pub id: Id,
     pub header: u32,
@@ -23,7 +23,7 @@ pub struct Opening {
 
 /// A primitive element: the sizes of its header and its content.
 #[derive(Clone, Copy)]
-pub struct Reading {
+pub struct PrimitiveElement {
     pub found: Found,
     pub id: Id,
     pub header: u32,

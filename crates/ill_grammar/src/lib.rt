@@ -30,7 +30,7 @@ pub use due::{Next, Slot};
 pub use element::{Element, Wrapped};
 pub use frame::Frame;
 pub use frames::{Frames, MAX_DEPTH};
-pub use judge::{Extent, Opening, Reading};
+pub use judge::{ConstructedElement, Extent, PrimitiveElement};
 pub use leaf_type::{LeafType, ModuleLeaf};
 pub use need::need_at;
 pub use outline::{Mark, Outline};

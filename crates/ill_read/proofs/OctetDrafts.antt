@@ -42,8 +42,8 @@ use Rattle.ill_grammar.specs.declared.due.Slot.{Slot}
 use Rattle.ill_grammar.specs.declared.element.Element.{Element as CodeElement}
 use Rattle.ill_grammar.specs.declared.element.Element.TheVariants.{Leaf as LeafElement, Sequence, List as ListOf, Wrapper, LooseWrapper, Segment, ModuleLeaf, BitString, BitSegment, Foreign}
 use Rattle.ill_grammar.specs.declared.frame.Frame.{Frame}
-use Rattle.ill_grammar.specs.declared.judge.Opening.{Opening}
-use Rattle.ill_grammar.specs.declared.judge.Reading.{Reading}
+use Rattle.ill_grammar.specs.declared.judge.ConstructedElement.{ConstructedElement}
+use Rattle.ill_grammar.specs.declared.judge.PrimitiveElement.{PrimitiveElement}
 use Rattle.ill_grammar.specs.declared.leaf_type.LeafType.{LeafType}
 use Rattle.ill_read.specs.declared.normal_form_draft.NormalFormDraft.{NormalFormDraft}
 use Rattle.ill_read.proofs.DeliveredEntries.{pushed_apart, pushed_segment}
@@ -67,7 +67,7 @@ stands_behind d Segment front text o none whole bits = absurd (whole.0 refl)
 stands_behind d BitSegment front text o none whole bits = absurd (whole.1 refl)
 stands_behind d _ front text o none whole bits = o ∙ sym (append-nil front) ∙ ap (λ t. front ++ t) (sym none)
 
-pub octets_opened : (old new : NormalFormDraft) (next : Next) (o : Opening) (contents_start : ℕ) (id : List ℕ) → IsNoSegment (read_as o.found) → (IsApartAs o → id ≡ identifier (tag_of_id o.id) (form_of (read_as o.found)))
+pub octets_opened : (old new : NormalFormDraft) (next : Next) (o : ConstructedElement) (contents_start : ℕ) (id : List ℕ) → IsNoSegment (read_as o.found) → (IsApartAs o → id ≡ identifier (tag_of_id o.id) (form_of (read_as o.found)))
     → (read_as o.found ≡ BitString → new.bits ≡ 0 ∷ []) → new.octets ≡ old.octets ++ (id ++ 0 ∷ []) → contents_start ≡ length new.octets → HasOpened AreOctets old next o contents_start new
 octets_opened old new next o contents_start id whole is bits e b levels text h opening inside = subst (λ ls. AreOctets new ls (text_opened (read_as o.found) text)) (sym (pushed_apart l levels whole)) (go levels h)
   where
@@ -91,7 +91,7 @@ octets_opened old new next o contents_start id whole is bits e b levels text h o
         }
 
 -- a segment opens
-pub segment_opened : (old new : NormalFormDraft) (next : Next) (o : Opening) (contents_start : ℕ) → read_as o.found ≡ Segment → new ≡ old → HasOpened AreOctets old next o contents_start new
+pub segment_opened : (old new : NormalFormDraft) (next : Next) (o : ConstructedElement) (contents_start : ℕ) → read_as o.found ≡ Segment → new ≡ old → HasOpened AreOctets old next o contents_start new
 segment_opened old new next o contents_start is same levels text h opening inside =
     subst (λ d. AreOctets d (pushed l levels) (text_opened (read_as o.found) text)) (sym same)
     (subst (λ ls. AreOctets old ls (text_opened (read_as o.found) text)) (sym (pushed_segment l levels (inl is))) (subst (λ e. AreOctets old levels (text_opened e text)) (sym is) h))
@@ -130,7 +130,7 @@ pub bits_more : (old new : NormalFormDraft) (octets : List ℕ) → new.octets �
 bits_more old new octets same e l below text is h = bits_joined old new l below text octets is same e h
 
 -- a segment of a BIT STRING opens, and has no bits yet
-pub bit_segment_opened : (old new : NormalFormDraft) (next : Next) (o : Opening) (contents_start : ℕ) → read_as o.found ≡ BitSegment → new.octets ≡ old.octets → new.bits ≡ join_bits old.bits (0 ∷ []) → HasOpened AreOctets old next o contents_start new
+pub bit_segment_opened : (old new : NormalFormDraft) (next : Next) (o : ConstructedElement) (contents_start : ℕ) → read_as o.found ≡ BitSegment → new.octets ≡ old.octets → new.bits ≡ join_bits old.bits (0 ∷ []) → HasOpened AreOctets old next o contents_start new
 bit_segment_opened old new next o contents_start is same e levels text h opening inside =
     let x = inside is in
     let joined = bits_joined old new x.0 x.1 text (0 ∷ []) x.3 same e (subst (λ ls. AreOctets old ls text) x.2 h) in
@@ -184,7 +184,7 @@ no_bit_string p l next tag slot alt e due whole is =
     segments_alone e (segment_tag bit_string) whole (due_bit_segment tag l.next (due_with slot alt e) due.is_due here)
 
 -- a leaf is added, unless it is its row's default
-pub leaf_added : (p : Named) (old new : NormalFormDraft) (l : Level) (below : List Level) (next : Next) (r : Reading) (leaf : LeafType) (octets : List ℕ) → AreOctets old (l ∷ below) []
+pub leaf_added : (p : Named) (old new : NormalFormDraft) (l : Level) (below : List Level) (next : Next) (r : PrimitiveElement) (leaf : LeafType) (octets : List ℕ) → AreOctets old (l ∷ below) []
     → IsDueAt p l next (tag_of_id r.id) (slot_in r.found) (alternative_of r.found) (LeafElement leaf) → IsTrue (are_octets octets) → content_fault (profile_of p) (leaf_is leaf) octets ≡ None
     → new.octets ≡ old.octets ++ unless_left next (slot_in r.found) (with_alternative (alternative_of r.found) (simple (value (leaf_is leaf) octets))) (encoding (primitive (tag_of_id r.id) (normal_content (value (leaf_is leaf) octets))))
     → AreOctets new (with_entry l (slot_in r.found) (with_alternative (alternative_of r.found) (simple (value (leaf_is leaf) octets))) ∷ below) []
@@ -240,7 +240,7 @@ other_normal p BitString tag octets c right is = ap (λ x. encoding (normal_elem
 other_normal p (Foreign m) tag octets c right is = ap (λ x. encoding (normal_element (foreign m) tag x)) is
 other_normal p _ tag octets c right is = absurd is
 
-pub other_added : (p : Named) (old new : NormalFormDraft) (l : Level) (below : List Level) (next : Next) (r : Reading) (octets : List ℕ) (c : Content) → IsModuleElement (read_as r.found) → IsRightContent p (read_as r.found) octets
+pub other_added : (p : Named) (old new : NormalFormDraft) (l : Level) (below : List Level) (next : Next) (r : PrimitiveElement) (octets : List ℕ) (c : Content) → IsModuleElement (read_as r.found) → IsRightContent p (read_as r.found) octets
     → AreOctets old (l ∷ below) [] → IsDueAt p l next (tag_of_id r.id) (slot_in r.found) (alternative_of r.found) (read_as r.found) → IsPrimitiveOf (read_as r.found) (tag_of_id r.id) octets c
     → new.octets ≡ old.octets ++ encoding (primitive (tag_of_id r.id) (other_octets (read_as r.found) octets))
     → AreOctets new (with_entry l (slot_in r.found) (with_alternative (alternative_of r.found) c) ∷ below) []

@@ -23,7 +23,7 @@ use Rattle.ill_grammar.specs.declared.due.Next.TheVariants.{Inner, Root}
 use Rattle.ill_grammar.specs.declared.element.Element.{Element as CodeElement}
 use Rattle.ill_grammar.specs.declared.element.Element.TheVariants.{Leaf, Sequence, List as ListOf, Wrapper, LooseWrapper, Segment, ModuleLeaf, BitString, BitSegment, Foreign}
 use Rattle.ill_grammar.specs.declared.frame.Frame.{Frame}
-use Rattle.ill_grammar.specs.declared.judge.Opening.{Opening}
+use Rattle.ill_grammar.specs.declared.judge.ConstructedElement.{ConstructedElement}
 use Rattle.ill_read.specs.declared.path.Path.{Path}
 use Rattle.ill_read.proofs.DeliveredEntries.{innermost_level}
 use Rattle.ber_tree.specs.Identifier.{HasIdentifier}
@@ -70,7 +70,7 @@ bound_opened : (p : Named) (end : Option ℕ) (round : ℕ) (e : CodeElement) (t
 bound_opened p (Some n) round e tag start place h = refl
 bound_opened p None round e tag start place h = h
 
-pub opens_at : {D : Type 0} (p : Named) (holds : D → List Level → List ℕ → Type 0) (old new : Path D) (opening : Opening) (f : Frame) (place : List Open) (round : ℕ) → HoldsAt p holds old place
+pub opens_at : {D : Type 0} (p : Named) (holds : D → List Level → List ℕ → Type 0) (old new : Path D) (opening : ConstructedElement) (f : Frame) (place : List Open) (round : ℕ) → HoldsAt p holds old place
     → IsDueIn (tag_of_id opening.id) (next_at p old.frames.open.items) (due_with (slot_in f.found) (alternative_of f.found) (read_as f.found)) → shape_at (next_place f.found) ≡ behind (next_at p old.frames.open.items) (slot_in f.found) → allows (element_is (read_as f.found)) true ≡ true → (shape f.place) ≡ first_of (read_as f.found)
     → round ≡ bound (profile_of p) place → f.bound ≡ unwrap_or f.end round → HasOpened holds old.draft (next_at p old.frames.open.items) opening f.contents_start new.draft → new.frames.open.items ≡ old.frames.open.items ++ f ∷ [] → new.frames.profile ≡ old.frames.profile → f.found ≡ opening.found
     → HoldsAt p holds new (opened (element_is (read_as f.found)) (tag_of_id opening.id) f.start f.end ∷ place)

@@ -57,8 +57,8 @@ use Rattle.ill_grammar.specs.declared.element.Element.{Element as CodeElement}
 use Rattle.ill_grammar.specs.declared.element.Element.TheVariants.{Leaf, Sequence, List as ListOf, Wrapper, LooseWrapper, Segment, ModuleLeaf, BitString, BitSegment, Foreign}
 use Rattle.ill_grammar.specs.declared.element.Wrapped.{Wrapped}
 use Rattle.ill_grammar.specs.declared.frame.Frame.{Frame}
-use Rattle.ill_grammar.specs.declared.judge.Opening.{Opening}
-use Rattle.ill_grammar.specs.declared.judge.Reading.{Reading}
+use Rattle.ill_grammar.specs.declared.judge.ConstructedElement.{ConstructedElement}
+use Rattle.ill_grammar.specs.declared.judge.PrimitiveElement.{PrimitiveElement}
 use Rattle.ill_grammar.specs.declared.leaf_type.LeafType.{LeafType}
 use Rattle.ill_grammar.specs.declared.outline.Mark.{Mark}
 use Rattle.ill_grammar.specs.declared.outline.Mark.TheVariants as mark
@@ -364,7 +364,7 @@ opened_none BitString text whole none = refl
 opened_none BitSegment text whole none = absurd (whole.1 refl)
 opened_none _ text whole none = ap (map mark.Octet) none
 
-pub outline_opened : (old new : OutlineDraft) (next : Next) (o : Opening) (contents_start : ℕ) (mid : List Mark) → IsNoSegment (read_as o.found) → HasOpened AreOctets old.octets next o contents_start new.octets
+pub outline_opened : (old new : OutlineDraft) (next : Next) (o : ConstructedElement) (contents_start : ℕ) (mid : List Mark) → IsNoSegment (read_as o.found) → HasOpened AreOctets old.octets next o contents_start new.octets
     → HasPreceding next (slot_in o.found) (alternative_of o.found) old.marks.items mid → new.marks.items ≡ mid ++ first_marks (first_of (read_as o.found)) (read_as o.found) → HasOpened AreOutlined old next o contents_start new
 outline_opened old new next o contents_start mid whole octets led e levels text h opening inside = record {
   octets = octets levels text h.octets opening inside;
@@ -388,7 +388,7 @@ outline_opened old new next o contents_start mid whole octets led e levels text 
         (record { slot = slot_in o.found; alternative = alternative_of o.found; is_due = i.is_due; led = subst (λ ms. HasPreceding next (slot_in o.found) (alternative_of o.found) ms mid) front led })
 
 -- a segment of a string has no marks of its own
-pub outline_segment : (old new : OutlineDraft) (next : Next) (o : Opening) (contents_start : ℕ) → (read_as o.found ≡ Segment) ⊎ (read_as o.found ≡ BitSegment) → HasOpened AreOctets old.octets next o contents_start new.octets → new.marks ≡ old.marks → HasOpened AreOutlined old next o contents_start new
+pub outline_segment : (old new : OutlineDraft) (next : Next) (o : ConstructedElement) (contents_start : ℕ) → (read_as o.found ≡ Segment) ⊎ (read_as o.found ≡ BitSegment) → HasOpened AreOctets old.octets next o contents_start new.octets → new.marks ≡ old.marks → HasOpened AreOutlined old next o contents_start new
 outline_segment old new next o contents_start is octets same levels text h opening inside =
     let joined : old.marks.items ≡ h.front ++ text_marks (innermost levels) (text_opened (read_as o.found) text) = h.joined ∙ ap (λ ms. h.front ++ ms) (stays is) in
     record {
@@ -428,7 +428,7 @@ outline_bits old new octets has same l below text is h = record {
 }
 
 -- an entry more in the innermost element, where no text is open
-outline_entry : (p : Named) (old new : OutlineDraft) (l : Level) (below : List Level) (next : Next) (r : Reading) (el : CodeElement) (c : Content) (mid y : List Mark) → AreOutlined old (l ∷ below) [] → IsDueAt p l next (tag_of_id r.id) (slot_in r.found) (alternative_of r.found) el
+outline_entry : (p : Named) (old new : OutlineDraft) (l : Level) (below : List Level) (next : Next) (r : PrimitiveElement) (el : CodeElement) (c : Content) (mid y : List Mark) → AreOutlined old (l ∷ below) [] → IsDueAt p l next (tag_of_id r.id) (slot_in r.found) (alternative_of r.found) el
     → HasPreceding next (slot_in r.found) (alternative_of r.found) old.marks.items mid → new.marks.items ≡ mid ++ y → IsEntryMarked el c y → AreFronts (with_entry l (slot_in r.found) (with_alternative (alternative_of r.found) c) ∷ below) new.marks.items
 outline_entry p old new l below next r el c mid y h due led e m =
     let front : old.marks.items ≡ h.front = h.joined ∙ ap (λ ms. h.front ++ ms) (text_none l.element) ∙ append-nil h.front in
@@ -438,7 +438,7 @@ outline_entry p old new l below next r el c mid y h due led e m =
 closed_text : (ms : List Mark) (e : CodeElement) → ms ≡ ms ++ text_marks e []
 closed_text ms e = sym (append-nil ms) ∙ ap (λ t. ms ++ t) (sym (text_none e))
 
-pub outline_leaf : (p : Named) (old new : OutlineDraft) (next : Next) (r : Reading) (leaf : LeafType) (octets : List ℕ) (mid : List Mark) → IsContentIn p (leaf_is leaf) octets → HasLeaf p AreOctets old.octets next r leaf octets new.octets
+pub outline_leaf : (p : Named) (old new : OutlineDraft) (next : Next) (r : PrimitiveElement) (leaf : LeafType) (octets : List ℕ) (mid : List Mark) → IsContentIn p (leaf_is leaf) octets → HasLeaf p AreOctets old.octets next r leaf octets new.octets
     → HasPreceding next (slot_in r.found) (alternative_of r.found) old.marks.items mid → new.marks.items ≡ mid ++ octets_marks (mark.Leaf leaf) octets → HasLeaf p AreOutlined old next r leaf octets new
 outline_leaf p old new next r leaf octets mid right has led e after l below h due = record {
   octets = has after l below h.octets due;
@@ -461,7 +461,7 @@ module_marked p BitString tag octets c other right is =
 module_marked p (Foreign m) tag octets c other right is = refl
 module_marked p _ tag octets c other right is = absurd other
 
-pub outline_element : (p : Named) (old new : OutlineDraft) (next : Next) (r : Reading) (octets : List ℕ) (mid : List Mark) → IsModuleElement (read_as r.found) → IsRightContent p (read_as r.found) octets → HasModuleElement p AreOctets old.octets next r octets new.octets
+pub outline_element : (p : Named) (old new : OutlineDraft) (next : Next) (r : PrimitiveElement) (octets : List ℕ) (mid : List Mark) → IsModuleElement (read_as r.found) → IsRightContent p (read_as r.found) octets → HasModuleElement p AreOctets old.octets next r octets new.octets
     → HasPreceding next (slot_in r.found) (alternative_of r.found) old.marks.items mid → new.marks.items ≡ mid ++ module_marks (read_as r.found) octets → HasModuleElement p AreOutlined old next r octets new
 outline_element p old new next r octets mid other right has led e l below c h due is = record {
   octets = has l below c h.octets due is;

@@ -44,7 +44,7 @@ use Rattle.ill_grammar.specs.declared.element.Element.{Element as CodeElement}
 use Rattle.ill_grammar.specs.declared.element.Element.TheVariants.{Leaf, Segment, ModuleLeaf, BitString, BitSegment, Foreign}
 use Rattle.ill_read.specs.declared.failure.Failure.{Failure}
 use Rattle.ill_read.specs.code.Progress.{Reads}
-use Rattle.ill_grammar.specs.declared.judge.Reading.{Reading}
+use Rattle.ill_grammar.specs.declared.judge.PrimitiveElement.{PrimitiveElement}
 use Rattle.ill_grammar.specs.declared.leaf_type.LeafType.{LeafType}
 use Rattle.ill_grammar.specs.declared.leaf_type.ModuleLeaf.{ModuleLeaf as ModuleLeafType}
 use Rattle.ill_read.specs.declared.path.Path.{Path}
@@ -58,7 +58,7 @@ abbrev pub content_read : Named → CodeElement → List Open → Tag → ℕ �
 content_read p e place tag header octets start at rest = step_after (or_faulty (element_fault (profile_of p) (element_is e) octets) start (reads tag header octets)) place at rest
 
 -- an element that is no segment, by its content
-element_read : {D : Type 0} (p : Named) (holds : D → List Level → List ℕ → Type 0) (old new : Path D) (place : List Open) (r : Reading) (c : Content) (start : ℕ) (octets : List ℕ) (result : Bool) (header at : ℕ) (rest : List ℕ)
+element_read : {D : Type 0} (p : Named) (holds : D → List Level → List ℕ → Type 0) (old new : Path D) (place : List Open) (r : PrimitiveElement) (c : Content) (start : ℕ) (octets : List ℕ) (result : Bool) (header at : ℕ) (rest : List ℕ)
     → HoldsAt p holds old place → IsBegin old.frames place (tag_of_id r.id) r.found false → IsNoSegment (read_as r.found) → element_fault (profile_of p) (element_is (read_as r.found)) octets ≡ None
     → IsValueOf p (element_is (read_as r.found)) c (primitive (tag_of_id r.id) octets)
     → (shape_at (next_place r.found) ≡ behind (next_at p old.frames.open.items) (slot_in r.found) → (l : Level) (below : List Level) → holds old.draft (l ∷ below) []
@@ -80,7 +80,7 @@ element_read p holds old new place r c start octets result header at rest stands
     subst (λ f. IsStep p holds new (Ok result) (step_after (or_faulty f start (reads tag header octets)) place at rest)) (sym sound) added
 
 -- a leaf
-pub leaf_read : {D : Type 0} (p : Named) (holds : D → List Level → List ℕ → Type 0) (old new : Path D) (place : List Open) (r : Reading) (l : LeafType) (start : ℕ) (octets : List ℕ) (result : Bool) (header at : ℕ) (rest : List ℕ)
+pub leaf_read : {D : Type 0} (p : Named) (holds : D → List Level → List ℕ → Type 0) (old new : Path D) (place : List Open) (r : PrimitiveElement) (l : LeafType) (start : ℕ) (octets : List ℕ) (result : Bool) (header at : ℕ) (rest : List ℕ)
     → HoldsAt p holds old place → IsBegin old.frames place (tag_of_id r.id) r.found false → read_as r.found ≡ Leaf l → IsContentIn p (leaf_is l) octets
     → HasLeaf p holds old.draft (next_at p old.frames.open.items) r l octets new.draft
     → new.frames.profile ≡ old.frames.profile → (after : Place) → place_view after ≡ next_place r.found → GoesOn after old.frames.open.items new.frames.open.items result
@@ -113,7 +113,7 @@ primitive_means p BitString tag octets c tagged right is = subst (λ x. IsValueO
 primitive_means p (Foreign m) tag octets c tagged right is = (rw tagged right.0, is)
 primitive_means p _ tag octets c tagged right is = absurd is
 
-pub module_element_read : {D : Type 0} (p : Named) (holds : D → List Level → List ℕ → Type 0) (old new : Path D) (place : List Open) (r : Reading) (start : ℕ) (octets : List ℕ) (result : Bool) (header at : ℕ) (rest : List ℕ)
+pub module_element_read : {D : Type 0} (p : Named) (holds : D → List Level → List ℕ → Type 0) (old new : Path D) (place : List Open) (r : PrimitiveElement) (start : ℕ) (octets : List ℕ) (result : Bool) (header at : ℕ) (rest : List ℕ)
     → HoldsAt p holds old place → IsBegin old.frames place (tag_of_id r.id) r.found false → IsModuleElement (read_as r.found) → IsRightContent p (read_as r.found) octets
     → HasModuleElement p holds old.draft (next_at p old.frames.open.items) r octets new.draft
     → new.frames.profile ≡ old.frames.profile → (after : Place) → place_view after ≡ next_place r.found → GoesOn after old.frames.open.items new.frames.open.items result
@@ -136,7 +136,7 @@ primitive_segment BitSegment a f g h i j = absurd (j refl)
 primitive_segment _ a f g h i j = absurd cc
 
 -- a segment, by the text that it leaves
-segment_joined : {D : Type 0} (p : Named) (holds : D → List Level → List ℕ → Type 0) (old new : Path D) (place : List Open) (r : Reading) (start : ℕ) (octets : List ℕ) (header at : ℕ) (rest : List ℕ) → (stands : HoldsAt p holds old place)
+segment_joined : {D : Type 0} (p : Named) (holds : D → List Level → List ℕ → Type 0) (old new : Path D) (place : List Open) (r : PrimitiveElement) (start : ℕ) (octets : List ℕ) (header at : ℕ) (rest : List ℕ) → (stands : HoldsAt p holds old place)
     → IsDueIn (tag_of_id r.id) (next_at p old.frames.open.items) (due_with (slot_in r.found) (alternative_of r.found) (read_as r.found)) → element_fault (profile_of p) (element_is (read_as r.found)) octets ≡ None
     → IsSegmentOf (next_at p old.frames.open.items) (primitive (tag_of_id r.id) octets) → holds new.draft stands.0 (text_after (next_at p old.frames.open.items) (text_so_far place) (primitive (tag_of_id r.id) octets)) → new.frames ≡ old.frames
     → IsStep p holds new (Ok false) (content_read p (read_as r.found) place (tag_of_id r.id) header octets start at rest)
@@ -150,7 +150,7 @@ segment_joined p holds old new place r start octets header at rest stands due so
     subst (λ f. IsStep p holds new (Ok false) (step_after (or_faulty f start (reads (tag_of_id r.id) header octets)) place at rest)) (sym sound) added
 
 -- a segment of a string
-pub segment_read : {D : Type 0} (p : Named) (holds : D → List Level → List ℕ → Type 0) (old new : Path D) (place : List Open) (r : Reading) (start : ℕ) (octets : List ℕ) (header at : ℕ) (rest : List ℕ)
+pub segment_read : {D : Type 0} (p : Named) (holds : D → List Level → List ℕ → Type 0) (old new : Path D) (place : List Open) (r : PrimitiveElement) (start : ℕ) (octets : List ℕ) (header at : ℕ) (rest : List ℕ)
     → HoldsAt p holds old place → IsBegin old.frames place (tag_of_id r.id) r.found false → read_as r.found ≡ Segment → new.frames ≡ old.frames → HasText holds old.draft octets new.draft
     → IsStep p holds new (Ok false) (content_read p (read_as r.found) place (tag_of_id r.id) header octets start at rest)
 segment_read p holds old new place r start octets header at rest stands begin is frames has =
@@ -166,7 +166,7 @@ segment_read p holds old new place r start octets header at rest stands begin is
     (is_segment next (primitive tag octets) d due string tt) (subst (λ n. holds new.draft stands.0 (text_after n (text_so_far place) (primitive tag octets))) (sym string) held) frames
 
 -- a segment of a BIT STRING
-pub bit_segment_read : {D : Type 0} (p : Named) (holds : D → List Level → List ℕ → Type 0) (old new : Path D) (place : List Open) (r : Reading) (start : ℕ) (octets : List ℕ) (header at : ℕ) (rest : List ℕ)
+pub bit_segment_read : {D : Type 0} (p : Named) (holds : D → List Level → List ℕ → Type 0) (old new : Path D) (place : List Open) (r : PrimitiveElement) (start : ℕ) (octets : List ℕ) (header at : ℕ) (rest : List ℕ)
     → HoldsAt p holds old place → IsBegin old.frames place (tag_of_id r.id) r.found false → read_as r.found ≡ BitSegment → new.frames ≡ old.frames → HasBits holds old.draft octets new.draft
     → IsStep p holds new (Ok false) (content_read p (read_as r.found) place (tag_of_id r.id) header octets start at rest)
 bit_segment_read p holds old new place r start octets header at rest stands begin is frames has =
@@ -182,7 +182,7 @@ bit_segment_read p holds old new place r start octets header at rest stands begi
     (is_bit_segment next (primitive tag octets) d due string tt) (subst (λ n. holds new.draft stands.0 (text_after n (text_so_far place) (primitive tag octets))) (sym string) held) frames
 
 -- what was judged to be read is
-pub reads_judged : {D : Type 0} (p : Named) (holds : D → List Level → List ℕ → Type 0) (old new : Path D) (place : List Open) (r : Reading) (at : ℕ) (rest : List ℕ) (j : Judgement) (result : Result Bool Failure)
+pub reads_judged : {D : Type 0} (p : Named) (holds : D → List Level → List ℕ → Type 0) (old new : Path D) (place : List Open) (r : PrimitiveElement) (at : ℕ) (rest : List ℕ) (j : Judgement) (result : Result Bool Failure)
     → HoldsAt p holds old place → IsJudgement p old.frames place at rest (Reads r) j → ReadsExactly holds old r at (content_in r.header r.size rest) new result → IsStep p holds new result (step_after j place at rest)
 reads_judged p holds old new place r at rest j result stands judged reads_on =
     subst (λ x. IsStep p holds new result (step_after x place at rest)) (sym judged.1) (reads_on p place r.header at rest stands judged.0)

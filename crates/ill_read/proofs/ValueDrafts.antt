@@ -28,13 +28,13 @@ use Rattle.ill_grammar.specs.declared.element.Element.{Element as CodeElement}
 use Rattle.ill_grammar.specs.declared.element.Element.TheVariants.{Leaf, List as ListOf, Wrapper, LooseWrapper, Segment, BitSegment}
 use Rattle.ill_grammar.specs.declared.element.Wrapped.{Wrapped}
 use Rattle.ill_grammar.specs.declared.frame.Frame.{Frame}
-use Rattle.ill_grammar.specs.declared.judge.Opening.{Opening}
+use Rattle.ill_grammar.specs.declared.judge.ConstructedElement.{ConstructedElement}
 use Rattle.ill_grammar.specs.declared.leaf_type.LeafType.{LeafType}
 use Rattle.ill_read.specs.declared.value_draft.ValueDraft.{ValueDraft}
 use Rattle.ill_grammar.specs.Due.{shape, first_of, read_as}
 
 -- an element that opens has no entries
-pub values_opened : (v : ValueDraft) (next : Next) (opening : Opening) (contents_start : ℕ) → IsTrue (is_two_element (read_as opening.found)) → contents_start ≡ length v.held.entries.items → HasOpened AreValues v next opening contents_start v
+pub values_opened : (v : ValueDraft) (next : Next) (opening : ConstructedElement) (contents_start : ℕ) → IsTrue (is_two_element (read_as opening.found)) → contents_start ≡ length v.held.entries.items → HasOpened AreValues v next opening contents_start v
 values_opened v next opening contents_start two e levels text h is inside =
     subst (λ t. AreValues v (elim (read_as opening.found) as (λ _. List Level) [ Segment ↦ levels | BitSegment ↦ levels | _ ↦ l ∷ levels ]) t) (sym (opened_same (read_as opening.found) text two)) (go (read_as opening.found))
   where

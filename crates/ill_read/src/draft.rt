@@ -11,7 +11,7 @@ ghost use Rattle.ill_grammar.specs.declared.element.Element.{Element as CodeElem
 ghost use Rattle.ill_read.specs.code.Drafts.{ChecksText, HasBits, HasClosed, HasEnded, HasLeaf, HasModuleElement, HasOpened, HasText, HoldsApdu, IsModuleElement, IsRightContent};
 
 use crate::failure::Failure;
-use ill_grammar::{Frame, LeafType, Opening, Place, Reading};
+use ill_grammar::{ConstructedElement, Frame, LeafType, Place, PrimitiveElement};
 use ill_schema::Profile;
 use std::alloc::AllocError;
 
@@ -31,7 +31,7 @@ pub trait Draft: Drop {
         &mut self,
         profile: Profile,
         place: Place,
-        opening: Opening,
+        opening: ConstructedElement,
     ) -> Result<usize, AllocError>
         requires takes { takes profile }
         requires is_of { IsTrue (is_found_of profile opening.found) }
@@ -43,7 +43,7 @@ pub trait Draft: Drop {
         &mut self,
         profile: Profile,
         place: Place,
-        opening: Opening,
+        opening: ConstructedElement,
     ) -> Result<usize, AllocError>
         requires takes { takes profile }
         requires is_of { IsTrue (is_found_of profile opening.found) }
@@ -56,7 +56,12 @@ pub trait Draft: Drop {
         ensures { OnOk result (HasText holds self.old octets.now self.new) };
 
     /// A segment more of the BIT STRING that is open.
-    fn bits(&mut self, profile: Profile, reading: Reading, content: &[u8]) -> Result<(), AllocError>
+    fn bits(
+        &mut self,
+        profile: Profile,
+        reading: PrimitiveElement,
+        content: &[u8],
+    ) -> Result<(), AllocError>
         requires takes { takes profile }
         requires is_of { IsTrue (is_found_of profile reading.found) }
         requires segment { read_as reading.found ≡ CodeElement.BitSegment }
@@ -67,7 +72,7 @@ pub trait Draft: Drop {
         &mut self,
         profile: Profile,
         place: Place,
-        reading: Reading,
+        reading: PrimitiveElement,
         leaf: LeafType,
         content: &[u8],
     ) -> Result<(), AllocError>
@@ -81,7 +86,7 @@ pub trait Draft: Drop {
         &mut self,
         profile: Profile,
         place: Place,
-        reading: Reading,
+        reading: PrimitiveElement,
         content: &[u8],
     ) -> Result<(), AllocError>
         requires takes { takes profile }

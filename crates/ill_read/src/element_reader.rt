@@ -4,7 +4,7 @@ ghost use Rattle.std.specs.Prelude.{◌≤◌, length, IfSome};
 use crate::draft::Draft;
 use crate::failure::Failure;
 use crate::reader::Reader;
-use ill_grammar::{Frame, Frames, LeafType, Opening, Place, Reading};
+use ill_grammar::{ConstructedElement, Frame, Frames, LeafType, Place, PrimitiveElement};
 use ill_schema::Profile;
 use std::alloc::{AllocError, Global};
 
@@ -66,7 +66,7 @@ impl Draft for EmptyDraft {
         &mut self,
         _profile: Profile,
         _place: Place,
-        _opening: Opening,
+        _opening: ConstructedElement,
     ) -> Result<usize, AllocError> {
         Ok(0)
     }
@@ -75,7 +75,7 @@ impl Draft for EmptyDraft {
         &mut self,
         _profile: Profile,
         _place: Place,
-        _opening: Opening,
+        _opening: ConstructedElement,
     ) -> Result<usize, AllocError> {
         Ok(0)
     }
@@ -87,7 +87,7 @@ impl Draft for EmptyDraft {
     fn bits(
         &mut self,
         _profile: Profile,
-        _reading: Reading,
+        _reading: PrimitiveElement,
         _content: &[u8],
     ) -> Result<(), AllocError> {
         Ok(())
@@ -97,7 +97,7 @@ impl Draft for EmptyDraft {
         &mut self,
         _profile: Profile,
         _place: Place,
-        _reading: Reading,
+        _reading: PrimitiveElement,
         _leaf: LeafType,
         _content: &[u8],
     ) -> Result<(), AllocError> {
@@ -108,7 +108,7 @@ impl Draft for EmptyDraft {
         &mut self,
         _profile: Profile,
         _place: Place,
-        _reading: Reading,
+        _reading: PrimitiveElement,
         _content: &[u8],
     ) -> Result<(), AllocError> {
         Ok(())

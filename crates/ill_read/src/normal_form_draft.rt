@@ -22,7 +22,9 @@ use crate::failure::Failure;
 use ber_core::{Class, Id, universal};
 use ber_leaf::{BitSegments, BitString, Leaf};
 use der_buffer::DerBuffer;
-use ill_grammar::{Element, EntryRole, Frame, LeafType, Next, Opening, Place, Reading};
+use ill_grammar::{
+    ConstructedElement, Element, EntryRole, Frame, LeafType, Next, Place, PrimitiveElement,
+};
 use ill_schema::{Cause, LIMIT, Profile};
 use std::alloc::{AllocError, Global};
 
@@ -85,7 +87,7 @@ impl NormalFormDraft {
     /// Opens a string that only the module profile has, or a segment of one.
     // What opens is copied for the call here, so that other elements do without the copy.
     #[inline(always)]
-    fn open_module_string(&mut self, opening: Opening) -> Result<usize, AllocError>
+    fn open_module_string(&mut self, opening: ConstructedElement) -> Result<usize, AllocError>
         requires { IsModuleString (read_as opening.found) }
         ensures { (next : Next) → IfOk result (λ contents_start. HasOpened AreOctets self.old next
             opening contents_start self.new) }
@@ -95,7 +97,7 @@ impl NormalFormDraft {
 
     /// Does the same out of line, so that most elements do without its memory.
     #[inline(never)]
-    fn open_out_of_line(&mut self, opening: Opening) -> Result<usize, AllocError>
+    fn open_out_of_line(&mut self, opening: ConstructedElement) -> Result<usize, AllocError>
         requires { IsModuleString (read_as opening.found) }
         ensures { (next : Next) → IfOk result (λ contents_start. HasOpened AreOctets self.old next
             opening contents_start self.new) }
@@ -163,7 +165,7 @@ impl Draft for NormalFormDraft {
         &mut self,
         _profile: Profile,
         _place: Place,
-        opening: Opening,
+        opening: ConstructedElement,
     ) -> Result<usize, AllocError> {
         let contents_start = match Element::of(opening.found) {
             Element::Segment => self.octets.len(),
@@ -181,7 +183,7 @@ impl Draft for NormalFormDraft {
         &mut self,
         _profile: Profile,
         _place: Place,
-        opening: Opening,
+        opening: ConstructedElement,
     ) -> Result<usize, AllocError> {
         let contents_start = self.octets.open(opening.id)?;
         Ok(contents_start)
@@ -195,7 +197,7 @@ impl Draft for NormalFormDraft {
     fn bits(
         &mut self,
         _profile: Profile,
-        _reading: Reading,
+        _reading: PrimitiveElement,
         content: &[u8],
     ) -> Result<(), AllocError> {
         self.bits.push(content)?;
@@ -207,7 +209,7 @@ impl Draft for NormalFormDraft {
         &mut self,
         _profile: Profile,
         _place: Place,
-        reading: Reading,
+        reading: PrimitiveElement,
         leaf: LeafType,
         content: &[u8],
     ) -> Result<(), AllocError> {
@@ -223,7 +225,7 @@ impl Draft for NormalFormDraft {
         &mut self,
         _profile: Profile,
         _place: Place,
-        reading: Reading,
+        reading: PrimitiveElement,
         content: &[u8],
     ) -> Result<(), AllocError> {
         if let Element::BitString = Element::of(reading.found) {
@@ -290,7 +292,7 @@ fn normal_content(leaf: LeafType, content: &[u8]) -> &[u8]
 
 /// Tells whether a leaf is the default of its row, by the default of what was found. Strings and the values of choices never are.
 #[inline(always)]
-fn is_default_value(reading: Reading, leaf: LeafType, content: &[u8]) -> bool
+fn is_default_value(reading: PrimitiveElement, leaf: LeafType, content: &[u8]) -> bool
     requires { (p : Named) × IsContentIn p (leaf_is leaf) content.now }
     ensures { (t : Tag) (n : Next)
         → IsDueIn t n (due_with (slot_in reading.found) (alternative_of reading.found)

@@ -15,7 +15,8 @@ use crate::draft::Draft;
 use crate::failure::Failure;
 use crate::normal_form_draft::NormalFormDraft;
 use ill_grammar::{
-    Element, Found, Frame, LeafType, Mark, Next, Opening, Outline, Place, Reading, Slot,
+    ConstructedElement, Element, Found, Frame, LeafType, Mark, Next, Outline, Place,
+    PrimitiveElement, Slot,
 };
 use ill_schema::{NodeId, PartId, Profile, rows};
 use std::alloc::{AllocError, Global};
@@ -218,7 +219,7 @@ impl Draft for OutlineDraft {
         &mut self,
         profile: Profile,
         place: Place,
-        opening: Opening,
+        opening: ConstructedElement,
     ) -> Result<usize, AllocError> {
         let element = Element::of(opening.found);
         match element {
@@ -236,7 +237,7 @@ impl Draft for OutlineDraft {
         &mut self,
         profile: Profile,
         place: Place,
-        opening: Opening,
+        opening: ConstructedElement,
     ) -> Result<usize, AllocError> {
         let element = Element::of(opening.found);
         mark_preceding(&mut self.marks, place, opening.found)?;
@@ -252,7 +253,7 @@ impl Draft for OutlineDraft {
     fn bits(
         &mut self,
         profile: Profile,
-        reading: Reading,
+        reading: PrimitiveElement,
         content: &[u8],
     ) -> Result<(), AllocError> {
         self.octets.bits(profile, reading, content)
@@ -263,7 +264,7 @@ impl Draft for OutlineDraft {
         &mut self,
         profile: Profile,
         place: Place,
-        reading: Reading,
+        reading: PrimitiveElement,
         leaf: LeafType,
         content: &[u8],
     ) -> Result<(), AllocError> {
@@ -278,7 +279,7 @@ impl Draft for OutlineDraft {
         &mut self,
         profile: Profile,
         place: Place,
-        reading: Reading,
+        reading: PrimitiveElement,
         content: &[u8],
     ) -> Result<(), AllocError> {
         self.octets

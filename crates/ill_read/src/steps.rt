@@ -10,7 +10,7 @@ ghost use Rattle.ill_read.specs.code.Drafts.{HasOpened};
 use crate::draft::Draft;
 use crate::failure::Failure;
 use crate::path::Path;
-use ill_grammar::{Element, Frame, Frames, LeafType, Opening, Place, Reading};
+use ill_grammar::{ConstructedElement, Element, Frame, Frames, LeafType, Place, PrimitiveElement};
 use ill_schema::{Cause, Profile};
 use std::alloc::AllocError;
 
@@ -20,7 +20,7 @@ fn open_in<D: Draft>(
     draft: &mut D,
     profile: Profile,
     place: Place,
-    opening: Opening,
+    opening: ConstructedElement,
     usual: bool,
 ) -> Result<usize, AllocError>
     requires takes { D.takes profile }
@@ -68,7 +68,12 @@ impl<D: Draft> Path<D> {
 
     /// Opens the element that is due and begins at `start`; `usual` says that it is known to be usual.
     #[inline(always)]
-    pub fn open(&mut self, opening: Opening, start: u32, usual: bool) -> Result<(), AllocError>
+    pub fn open(
+        &mut self,
+        opening: ConstructedElement,
+        start: u32,
+        usual: bool,
+    ) -> Result<(), AllocError>
         requires room { depth_of self.old.frames < 32 }
         requires takes { D.takes self.old.frames.profile }
         requires is_of { IsTrue (is_found_of self.old.frames.profile opening.found) }
@@ -101,7 +106,7 @@ impl<D: Draft> Path<D> {
     #[inline(always)]
     pub fn take(
         &mut self,
-        reading: Reading,
+        reading: PrimitiveElement,
         start: u32,
         content: &[u8],
         usual: bool,
@@ -131,7 +136,7 @@ impl<D: Draft> Path<D> {
     #[inline(always)]
     fn take_other_element(
         &mut self,
-        reading: Reading,
+        reading: PrimitiveElement,
         start: u32,
         content: &[u8],
     ) -> Result<bool, Failure>
@@ -149,7 +154,7 @@ impl<D: Draft> Path<D> {
     #[inline(never)]
     fn take_other_out_of_line(
         &mut self,
-        reading: Reading,
+        reading: PrimitiveElement,
         start: u32,
         content: &[u8],
     ) -> Result<bool, Failure>
@@ -180,7 +185,7 @@ impl<D: Draft> Path<D> {
     #[inline(always)]
     fn take_leaf(
         &mut self,
-        reading: Reading,
+        reading: PrimitiveElement,
         leaf: LeafType,
         start: u32,
         content: &[u8],
@@ -205,7 +210,7 @@ impl<D: Draft> Path<D> {
     #[inline(always)]
     pub fn take_module_element(
         &mut self,
-        reading: Reading,
+        reading: PrimitiveElement,
         start: u32,
         content: &[u8],
     ) -> Result<bool, Failure>

@@ -16,7 +16,9 @@ use crate::draft::Draft;
 use crate::failure::Failure;
 use crate::open_values::OpenValues;
 use crate::whole::message_of;
-use ill_grammar::{Element, Frame, LeafType, Next, Opening, Place, Reading, Slot};
+use ill_grammar::{
+    ConstructedElement, Element, Frame, LeafType, Next, Place, PrimitiveElement, Slot,
+};
 use ill_schema::{Cause, Message, Profile, Value};
 use std::alloc::{AllocError, Global};
 use std::mem;
@@ -135,7 +137,7 @@ impl Draft for ValueDraft {
         &mut self,
         _profile: Profile,
         _place: Place,
-        _opening: Opening,
+        _opening: ConstructedElement,
     ) -> Result<usize, AllocError> {
         Ok(self.held.len())
     }
@@ -144,7 +146,7 @@ impl Draft for ValueDraft {
         &mut self,
         profile: Profile,
         place: Place,
-        opening: Opening,
+        opening: ConstructedElement,
     ) -> Result<usize, AllocError> {
         self.open(profile, place, opening)
     }
@@ -157,7 +159,7 @@ impl Draft for ValueDraft {
     fn bits(
         &mut self,
         _profile: Profile,
-        _reading: Reading,
+        _reading: PrimitiveElement,
         _content: &[u8],
     ) -> Result<(), AllocError> {
         unreachable!()
@@ -167,7 +169,7 @@ impl Draft for ValueDraft {
         &mut self,
         _profile: Profile,
         place: Place,
-        reading: Reading,
+        reading: PrimitiveElement,
         leaf: LeafType,
         content: &[u8],
     ) -> Result<(), AllocError> {
@@ -182,7 +184,7 @@ impl Draft for ValueDraft {
         &mut self,
         _profile: Profile,
         _place: Place,
-        _reading: Reading,
+        _reading: PrimitiveElement,
         _content: &[u8],
     ) -> Result<(), AllocError> {
         unreachable!()

@@ -31,8 +31,8 @@ use Rattle.ill_grammar.specs.declared.element.Element.{Element as CodeElement}
 use Rattle.ill_grammar.specs.declared.element.Element.TheVariants.{Leaf, Sequence, List as ListOf, Wrapper, LooseWrapper, Segment, ModuleLeaf, BitString, BitSegment, Foreign}
 use Rattle.ill_read.specs.declared.failure.Failure.{Failure}
 use Rattle.ill_grammar.specs.declared.frame.Frame.{Frame}
-use Rattle.ill_grammar.specs.declared.judge.Opening.{Opening}
-use Rattle.ill_grammar.specs.declared.judge.Reading.{Reading}
+use Rattle.ill_grammar.specs.declared.judge.ConstructedElement.{ConstructedElement}
+use Rattle.ill_grammar.specs.declared.judge.PrimitiveElement.{PrimitiveElement}
 use Rattle.ill_grammar.specs.declared.leaf_type.LeafType.{LeafType}
 
 -- the rows between a position and the row of an element
@@ -89,7 +89,7 @@ IsChecked p f text (Ok _) = IsRightText p (read_as f.found) text
 IsChecked p f text (Err failure) = IsTextFault p (read_as f.found) f.start text failure
 
 -- no text is open, and the element is due in the innermost level
-pub record IsOpeningIn (levels : List Level) (text : List ℕ) (expected : Next) (o : Opening) : Type 0 where
+pub record IsOpeningIn (levels : List Level) (text : List ℕ) (expected : Next) (o : ConstructedElement) : Type 0 where
   pub none : text ≡ []
   pub level : Level
   pub below : List Level
@@ -112,7 +112,7 @@ abbrev pub InBitString : List Level → Type 0
 InBitString levels = (l : Level) × (below : List Level) × (levels ≡ l ∷ below) × (l.element ≡ BitString)
 
 -- an element opened
-abbrev pub HasOpened : {D : Type 0} → (D → List Level → List ℕ → Type 0) → D → Next → Opening → ℕ → D → Type 0
+abbrev pub HasOpened : {D : Type 0} → (D → List Level → List ℕ → Type 0) → D → Next → ConstructedElement → ℕ → D → Type 0
 HasOpened holds old next o contents_start new = (levels : List Level) (text : List ℕ) → holds old levels text → (IsNoSegment (read_as o.found) → IsOpeningIn levels text next o) → (read_as o.found ≡ BitSegment → InBitString levels)
     → holds new (pushed (record { element = read_as o.found; tag = tag_of_id o.id; next = first_of (read_as o.found); contents_start = contents_start; entries = [] }) levels) (text_opened (read_as o.found) text)
 
@@ -125,7 +125,7 @@ abbrev pub HasBits : {D : Type 0} → (D → List Level → List ℕ → Type 0)
 HasBits holds old octets new = (l : Level) (below : List Level) (text : List ℕ) → l.element ≡ BitString → holds old (l ∷ below) text → holds new (l ∷ below) (join_bits text octets)
 
 -- a leaf was added, after which comes what comes at the place after what was found
-abbrev pub HasLeaf : {D : Type 0} → Named → (D → List Level → List ℕ → Type 0) → D → Next → Reading → LeafType → List ℕ → D → Type 0
+abbrev pub HasLeaf : {D : Type 0} → Named → (D → List Level → List ℕ → Type 0) → D → Next → PrimitiveElement → LeafType → List ℕ → D → Type 0
 HasLeaf p holds old next r leaf octets new = shape_at (next_place r.found) ≡ behind next (slot_in r.found) → (l : Level) (below : List Level) → holds old (l ∷ below) [] → IsDueAt p l next (tag_of_id r.id) (slot_in r.found) (alternative_of r.found) (Leaf leaf)
     → holds new (with_entry l (slot_in r.found) (with_alternative (alternative_of r.found) (simple (value (leaf_is leaf) octets))) ∷ below) []
 
@@ -152,7 +152,7 @@ IsPrimitiveOf (Foreign m) tag octets c = c ≡ content.foreign (primitive tag oc
 IsPrimitiveOf _ tag octets c = ⊥
 
 -- such an element was added
-abbrev pub HasModuleElement : {D : Type 0} → Named → (D → List Level → List ℕ → Type 0) → D → Next → Reading → List ℕ → D → Type 0
+abbrev pub HasModuleElement : {D : Type 0} → Named → (D → List Level → List ℕ → Type 0) → D → Next → PrimitiveElement → List ℕ → D → Type 0
 HasModuleElement p holds old next r octets new = (l : Level) (below : List Level) (c : Content) → holds old (l ∷ below) []
     → IsDueAt p l next (tag_of_id r.id) (slot_in r.found) (alternative_of r.found) (read_as r.found) → IsPrimitiveOf (read_as r.found) (tag_of_id r.id) octets c
     → holds new (with_entry l (slot_in r.found) (with_alternative (alternative_of r.found) c) ∷ below) []

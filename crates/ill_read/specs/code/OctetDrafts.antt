@@ -23,7 +23,7 @@ use Rattle.ill_grammar.specs.declared.due.Slot.{Slot}
 use Rattle.ill_grammar.specs.declared.element.Element.{Element as CodeElement}
 use Rattle.ill_grammar.specs.declared.element.Element.TheVariants.{Leaf, Sequence, List as ListOf, Wrapper, LooseWrapper, Segment, ModuleLeaf, BitString, BitSegment, Foreign}
 use Rattle.ill_grammar.specs.declared.element.Wrapped.{Wrapped}
-use Rattle.ill_grammar.specs.declared.judge.Opening.{Opening}
+use Rattle.ill_grammar.specs.declared.judge.ConstructedElement.{ConstructedElement}
 use Rattle.ill_read.specs.declared.normal_form_draft.NormalFormDraft.{NormalFormDraft}
 
 -- the items that are there
@@ -72,7 +72,7 @@ form_of _ = true
 abbrev pub IsApart : Level → Type 0
 IsApart l = l.tag.class ≡ Universal → l.tag.number ≡ 0 → form_of l.element ≡ true
 
-abbrev pub IsApartAs : Opening → Type 0
+abbrev pub IsApartAs : ConstructedElement → Type 0
 IsApartAs o = (tag_of_id o.id).class ≡ Universal → (tag_of_id o.id).number ≡ 0 → form_of (read_as o.found) ≡ true
 
 -- the octets are those of the levels, outermost first: each has its identifier, an octet for its length, and its entries; the message is in no element

@@ -1,14 +1,14 @@
 -- How the path of open elements grows and shrinks.
 use Rattle.std.specs.Prelude.{◌+◌, ◌<◌, ◌≤◌, ℕ}
-use Rattle.ill_grammar.specs.declared.judge.Opening.{Opening}
-use Rattle.ill_grammar.specs.declared.judge.Reading.{Reading}
+use Rattle.ill_grammar.specs.declared.judge.ConstructedElement.{ConstructedElement}
+use Rattle.ill_grammar.specs.declared.judge.PrimitiveElement.{PrimitiveElement}
 
 -- what is done at a place where nothing is at fault but, perhaps, the text or content of a leaf
 pub data Judgement : Type 0 where
   -- the innermost element ends, after this number of octets of an end mark
   Closes : ℕ → Judgement
-  Opens : Opening → Judgement
-  Reads : Reading → Judgement
+  Opens : ConstructedElement → Judgement
+  Reads : PrimitiveElement → Judgement
 
 -- what was judged takes octets, or closes an element
 abbrev pub IsProgress : ℕ → ℕ → Judgement → Type 0

@@ -16,8 +16,8 @@ use Rattle.ill_grammar.specs.Standing.{Level}
 use Rattle.ill_read.specs.Paths.{HoldsAt}
 use Rattle.ill_read.specs.declared.failure.Failure.{Failure}
 use Rattle.ill_grammar.specs.declared.frame.Frame.{Frame}
-use Rattle.ill_grammar.specs.declared.judge.Opening.{Opening}
-use Rattle.ill_grammar.specs.declared.judge.Reading.{Reading}
+use Rattle.ill_grammar.specs.declared.judge.ConstructedElement.{ConstructedElement}
+use Rattle.ill_grammar.specs.declared.judge.PrimitiveElement.{PrimitiveElement}
 use Rattle.ill_read.specs.declared.path.Path.{Path}
 
 -- the innermost element goes on at this place, or the message is whole
@@ -30,11 +30,11 @@ abbrev pub ClosesExactly : {D : Type 0} → (D → List Level → List ℕ → T
 ClosesExactly holds old new result = (p : Named) (place : List Open) (marks at : ℕ) (rest : List ℕ) (j : Judgement) → HoldsAt p holds old place → IsEnd p place marks j
     → IsStep p holds new result (step_after j place at rest)
 
-abbrev pub OpensExactly : {D : Type 0} → (D → List Level → List ℕ → Type 0) → Path D → Opening → ℕ → Path D → Type 0
+abbrev pub OpensExactly : {D : Type 0} → (D → List Level → List ℕ → Type 0) → Path D → ConstructedElement → ℕ → Path D → Type 0
 OpensExactly holds old o start new = (p : Named) (place : List Open) → HoldsAt p holds old place → IsBegin old.frames place (tag_of_id o.id) o.found true
     → HoldsAt p holds new (opened (element_is (read_as o.found)) (tag_of_id o.id) start o.end ∷ place)
 
-abbrev pub ReadsExactly : {D : Type 0} → (D → List Level → List ℕ → Type 0) → Path D → Reading → ℕ → List ℕ → Path D → Result Bool Failure → Type 0
+abbrev pub ReadsExactly : {D : Type 0} → (D → List Level → List ℕ → Type 0) → Path D → PrimitiveElement → ℕ → List ℕ → Path D → Result Bool Failure → Type 0
 ReadsExactly holds old r start octets new result = (p : Named) (place : List Open) (header at : ℕ) (rest : List ℕ) → HoldsAt p holds old place
     → IsBegin old.frames place (tag_of_id r.id) r.found false
     → IsStep p holds new result (step_after (or_faulty (element_fault (profile_of p) (element_is (read_as r.found)) octets) start (reads (tag_of_id r.id) header octets)) place at rest)

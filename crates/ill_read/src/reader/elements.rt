@@ -5,7 +5,7 @@ use super::{Reader, State};
 use crate::draft::Draft;
 use crate::failure::Failure;
 use ber_core::{HeaderRead, Id, LengthRead, first_identifier, length_after, read_header};
-use ill_grammar::{Extent, Found, Opening, Reading};
+use ill_grammar::{ConstructedElement, Extent, Found, PrimitiveElement};
 use ill_schema::{Cause, Profile, Refusal};
 
 impl<D: Draft> Reader<D> {
@@ -119,7 +119,7 @@ impl<D: Draft> Reader<D> {
     {
         match extent {
             Extent::Opens(header, end) => {
-                let opening = Opening {
+                let opening = ConstructedElement {
                     found,
                     id,
                     header,
@@ -128,7 +128,7 @@ impl<D: Draft> Reader<D> {
                 self.open(opening, true)
             }
             Extent::Reads(header, size) => {
-                let reading = Reading {
+                let reading = PrimitiveElement {
                     found,
                     id,
                     header,
@@ -141,7 +141,7 @@ impl<D: Draft> Reader<D> {
 
     /// Takes a primitive element of a foreign tree, which begins the octets.
     #[inline(always)]
-    fn read_foreign(&mut self, reading: Reading, octets: &[u8]) -> Option<usize>
+    fn read_foreign(&mut self, reading: PrimitiveElement, octets: &[u8]) -> Option<usize>
         requires takes { D.takes self.old.path.frames.profile }
         requires open { self.old.state ≡ State.Open }
         requires foreign { (levels : ℕ) × (read_as reading.found ≡ Foreign levels) }
@@ -356,7 +356,7 @@ impl<D: Draft> Reader<D> {
     {
         match extent {
             Extent::Opens(header, end) => {
-                let opening = Opening {
+                let opening = ConstructedElement {
                     found,
                     id,
                     header,
@@ -365,7 +365,7 @@ impl<D: Draft> Reader<D> {
                 self.open(opening, usual)
             }
             Extent::Reads(header, size) => {
-                let reading = Reading {
+                let reading = PrimitiveElement {
                     found,
                     id,
                     header,
@@ -378,7 +378,7 @@ impl<D: Draft> Reader<D> {
 
     /// Opens an element.
     #[inline(always)]
-    fn open(&mut self, opening: Opening, usual: bool) -> Option<usize>
+    fn open(&mut self, opening: ConstructedElement, usual: bool) -> Option<usize>
         requires takes { D.takes self.old.path.frames.profile }
         requires open { self.old.state ≡ State.Open }
         requires room { depth_of self.old.path.frames < 32 }
@@ -401,7 +401,7 @@ impl<D: Draft> Reader<D> {
 
     /// Takes a primitive element, which begins the octets.
     #[inline(always)]
-    fn read(&mut self, reading: Reading, octets: &[u8], usual: bool) -> Option<usize>
+    fn read(&mut self, reading: PrimitiveElement, octets: &[u8], usual: bool) -> Option<usize>
         requires takes { D.takes self.old.path.frames.profile }
         requires open { self.old.state ≡ State.Open }
         requires usual { IsTrue usual → IsTrue (is_usual (read_as reading.found) false) }
