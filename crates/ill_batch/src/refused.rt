@@ -11,7 +11,7 @@ use std::io::Write;
 use std::rt::Files;
 use std::str;
 
-/// The file of refused messages: its name, and how it is closed.
+/// The file of refused messages: its name, and the destination of its octets until it is closed.
 #[derive(Drop)]
 pub struct RefusedFile<'a> {
     name: &'a str,

@@ -104,7 +104,8 @@ impl<'p> Tally<'p> {
     }
 }
 
-/// Tells whether a file that can't be opened has this name, or this word of the command line that isn't UTF-8 text as its name.
+/// Tells whether a file that can't be opened has this name. The text of a word that isn't UTF-8 counts, too: it names no file that can be
+/// opened.
 fn is_name(unopened: &FileName, name: &[u8]) -> bool {
     unopened.0.as_slice() == name || name.starts_with(b"\0")
 }

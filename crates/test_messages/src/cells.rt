@@ -121,9 +121,9 @@ fn elements_are_due_as_the_rows_say(rt: HostRuntime) {
     }
 }
 
-/// Tells whether an element is due with a tag where a way leads.
-fn is_due(way: &[Step], class: Class, number: u32) -> bool {
-    place_at(way).is_some_and(|place| found(place, class, number).is_some())
+/// Tells whether a way leads to a place where nothing is due with a tag.
+fn is_not_due(way: &[Step], class: Class, number: u32) -> bool {
+    place_at(way).is_some_and(|place| found(place, class, number).is_none())
 }
 
 #[test]
@@ -132,7 +132,7 @@ fn no_other_tag_is_due(rt: HostRuntime) {
         Step::Into(Class::Application, 20),
         Step::Into(Class::Universal, 16),
     ];
-    assert!(rt; !is_due(&[], Class::Context, 20) && !is_due(&body, Class::Context, 1));
+    assert!(rt; is_not_due(&[], Class::Context, 20) && is_not_due(&body, Class::Context, 1));
 }
 
 /// Tells whether an element is the body of an APDU.
@@ -144,6 +144,7 @@ fn is_body(found: Option<Found>, node: NodeId) -> bool {
 fn a_message_begins_with_an_apdu(rt: HostRuntime) {
     let expired = found(Place::top(), Class::Application, 20);
     assert!(rt; is_body(expired, NodeId::Expired) && Place::top().is_missing());
+    assert!(rt; expired.is_some_and(|expired| !expired.after().is_missing()));
 }
 
 /// The part that is missing where a way leads.
@@ -167,5 +168,4 @@ fn rows_come_in_order(rt: HostRuntime) {
         Step::Past(Class::Context, 0),
     ];
     assert!(rt; missing_at(&body) == Some(part) && missing_at(&bare) == Some(part));
-    assert!(rt; missing_at(&[Step::Past(Class::Application, 20)]).is_none());
 }
