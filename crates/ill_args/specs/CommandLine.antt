@@ -36,6 +36,10 @@ output_rule = record (new_rule (codes "output")) { long = Some (codes "output");
 abbrev pub refused_rule : Rule
 refused_rule = record (new_rule (codes "refused")) { long = Some (codes "refused"); value_names = 1 }
 
+-- the option `--max-refused N`, where N is a number from 1 to 1,000,000
+abbrev pub max_refused_rule : Rule
+max_refused_rule = record (new_rule (codes "max-refused")) { long = Some (codes "max-refused"); value_names = 1; parser = Some (Unsigned 1 1_000_000) }
+
 -- the option `--message N`, where N is a number from 1 to 1,000,000
 abbrev pub message_rule : Rule
 message_rule = record (new_rule (codes "message")) { long = Some (codes "message"); value_names = 1; parser = Some (Unsigned 1 1_000_000) }
@@ -61,9 +65,9 @@ with_files a = with_rule (with_rule a list_rule) files_rule
 abbrev pub with_names : App → App
 with_names a = with_rule (with_files a) filename_rule
 
--- a command that goes on after a message that is refused, whose octets may go to a file
+-- a command that goes on after a message that is refused, whose octets may go to a file, and stops after a number of them
 abbrev pub with_skipping : App → App
-with_skipping a = with_rule (with_rule a (flag_rule (codes "keep-going"))) refused_rule
+with_skipping a = with_rule (with_rule (with_rule a (flag_rule (codes "keep-going"))) refused_rule) max_refused_rule
 
 abbrev pub bare_program : App
 bare_program = let a = new_app (codes "illcanon") in
@@ -84,7 +88,7 @@ module _ (names : ProfileNames) where
   each_file name = with_names (with_hex name)
 
   abbrev pub each_numbered : Text → App
-  each_numbered name = with_rule (with_rule (each_file name) (flag_rule (codes "keep-going"))) message_rule
+  each_numbered name = with_rule (with_rule (with_rule (each_file name) (flag_rule (codes "keep-going"))) max_refused_rule) message_rule
 
   abbrev pub each_dumped : Text → App
   each_dumped name = with_rule (each_numbered name) (flag_rule (codes "html"))

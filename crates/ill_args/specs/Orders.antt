@@ -85,6 +85,7 @@ pub record IsOrderOf (found : Option (Text × List Row)) (order : Order) : Type 
   pub lines : order.lines ≡ is_set (codes "lines") rows
   pub keep_going : order.keep_going ≡ is_set (codes "keep-going") rows
   pub refused : first_of (codes "refused") rows ≡ option_map (λ word. word.now) order.refused
+  pub max_refused : IsOptionNumber (one_of (codes "max-refused") rows) order.max_refused
   pub summary : order.summary ≡ is_set (codes "summary") rows
   pub json : order.json ≡ is_set (codes "json") rows
   pub filename : order.with_filename ≡ is_set (codes "with-filename") rows
@@ -167,6 +168,10 @@ LinesAreJson order = (order.json ≡ true) × (order.lines ≡ true)
 -- refused messages are to go to a file, and the first one ends the work
 abbrev pub RefusedEndsWork : Order → Type 0
 RefusedEndsWork order = IsTrue (is_some order.refused) × (order.keep_going ≡ false)
+
+-- refused messages are counted, and the first one ends the work
+abbrev pub LimitEndsWork : Order → Type 0
+LimitEndsWork order = IsTrue (is_some order.max_refused) × (order.keep_going ≡ false)
 
 -- a task reads or writes the file of this word
 abbrev pub NamesFile : Task → Text → Type 0

@@ -5,8 +5,8 @@ use Rattle.clap.specs.Words.{HasKind, Kinds, kind_of}
 use Rattle.clap.specs.declared.error.kind.ErrorKind.{ErrorKind}
 use Rattle.ill_args.specs.declared.orders.Order.{Order}
 use Rattle.ill_args.specs.declared.fault.LineFault.{LineFault}
-use Rattle.ill_args.specs.declared.fault.LineFault.TheVariants.{Line, SameWord, InputTwice, OutputIsRead, Missing, Unexpected, LinesAndHex, LinesAndKeepGoing, LinesAndSummary, LinesAndJson, NotOneFile, RefusedNeedsKeepGoing, RefusedIsShared, WholeNeedsFile}
-use Rattle.ill_args.specs.Orders.{files_in, IsBoth, IsOrderOf, HasSameWord, LinesAreCounted, LinesAreJson, LinesGoOn, NamesNotOne, NamesNothing, ReadsInputTwice, ReadsOutput, RefusedEndsWork, SharesRefused, WholeIsPrinted}
+use Rattle.ill_args.specs.declared.fault.LineFault.TheVariants.{Line, SameWord, InputTwice, OutputIsRead, Missing, Unexpected, LinesAndHex, LinesAndKeepGoing, LinesAndSummary, LinesAndJson, NotOneFile, MaxRefusedNeedsKeepGoing, RefusedNeedsKeepGoing, RefusedIsShared, WholeNeedsFile}
+use Rattle.ill_args.specs.Orders.{files_in, IsBoth, IsOrderOf, HasSameWord, LinesAreCounted, LinesAreJson, LinesGoOn, LimitEndsWork, NamesNotOne, NamesNothing, ReadsInputTwice, ReadsOutput, RefusedEndsWork, SharesRefused, WholeIsPrinted}
 
 -- words of `canonicalise` that are fewer than IN and OUT, or come with a list of files, and have no `-o`
 abbrev pub LacksTwo : List Row → Type 0
@@ -34,6 +34,7 @@ IsFaultOf found LinesAndSummary = (order : Order) × IsOrderOf found order × Li
 IsFaultOf found LinesAndJson = (order : Order) × IsOrderOf found order × LinesAreJson order
 IsFaultOf found NotOneFile = (order : Order) × IsOrderOf found order × NamesNotOne order
 IsFaultOf found RefusedNeedsKeepGoing = (order : Order) × IsOrderOf found order × RefusedEndsWork order
+IsFaultOf found MaxRefusedNeedsKeepGoing = (order : Order) × IsOrderOf found order × LimitEndsWork order
 IsFaultOf found RefusedIsShared = (order : Order) × IsOrderOf found order × SharesRefused order
 IsFaultOf found WholeNeedsFile = (order : Order) × IsOrderOf found order × WholeIsPrinted order
 

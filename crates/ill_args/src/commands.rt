@@ -3,7 +3,7 @@ ghost use Rattle.std.specs.Prelude.{◌≡◌, codes, false, map, IfOk};
 ghost use Rattle.clap.specs.Words.{app_of, rule_of};
 ghost use Rattle.clap.specs.Simple.{App, new_app, with_subcommand};
 ghost use Rattle.clap.specs.declared.builder.command.Command.TheViews.{out-Command as fields_of};
-ghost use Rattle.ill_args.specs.CommandLine.{bare_program, each_dumped, each_json, each_line, file_rule, filename_rule, files_rule, flag_rule, into_one, list_rule, message_rule, output_rule, profile_rule, program_of, refused_rule, topic, two_files, with_hex, with_printing};
+ghost use Rattle.ill_args.specs.CommandLine.{bare_program, each_dumped, each_json, each_line, file_rule, filename_rule, files_rule, flag_rule, into_one, list_rule, max_refused_rule, message_rule, output_rule, profile_rule, program_of, refused_rule, topic, two_files, with_hex, with_printing};
 ghost use Rattle.ill_args.specs.code.Commands.{AreAllNames};
 ghost use Rattle.ill_args.specs.code.Arguments.{rule_for, with_rules};
 
@@ -24,6 +24,8 @@ const KEEP_GOING: &str =
 
 const REFUSED: &str =
     "Writes the octets of refused messages to FILE, where their ends are known; needs --keep-going";
+
+const MAX_REFUSED: &str = "Stops after N refused messages of all files; needs --keep-going";
 
 const WITH_FILENAME: &str =
     "Names the file in each line, even if there is one file; with --lines it changes nothing";
@@ -109,6 +111,18 @@ fn refused<'a>(alloc: Global) -> Arg<'a>
         .help(REFUSED)
 }
 
+/// The option `--max-refused N`.
+fn max_refused<'a>(alloc: Global) -> Arg<'a>
+    ensures rule { rule_of result ≡ max_refused_rule }
+    ensures local { result.global ≡ false }
+{
+    Arg::new(alloc, "max-refused")
+        .long("max-refused")
+        .value_name("N")
+        .value_parser(ValueParser::unsigned(1, 1_000_000))
+        .help(MAX_REFUSED)
+}
+
 fn output<'a>(alloc: Global) -> Arg<'a>
     ensures rule { rule_of result ≡ output_rule }
     ensures local { result.global ≡ false }
@@ -167,30 +181,33 @@ enum Argument {
     List,
     Filename,
     Refused,
+    MaxRefused,
     Output,
     Message,
 }
 
-use Argument::{File, Filename, Files, Flag, List, Message, Output, Refused};
+use Argument::{File, Filename, Files, Flag, List, MaxRefused, Message, Output, Refused};
 
 const KEEP_GOING_FLAG: Argument = Flag("keep-going", KEEP_GOING);
 
 const SUMMARY_FLAG: Argument = Flag("summary", SUMMARY);
 
-static SHOW: [Argument; 7] = [
+static SHOW: [Argument; 8] = [
     List,
     Files(MESSAGES),
     Filename,
     KEEP_GOING_FLAG,
     Refused,
+    MaxRefused,
     SUMMARY_FLAG,
     Flag("json", JSON),
 ];
 
 /// The arguments of `check` and `digest`.
-static CHECK: [Argument; 8] = [
+static CHECK: [Argument; 9] = [
     KEEP_GOING_FLAG,
     Refused,
+    MaxRefused,
     SUMMARY_FLAG,
     Flag("lines", LINES),
     List,
@@ -199,11 +216,12 @@ static CHECK: [Argument; 8] = [
     Flag("json", RESULTS_AS_JSON),
 ];
 
-static DUMP: [Argument; 6] = [
+static DUMP: [Argument; 7] = [
     List,
     Files(MESSAGES),
     Filename,
     KEEP_GOING_FLAG,
+    MaxRefused,
     Message,
     Flag("html", HTML),
 ];
@@ -213,9 +231,10 @@ static SAME: [Argument; 2] = [
     File("second", "OTHER", "Another; `-` is standard input"),
 ];
 
-static CANONICALISE: [Argument; 8] = [
+static CANONICALISE: [Argument; 9] = [
     KEEP_GOING_FLAG,
     Refused,
+    MaxRefused,
     SUMMARY_FLAG,
     Flag("lines", LINES),
     Flag("whole", WHOLE),
@@ -236,6 +255,7 @@ fn arg<'a>(alloc: Global, argument: Argument) -> Arg<'a>
         List => list(alloc),
         Filename => filename(alloc),
         Refused => refused(alloc),
+        MaxRefused => max_refused(alloc),
         Output => output(alloc),
         Message => message(alloc),
     }

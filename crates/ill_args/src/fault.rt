@@ -42,6 +42,9 @@ pub enum LineFault {
     /// The first refused message ends the work.
     #[error("--refused needs --keep-going")]
     RefusedNeedsKeepGoing,
+    /// The first refused message ends the work.
+    #[error("--max-refused needs --keep-going")]
+    MaxRefusedNeedsKeepGoing,
     /// The file of refused messages is standard output, or another file of the command.
     #[error("--refused needs a file of its own")]
     RefusedIsShared,

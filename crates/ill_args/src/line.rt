@@ -5,7 +5,7 @@ ghost use Rattle.clap.specs.Walk.{Row, Text};
 ghost use Rattle.clap.specs.Words.{fault_of, kind_of, subcommand_of};
 ghost use Rattle.clap.specs.declared.error.kind.ErrorKind.{ErrorKind};
 ghost use Rattle.ill_args.specs.CommandLine.{program};
-ghost use Rattle.ill_args.specs.Orders.{reads, HasSameWord, IsBoth, IsOrderOf, IsInputFile, LinesAreCounted, LinesAreJson, LinesGoOn, NamesFile, NamesNotOne, NamesNothing, ReadsInputTwice, ReadsOutput, RefusedEndsWork, SharesRefused, WholeIsPrinted};
+ghost use Rattle.ill_args.specs.Orders.{reads, HasSameWord, IsBoth, IsOrderOf, IsInputFile, LinesAreCounted, LinesAreJson, LinesGoOn, LimitEndsWork, NamesFile, NamesNotOne, NamesNothing, ReadsInputTwice, ReadsOutput, RefusedEndsWork, SharesRefused, WholeIsPrinted};
 ghost use Rattle.ill_args.specs.Refused.{IsFaultOf, IsFaultOfKinds, IsRefusedBy};
 ghost use Rattle.ill_args.specs.code.Consistency.{IsConsistent};
 
@@ -25,8 +25,8 @@ use std::alloc::{AllocError, Global};
 /// The report of `clap` on words that are no command line, or that ask for help. Or a file is missing, or `canonicalise` has a word more
 /// than IN and OUT. Or `same` has `-` twice, or `canonicalise` one word other than `-` for IN and OUT. Or another command has `-` twice
 /// among its files and their list, or `-o` has one of these words. Or `--lines` has no file, several, or a list, or is given with `--hex`,
-/// `--keep-going`, `--summary` or `--json`. Or `--whole` is given with standard output for OUT. Or `--refused` is given without
-/// `--keep-going`, or with `-` or another of the command's files.
+/// `--keep-going`, `--summary` or `--json`. Or `--whole` is given with standard output for OUT. Or `--refused` or
+/// `--max-refused` is given without `--keep-going`, or `--refused` with `-` or another of the command's files.
 pub fn order<'a>(alloc: Global, words: &'a [String]) -> Result<Order<'a>, LineFault>
     // The words have the order's command, profile, flags and files; standard input is not read twice, no file is written that is read by the
     // same word, and there are files. Lines are those of one file, are no hexadecimal text, have no messages to pass over, are not counted,
@@ -44,6 +44,7 @@ pub fn order<'a>(alloc: Global, words: &'a [String]) -> Result<Order<'a>, LineFa
     ensures one { IfOk result (λ order. NamesNotOne order → ⊥) }
     ensures replaced { IfOk result (λ order. WholeIsPrinted order → ⊥) }
     ensures goes_on { IfOk result (λ order. RefusedEndsWork order → ⊥) }
+    ensures limited { IfOk result (λ order. LimitEndsWork order → ⊥) }
     ensures own { IfOk result (λ order. SharesRefused order → ⊥) }
     ensures fault { IfErr result
         (IsFaultOf (subcommand_of program (map string_bytes words.entry.now))) }
@@ -98,6 +99,9 @@ fn check_order(alloc: Global, order: &Order<'_>) -> Result<(), LineFault>
     }
     if order.refused.is_some() && !order.keep_going {
         return Err(LineFault::RefusedNeedsKeepGoing);
+    }
+    if order.max_refused.is_some() && !order.keep_going {
+        return Err(LineFault::MaxRefusedNeedsKeepGoing);
     }
     if shares_refused(order) {
         return Err(LineFault::RefusedIsShared);

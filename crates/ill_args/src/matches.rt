@@ -60,6 +60,7 @@ fn order_of<'a>(alloc: Global, matches: &ArgMatches<'a>) -> Result<Order<'a>, Li
         lines: is_set(words, "lines"),
         keep_going: is_set(words, "keep-going"),
         refused: refused(words),
+        max_refused: number_of(words, "max-refused"),
         summary: is_set(words, "summary"),
         json: is_set(words, "json"),
         with_filename: is_set(words, "with-filename"),

@@ -26,6 +26,8 @@ pub struct Order<'a> {
     pub keep_going: bool,
     /// The file that gets the octets of refused messages.
     pub refused: Option<&'a str>,
+    /// The number of the refused message that ends the work, counted over all files.
+    pub max_refused: Option<u32>,
     /// True if a line of JSON is written for each message.
     pub json: bool,
     /// True if a line at the end says how many files and messages there were.

@@ -3,12 +3,13 @@ ghost use Rattle.std.specs.Prelude.{length};
 ghost use Rattle.ill_files.specs.Status.{IsStatusOfEach};
 
 use crate::input::print_input;
+use crate::limit::is_stopped;
 use crate::put_inputs::{Document, NamedInput, PutInputs};
-use crate::refused::{OtherFiles, close_refused, open_refused};
+use crate::refused::{OtherFiles, close_refused, is_one_of, open_refused};
 use crate::tally::Tally;
 use ill_args::Inputs;
 use ill_files::{
-    Host, Output, OutputOf, ProgramError, combined_status, input_names, is_output_lost, list_of,
+    FileId, Host, Output, OutputOf, ProgramError, combined_status, input_names, is_output_lost, list_of,
     printed, status_of, text_of,
 };
 use ill_inputs::Verdict;
@@ -33,7 +34,7 @@ pub fn print_each<R: Print + Eprint + Input + Files + AllocGlobal + Host, A: Put
     }
 }
 
-/// Prints the results of the inputs, including those in a list.
+/// Prints the results of the inputs, including those in a list. Standard output must be none of the files that are read.
 fn print_inputs<R: Print + Eprint + Input + Files + AllocGlobal + Host, A: PutInputs>(
     rt: &R,
     action: A,
@@ -41,8 +42,15 @@ fn print_inputs<R: Print + Eprint + Input + Files + AllocGlobal + Host, A: PutIn
     refused: Option<&str>,
     tally: &mut Tally<'_>,
 ) -> Result<u8, ProgramError> {
+    let written = FileId::of_standard_output(rt);
     let (list, read) = list_of(rt, inputs.list)?;
     let names = input_names(rt.alloc(), &inputs.files, inputs.list, &list)?;
+    if names.is_empty() {
+        return Err(ProgramError::EmptyList);
+    }
+    if written.is_some() && (read == written || is_one_of(rt, &names, written)) {
+        return Err(ProgramError::SameFile);
+    }
     let files = OtherFiles {
         inputs: &names,
         list: read,
@@ -109,8 +117,8 @@ fn print_document<R: Print + Eprint + Input + Files + AllocGlobal + Host, A: Put
     }
 }
 
-/// Prints the results of each file and a line for each error, and returns the status of all that were done. Once output is lost, no
-/// file more is done.
+/// Prints the results of each file and a line for each error, and returns the status of all that were done. Once output is lost, or no more
+/// refused messages are asked for, no file more is done.
 fn each_file<R: Print + Eprint + Input + Files + AllocGlobal + Host, A: PutInputs>(
     rt: &R,
     action: A,
@@ -125,7 +133,7 @@ fn each_file<R: Print + Eprint + Input + Files + AllocGlobal + Host, A: PutInput
         let done = one_file(rt, action, name, names.len(), kept, tally);
         tally.print_of(rt, name, &done);
         status = combined_status(status, status_of(&done));
-        if is_output_lost(&done) {
+        if is_output_lost(&done) || is_stopped(&done) {
             return status;
         }
     }

@@ -3,7 +3,7 @@ use crate::put_inputs::{NamedInput, PutInputs};
 use crate::refused::{KeepRefused, OtherFiles, close_refused, open_refused};
 use crate::tally::Tally;
 use ill_files::{
-    FileId, Host, InputSource, Output, OutputOf, ProgramError, Shared, close_output, keeps_output,
+    FileId, FileNameRef, Host, Output, OutputOf, ProgramError, Shared, close_output, keeps_output,
     open_and_identify, open_output, open_standard_output,
 };
 use ill_inputs::Verdict;
@@ -61,8 +61,7 @@ pub(crate) fn print_input<R: Print + Eprint + Input + Files + AllocGlobal + Host
     output.finish(done)
 }
 
-/// Opens the input with this name, and then standard output, and writes the results. Results of lines can be lines themselves, so they
-/// must not go to the file that the lines are read from.
+/// Opens the input with this name, and then standard output, and writes the results. They must not go to the file that is read.
 fn put_input<'r, R: Print + Eprint + Input + Files + AllocGlobal + Host, A: PutInputs>(
     rt: &'r R,
     action: A,
@@ -73,7 +72,7 @@ fn put_input<'r, R: Print + Eprint + Input + Files + AllocGlobal + Host, A: PutI
     tally: &mut Tally<'_>,
 ) -> Result<Verdict, ProgramError> {
     let (mut source, read) = open_and_identify(rt, file, output, tally.progress)?;
-    if action.is_by_line() && read.is_some() && read == FileId::of_standard_output(rt) {
+    if read.is_some() && read == FileId::of_standard_output(rt) {
         return Err(ProgramError::SameFile);
     }
     open_standard_output(rt, output)?;
@@ -98,35 +97,26 @@ pub(crate) fn write_input<R: Print + Eprint + Input + Files + AllocGlobal + Host
     if read.is_some() && read == written {
         return Err(ProgramError::SameFile);
     }
-    replace_output(
-        rt,
-        action,
-        input,
-        &mut source,
-        &output,
-        name,
-        whole,
-        kept,
-        tally,
-    )
+    let is_beside = whole || may_be_input(rt, &[file.as_bytes()], name);
+    let destination = open_output(rt, &output, name, is_beside)?;
+    let done = put_all(rt, action, input, &mut source, &output, kept, tally);
+    let keep = keeps_output(whole, &done);
+    let done = close_output(rt, &output, destination, name, keep, done);
+    if keep && action.is_by_line() && matches!(done, Ok(Verdict::NotGood)) {
+        // A line that can't be written changes nothing of the work.
+        let _ = eprintln!(rt;
+            "illcanon: {} stays as it was: not every line is a message",
+            FileNameRef(name.as_bytes())
+        );
+    }
+    done
 }
 
-/// Opens an output, writes the results of an input, and closes the output.
-fn replace_output<'o, 'r: 'o, R: Print + Eprint + Input + Files + AllocGlobal + Host, A: PutInputs>(
-    rt: &'r R,
-    action: A,
-    input: NamedInput<'_>,
-    source: &mut InputSource<'o, 'r, R>,
-    output: &'o OutputOf<'r, R>,
-    name: &str,
-    whole: bool,
-    kept: Option<&OutputOf<'_, R>>,
-    tally: &mut Tally<'_>,
-) -> Result<Verdict, ProgramError> {
-    let destination = open_output(rt, output, name, whole)?;
-    let done = put_all(rt, action, input, source, output, kept, tally);
-    let keep = keeps_output(whole, &done);
-    close_output(rt, output, destination, name, keep, done)
+/// Tells whether an output may be the file that standard input is read from, where the system doesn't say which that is.
+pub(crate) fn may_be_input<R: Files>(rt: &R, names: &[&[u8]], output: &str) -> bool {
+    names.contains(&b"-".as_slice())
+        && FileId::of_output(rt, output).is_some()
+        && !FileId::knows_standard_input(rt)
 }
 
 /// Writes the results of an input, and counts its messages. The octets of refused messages go to `kept`, if there is such an output.

@@ -3,13 +3,14 @@
 //!
 //! ```
 //! // an action that implements `PutInputs` says what is written of each input
-//! let mut tally = Tally::new(true, &progress);
+//! let mut tally = Tally::new(true, None, &progress);
 //! let status = print_each(rt, action, &inputs, Some("refused.ber"), &mut tally);
 //! ```
 #![tactic(auto)]
 
 mod each;
 mod input;
+mod limit;
 mod one_output;
 mod put_inputs;
 mod refused;
@@ -19,6 +20,7 @@ mod tally;
 
 pub use each::print_each;
 pub use input::write_one;
+pub use limit::RefusalLimit;
 pub use one_output::collect;
 pub use put_inputs::{Document, NamedInput, PutInputs};
 pub use refused::KeepRefused;

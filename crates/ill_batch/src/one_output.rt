@@ -1,5 +1,6 @@
 //! Output of several files, in one file.
-use crate::input::{put_all, write_input};
+use crate::input::{may_be_input, put_all, write_input};
+use crate::limit::is_stopped;
 use crate::put_inputs::{NamedInput, PutInputs};
 use crate::refused::{OtherFiles, close_refused, is_one_of, open_refused};
 use crate::tally::Tally;
@@ -46,6 +47,9 @@ fn collect_inputs<R: Print + Eprint + Input + Files + AllocGlobal + Host, A: Put
     let written = FileId::of_output(rt, output);
     let (list, read) = list_of(rt, inputs.list)?;
     let names = input_names(rt.alloc(), &inputs.files, inputs.list, &list)?;
+    if names.is_empty() {
+        return Err(ProgramError::EmptyList);
+    }
     if written.is_some() && (read == written || is_one_of(rt, &names, written)) {
         return Err(ProgramError::SameFile);
     }
@@ -123,6 +127,7 @@ fn canonicalise_all<R: Print + Eprint + Input + Files + AllocGlobal + Host, A: P
         output: &output,
         name: name_of_output,
         whole,
+        is_beside: whole || may_be_input(rt, names, name_of_output),
         destination: None,
         keep: false,
         status: 0,
@@ -140,6 +145,8 @@ struct OneOutput<'o, 'n, 'r, R: Print + Files> {
     name: &'n str,
     /// True if it is replaced only where each file was good.
     whole: bool,
+    /// True if it must not be written directly.
+    is_beside: bool,
     /// The place that it is written to, once it is open.
     destination: Option<OutputDestination>,
     /// True if it stays as it was.
@@ -193,6 +200,9 @@ fn append_files<'o, 'r, R: Print + Eprint + Input + Files + AllocGlobal + Host, 
         tally.add_end(rt, name, &done);
         tally.print_of(rt, name, &done);
         to.add(&done);
+        if is_stopped(&done) {
+            break;
+        }
     }
     Ok(Verdict::Good)
 }
@@ -269,7 +279,7 @@ fn open_once<'o, 'r, R: Print + Eprint + Files + AllocGlobal + Host>(
     to: &mut OneOutput<'o, '_, 'r, R>,
 ) -> Result<(), ProgramError> {
     if to.destination.is_none() {
-        to.destination = Some(open_output(rt, to.output, to.name, to.whole)?);
+        to.destination = Some(open_output(rt, to.output, to.name, to.is_beside)?);
     }
     Ok(())
 }

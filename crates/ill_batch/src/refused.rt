@@ -9,7 +9,7 @@ use ill_inputs::Verdict;
 use ill_normal::RefusalReport;
 use std::io::Write;
 use std::rt::Files;
-use std::str;
+use std::{fs, str};
 
 /// The file of refused messages: its name, and the destination of its octets until it is closed.
 #[derive(Drop)]
@@ -28,7 +28,7 @@ pub struct OtherFiles<'a> {
 
 impl OtherFiles<'_> {
     /// Tells whether one of the files has this name.
-    fn contain<R: Files>(&self, rt: &R, name: &str) -> bool {
+    fn contain<R: Files + AllocGlobal>(&self, rt: &R, name: &str) -> bool {
         let file = FileId::of_output(rt, name);
         let is_read = file.is_some() && (file == self.list || is_one_of(rt, self.inputs, file));
         is_read || are_one_target(rt, name, self.output)
@@ -65,11 +65,18 @@ pub fn open_refused<'a, 'r, R: Print + Eprint + Files + AllocGlobal + Host>(
         return Err(ProgramError::RefusedIsShared);
     }
     let destination = open_output(rt, output, name, false)?;
-    Ok(Some(RefusedFile { name, destination }))
+    match &destination {
+        // The output would take the name of the new file.
+        OutputDestination::NewFile(part) if are_one_target(rt, part.as_str(), others.output) => {
+            let _ = fs::remove_file(rt, part.as_str());
+            Err(ProgramError::RefusedIsShared)
+        }
+        _ => Ok(Some(RefusedFile { name, destination })),
+    }
 }
 
-/// Ends the file of refused messages, if there is one: it gets its name, unless no input could be opened. Returns the exit status, which was
-/// `status` before.
+/// Ends the file of refused messages, if there is one: it gets its name, unless no input could be opened, an input could not be read, an output
+/// could not be written, or memory ran out. Returns the exit status, which was `status` before.
 pub fn close_refused<'r, R: Print + Eprint + Files + AllocGlobal + Host>(
     rt: &'r R,
     file: Option<RefusedFile<'_>>,
@@ -85,14 +92,14 @@ pub fn close_refused<'r, R: Print + Eprint + Files + AllocGlobal + Host>(
     } else {
         Ok(Verdict::Good)
     };
-    let keep = tally.summary.files == 0;
+    let keep = tally.summary.files == 0 || tally.keeps_refused;
     tally.progress.clear(rt);
     if let Err(error) = close_output(rt, output, destination, name, keep, written) {
         // A line that can't be written changes nothing of the work.
         let _ = print_error_of(rt, name.as_bytes(), &error);
         return 3;
     }
-    if tally.not_kept > 0 {
+    if tally.not_kept > 0 && !keep {
         let name = FileNameRef(name.as_bytes());
         let count = Count(tally.not_kept, "refused message");
         let _ = eprintln!(rt;

@@ -1,9 +1,11 @@
 //! Lines for refused messages, where the work goes on after them.
+use crate::limit::RefusalLimit;
 use crate::refused::KeepRefused;
 use crate::summary::LeftAt;
+use crate::tally::Tally;
 use ill_files::{FileNameRef, ProgressLine, RunLine};
 use ill_inputs::RunFault;
-use ill_normal::{RefusalReport, ReportRefusals};
+use ill_normal::{NotReported, RefusalReport, ReportRefusals};
 use std::fmt;
 use std::io::Write;
 
@@ -40,8 +42,41 @@ pub struct PrintReports<'a, R, S: Write + Drop, F: Write + Drop> {
     pub progress: &'a ProgressLine,
     /// Gets the octets of the messages.
     pub kept: KeepRefused<'a, S, F>,
+    /// The number of refused messages that the work goes on to.
+    pub limit: RefusalLimit,
     /// The place of the last message, if its end is unknown.
     pub endless: Option<LeftAt>,
+    /// The refused message with which the work ended, if it is the last one that the limit allows.
+    pub last: Option<RefusalReport>,
+}
+
+impl<'a, R, S: Write + Drop, F: Write + Drop> PrintReports<'a, R, S, F> {
+    /// Reports the refused messages of an input, whose lines have this name, if there is one.
+    pub fn new(
+        rt: &'a R,
+        name: Option<&'a str>,
+        is_raw: bool,
+        kept: KeepRefused<'a, S, F>,
+        tally: &Tally<'a>,
+    ) -> PrintReports<'a, R, S, F> {
+        PrintReports {
+            rt,
+            name,
+            is_raw,
+            progress: tally.progress,
+            kept,
+            limit: tally.limit,
+            endless: None,
+            last: None,
+        }
+    }
+
+    /// Adds its counts to those of the command.
+    pub fn add_to(&self, tally: &mut Tally<'_>) {
+        self.kept.add_to(tally);
+        tally.limit = self.limit;
+        tally.left_at = self.endless;
+    }
 }
 
 impl<R: Eprint, S: Write + Drop, F: Write + Drop> ReportRefusals for PrintReports<'_, R, S, F> {
@@ -49,7 +84,7 @@ impl<R: Eprint, S: Write + Drop, F: Write + Drop> ReportRefusals for PrintReport
 
     ghost reported = { λ _. None };
 
-    fn report(&mut self, report: RefusalReport, octets: &[u8]) {
+    fn report(&mut self, report: RefusalReport, octets: &[u8]) -> Result<(), NotReported> {
         self.kept.keep(report, octets);
         self.endless = LeftAt::of_endless(report);
         let line = ReportLine(report);
@@ -62,5 +97,10 @@ impl<R: Eprint, S: Write + Drop, F: Write + Drop> ReportRefusals for PrintReport
             Some(name) => eprintln!(self.rt; "illcanon: {name}: {line}"),
             None => eprintln!(self.rt; "illcanon: {line}"),
         };
+        if self.limit.ends_with_next() {
+            self.last = Some(report);
+            return Err(NotReported);
+        }
+        Ok(())
     }
 }

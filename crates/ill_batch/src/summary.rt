@@ -74,6 +74,12 @@ impl Summary {
         self.refused = self.refused.saturating_add(u64::from(counts.refused));
     }
 
+    /// Counts a refused message, and its octets where their number is known.
+    pub fn add_refused(&mut self, report: RefusalReport) {
+        self.refused = self.refused.saturating_add(1);
+        self.octets = self.octets.saturating_add(report.octets.unwrap_or(0));
+    }
+
     /// Counts refused messages that are only not read.
     pub fn add_not_read(&mut self, count: u32) {
         self.not_read = self.not_read.saturating_add(u64::from(count));

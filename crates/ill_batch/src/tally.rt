@@ -2,12 +2,14 @@
 ghost use Rattle.std.specs.Prelude.{◌≡◌};
 ghost use Rattle.ill_files.specs.Status.{status_is};
 
+use crate::limit::RefusalLimit;
 use crate::summary::{LeftAt, Summary};
 use ill_files::{
-    FileName, FileNameRef, ProgramError, ProgressLine, is_of_folder, print_error, print_error_of,
-    status_of,
+    FileName, FileNameRef, ProgramError, ProgressLine, is_of_folder, keeps_refused, print_error,
+    print_error_of, status_of,
 };
 use ill_inputs::Verdict;
+use ill_normal::{RefusalReport, SkippingCounts};
 use std::rt::Files;
 
 /// The counts of a command, and its progress line.
@@ -22,18 +24,24 @@ pub struct Tally<'p> {
     pub not_kept: u64,
     /// True if octets of refused messages were not written.
     pub is_refused_lost: bool,
+    /// True if the file of refused messages stays as it was.
+    pub keeps_refused: bool,
+    /// The number of refused messages that the work goes on to.
+    pub limit: RefusalLimit,
     pub progress: &'p ProgressLine,
 }
 
 impl<'p> Tally<'p> {
-    /// Nothing was counted yet.
-    pub fn new(is_counted: bool, progress: &'p ProgressLine) -> Tally<'p> {
+    /// Nothing was counted yet. The work ends with the refused message of the number `max_refused`, if there is such a number.
+    pub fn new(is_counted: bool, max_refused: Option<u32>, progress: &'p ProgressLine) -> Tally<'p> {
         Tally {
             summary: Summary::NONE,
             is_counted,
             left_at: None,
             not_kept: 0,
             is_refused_lost: false,
+            keeps_refused: false,
+            limit: RefusalLimit::new(max_refused),
             progress,
         }
     }
@@ -44,8 +52,17 @@ impl<'p> Tally<'p> {
         self.progress.add_file();
     }
 
+    /// Counts the messages before a refused one, and this one, with which the work ends, and returns the error that says so.
+    pub fn stop(&mut self, before: SkippingCounts, last: RefusalReport) -> ProgramError {
+        self.summary.add_skipping(before);
+        self.summary.add_refused(last);
+        self.left_at = Some(LeftAt::of(last));
+        self.limit.error()
+    }
+
     /// Counts the file with this name if it can't be opened, or was left before its end.
     pub fn add_end<R: Files>(&mut self, rt: &R, name: &[u8], done: &Result<Verdict, ProgramError>) {
+        self.keeps_refused = self.keeps_refused | keeps_refused(done);
         match done {
             Err(ProgramError::CannotOpen(unopened, _)) if is_name(unopened, name) => {
                 self.summary.add_unopened();
@@ -66,6 +83,7 @@ impl<'p> Tally<'p> {
     pub fn end<R: Print + Eprint>(&mut self, rt: &R, done: &Result<Verdict, ProgramError>) -> u8
         ensures { result ≡ status_is done.now }
     {
+        self.keeps_refused = self.keeps_refused | keeps_refused(done);
         self.progress.clear(rt);
         let status = end(rt, done);
         self.print_left(rt, None);

@@ -44,7 +44,7 @@ pub fn run_order<R: Print + Eprint + Input + Files + AllocGlobal + Host>(
     } else {
         ProgressLine::none()
     };
-    let mut tally = Tally::new(is_counted, &progress);
+    let mut tally = Tally::new(is_counted, order.max_refused, &progress);
     let plan = Plan::new(order);
     let is_json = plan.has_json_results();
     let status = run_plan(rt, plan, &mut tally);

@@ -181,14 +181,8 @@ where
         (putting (W.contents sink.old) (W.contents sink.new) (W.is_broken sink.new))
         (reporting None None) counts) }
 {
-    let mut reports = PrintReports {
-        rt,
-        name: work.names_input.then_some(work.name),
-        is_raw: work.job.is_json(),
-        progress: tally.progress,
-        kept,
-        endless: None,
-    };
+    let name = work.names_input.then_some(work.name);
+    let mut reports = PrintReports::new(rt, name, work.job.is_json(), kept, tally);
     let ran = run_skipping_peeking::<S, Buffered, W, _>(
         rt.alloc(),
         work,
@@ -196,14 +190,14 @@ where
         sink,
         &mut reports,
     );
-    reports.kept.add_to(tally);
-    tally.left_at = reports.endless;
-    match ran {
-        Ok(counts) => {
+    reports.add_to(tally);
+    match (ran, reports.last) {
+        (Ok(counts), _) => {
             tally.summary.add_skipping(counts);
             Ok(verdict_of(work.job, counts))
         }
-        Err(error) => {
+        (Err(error), Some(last)) => Err(tally.stop(error.before, last)),
+        (Err(error), None) => {
             tally.summary.add_skipping(error.before);
             tally.left_at = left_at(error.fault, error.before.messages, error.before.octets);
             Err(ProgramError::from(error.fault))
@@ -238,7 +232,7 @@ fn put_all_elements<R: Eprint + AllocGlobal, S: BufferedSource, W: Sink, P, Q>(
     source: &mut S,
     sink: &mut W,
     kept: KeepRefused<'_, P, Q>,
-    tally: &Tally<'_>,
+    tally: &mut Tally<'_>,
 ) -> Result<Verdict, ProgramError>
 where
     P: Write + Drop,
@@ -249,20 +243,18 @@ where
         (S.left source.old) (S.left source.new) (W.contents sink.old) (W.contents sink.new)
         (reporting None None) counts) }
 {
-    let mut reports = PrintReports {
-        rt,
-        name: dump.names_input.then_some(dump.name),
-        is_raw: false,
-        progress: tally.progress,
-        kept,
-        endless: None,
-    };
-    match run_dump_skipping::<S, Buffered, W, _>(rt.alloc(), dump, source, sink, &mut reports) {
+    let name = dump.names_input.then_some(dump.name);
+    let mut reports = PrintReports::new(rt, name, false, kept, tally);
+    let ran =
+        run_dump_skipping::<S, Buffered, W, _>(rt.alloc(), dump, source, sink, &mut reports);
+    reports.add_to(tally);
+    match ran {
         Ok(counts) => match missing_message(dump, counts.messages) {
             Some(error) => Err(error),
             None if counts.refused == 0 => Ok(Verdict::Good),
             None => Ok(Verdict::NotGood),
         },
+        Err(RunFault::NotReported) => Err(tally.limit.error()),
         Err(error) => Err(ProgramError::from(error)),
     }
 }

@@ -15,7 +15,6 @@ mod input;
 mod plan;
 mod put_inputs;
 mod results;
-mod until_stopped;
 
 pub use commands::{run_order, run_program};
 pub use ill_batch::{JsonSummary, LeftAt, ReportLine, Summary};

@@ -98,6 +98,7 @@ impl<'a> Plan<'a> {
             lines,
             keep_going,
             refused,
+            max_refused: _,
             json,
             summary,
             with_filename,

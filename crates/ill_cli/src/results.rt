@@ -9,18 +9,16 @@ ghost use Rattle.ill_commands.specs.Skipping.{verdict_of_counts, RunsSkipping};
 ghost use Rattle.ill_cli.specs.Plans.{is_json_result};
 
 use crate::input::left_at;
-use crate::until_stopped::UntilStopped;
-use ber_core::{Buffered, BufferedSource, FromSlice, Sink, Source, put_all};
-use ill_batch::{KeepRefused, LeftAt, Tally};
+use ber_core::{Buffered, BufferedSource, Sink, put_all};
+use ill_batch::{KeepRefused, LeftAt, RefusalLimit, Tally};
 use ill_commands::{
-    Job, JobError, JobOptions, RefusalKind, RefusalReport, RefusedLine, ReportRefusals, RunFault,
-    SkippingCounts, Verdict, read_hex, refused_json, run_skipping, run_skipping_peeking,
-    verdict_of,
+    Job, JobOptions, RefusalKind, RefusalReport, RefusedLine, ReportRefusals, RunFault,
+    SkippingCounts, Verdict, refused_json, run_skipping_peeking, verdict_of,
 };
+use ill_normal::NotReported;
 use ill_dump::place_of_refusal;
 use ill_files::ProgramError;
 use std::alloc::{AllocError, Global};
-use std::cell::Cell;
 use std::io::Write;
 
 /// Tells whether the results of a job are lines of JSON.
@@ -40,14 +38,23 @@ struct WriteRefused<'a, V, S: Write + Drop, F: Write + Drop> {
     buffer: Vec<u8>,
     /// The number of messages that are only not read.
     not_read: u32,
-    /// The reason why a line was not written.
-    fault: Option<RunFault>,
-    /// Set at the first message, where the work ends with it.
-    stop: Option<&'a Cell<bool>>,
     /// Gets the octets of the messages.
     kept: KeepRefused<'a, S, F>,
-    /// The place of the last message, if the input is read no further.
-    last: Option<LeftAt>,
+    /// The number of messages that the work goes on to.
+    limit: RefusalLimit,
+    /// The place of the last message, if its end is unknown.
+    endless: Option<LeftAt>,
+    /// The reason why the work ended with a message.
+    stop: Option<Stop>,
+}
+
+/// The reason why the work ends with a refused message.
+#[derive(Clone, Copy)]
+enum Stop {
+    /// Its line was not written.
+    Fault(RunFault),
+    /// It is the last one that the limit allows.
+    Limit(RefusalReport),
 }
 
 impl<V: Sink, S: Write + Drop, F: Write + Drop> WriteRefused<'_, V, S, F> {
@@ -73,16 +80,18 @@ impl<V: Sink, S: Write + Drop, F: Write + Drop> ReportRefusals for WriteRefused<
 
     ghost reported = { λ _. None };
 
-    fn report(&mut self, report: RefusalReport, octets: &[u8]) {
+    fn report(&mut self, report: RefusalReport, octets: &[u8]) -> Result<(), NotReported> {
         self.kept.keep(report, octets);
-        self.last = LeftAt::of_endless(report);
+        self.endless = LeftAt::of_endless(report);
         if let Err(fault) = self.write(report, octets) {
-            self.fault = Some(fault);
+            self.stop = Some(Stop::Fault(fault));
+            return Err(NotReported);
         }
-        if let Some(stop) = self.stop {
-            stop.set(true);
-            self.last = Some(LeftAt::of(report));
+        if self.limit.ends_with_next() {
+            self.stop = Some(Stop::Limit(report));
+            return Err(NotReported);
         }
+        Ok(())
     }
 }
 
@@ -121,15 +130,27 @@ where
         (putting (W.contents sink.old) (W.contents sink.new) (W.is_broken sink.new))
         (reporting None None) counts) }
 {
-    let mut reports = reports_to(alloc, work, refused, kept, None);
-    match run_skipping_peeking::<S, Buffered, W, _>(alloc, work, source, sink, &mut reports) {
-        Ok(counts) => ended(work, counts, &reports, tally),
-        Err(error) => Err(stopped(error, &reports, tally)),
+    let mut reports = reports_to(alloc, work, refused, kept, tally.limit);
+    let ran = run_skipping_peeking::<S, Buffered, W, _>(alloc, work, source, sink, &mut reports);
+    reports.kept.add_to(tally);
+    tally.limit = reports.limit;
+    tally.summary.add_not_read(reports.not_read);
+    match ran {
+        Ok(counts) => {
+            tally.left_at = reports.endless;
+            tally.summary.add_skipping(counts);
+            Ok(verdict_of(work.job, counts))
+        }
+        Err(error) => Err(match reports.stop {
+            Some(Stop::Limit(last)) => tally.stop(error.before, last),
+            Some(Stop::Fault(fault)) => stopped(fault, error.before, tally),
+            None => stopped(error.fault, error.before, tally),
+        }),
     }
 }
 
 /// Writes the result of each message up to the first that is refused.
-pub(crate) fn put_first_results<S: Source, W: Sink, V: Sink + Drop, P, Q>(
+pub(crate) fn put_first_results<S: BufferedSource, W: Sink, V: Sink + Drop, P, Q>(
     alloc: Global,
     work: JobOptions<'_>,
     source: &mut S,
@@ -142,45 +163,12 @@ where
     P: Write + Drop,
     Q: Write + Drop,
 {
-    let stop = Cell::new(false);
-    let mut reports = reports_to(alloc, work, refused, kept, Some(&stop));
-    let ran = if work.hex {
-        run_hex(alloc, work, source, sink, &mut reports, &stop)
-    } else {
-        run_until(alloc, work, source, sink, &mut reports, &stop)
-    };
-    match ran {
-        Ok(counts) => ended(work, counts, &reports, tally),
-        Err(error) => Err(stopped(error, &reports, tally)),
+    // The first refused message is the last one.
+    tally.limit = RefusalLimit::new(Some(1));
+    match put_results(alloc, work, source, sink, refused, kept, tally) {
+        Err(ProgramError::RefusedEnough(_)) => Ok(Verdict::NotGood),
+        done => done,
     }
-}
-
-/// Does a job with the messages of a hexadecimal text, up to where `stop` is set.
-fn run_hex<S: Source, W: Sink, T: ReportRefusals>(
-    alloc: Global,
-    work: JobOptions<'_>,
-    source: &mut S,
-    sink: &mut W,
-    reports: &mut T,
-    stop: &Cell<bool>,
-) -> Result<SkippingCounts, JobError> {
-    let octets = read_hex(alloc, source).map_err(JobError::at_start)?;
-    let work = JobOptions { hex: false, ..work };
-    let mut messages = FromSlice::new(&octets);
-    run_until(alloc, work, &mut messages, sink, reports, stop)
-}
-
-/// Does a job with messages up to where `stop` is set.
-fn run_until<S: Source, W: Sink, T: ReportRefusals>(
-    alloc: Global,
-    work: JobOptions<'_>,
-    source: &mut S,
-    sink: &mut W,
-    reports: &mut T,
-    stop: &Cell<bool>,
-) -> Result<SkippingCounts, JobError> {
-    let mut messages = UntilStopped::new(source, stop);
-    run_skipping(alloc, work, &mut messages, sink, reports)
 }
 
 /// No message was refused yet.
@@ -189,7 +177,7 @@ fn reports_to<'a, V, P: Write + Drop, Q: Write + Drop>(
     work: JobOptions<'a>,
     sink: V,
     kept: KeepRefused<'a, P, Q>,
-    stop: Option<&'a Cell<bool>>,
+    limit: RefusalLimit,
 ) -> WriteRefused<'a, V, P, Q> {
     WriteRefused {
         alloc,
@@ -197,41 +185,16 @@ fn reports_to<'a, V, P: Write + Drop, Q: Write + Drop>(
         sink,
         buffer: Vec::new(alloc),
         not_read: 0,
-        fault: None,
-        stop,
         kept,
-        last: None,
+        limit,
+        endless: None,
+        stop: None,
     }
 }
 
-/// Counts the messages of an input that was read to its end, and returns the verdict.
-fn ended<V, P: Write + Drop, Q: Write + Drop>(
-    work: JobOptions<'_>,
-    counts: SkippingCounts,
-    reports: &WriteRefused<'_, V, P, Q>,
-    tally: &mut Tally<'_>,
-) -> Result<Verdict, ProgramError>
-    ensures { IfOk result (λ verdict. verdict ≡ verdict_of_counts work.entry.job counts) }
-{
-    reports.kept.add_to(tally);
-    tally.left_at = reports.last;
-    tally.summary.add_not_read(reports.not_read);
-    tally.summary.add_skipping(counts);
-    match reports.fault {
-        Some(fault) => Err(ProgramError::from(fault)),
-        None => Ok(verdict_of(work.job, counts)),
-    }
-}
-
-/// Counts the messages before an error, and says what that is.
-fn stopped<V, P: Write + Drop, Q: Write + Drop>(
-    error: JobError,
-    reports: &WriteRefused<'_, V, P, Q>,
-    tally: &mut Tally<'_>,
-) -> ProgramError {
-    reports.kept.add_to(tally);
-    tally.left_at = left_at(error.fault, error.before.messages, error.before.octets);
-    tally.summary.add_not_read(reports.not_read);
-    tally.summary.add_skipping(error.before);
-    ProgramError::from(error.fault)
+/// Counts the messages before a fault, and says what it is.
+fn stopped(fault: RunFault, before: SkippingCounts, tally: &mut Tally<'_>) -> ProgramError {
+    tally.left_at = left_at(fault, before.messages, before.octets);
+    tally.summary.add_skipping(before);
+    ProgramError::from(fault)
 }

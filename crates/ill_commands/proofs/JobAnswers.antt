@@ -114,6 +114,7 @@ module _ (work : JobOptions) (s : List ℕ) (left' held held' : Option (List ℕ
     stop_does RunFault.OddHex h ns k le = absurd h
     stop_does (RunFault.BadHex n) h ns k le = absurd h
     stop_does RunFault.HexTooLong h ns k le = absurd h
+    stop_does RunFault.NotReported h ns k le = absurd h
 
     stop_refuses : (e : RunFault) → Stops work (taking rest left' x) (putting grown held' y) held ms e → (r : List ℕ) (ns : List Spelling) (f : Fault) → AreSpelledIn q s ns r → length ns < 1_000_000
         → 0 < length r → OnlyRefuses q r f → IsRefusedMessage e (length ns + 1) f
@@ -134,6 +135,7 @@ module _ (work : JobOptions) (s : List ℕ) (left' held held' : Option (List ℕ
     stop_refuses RunFault.OddHex h r ns f k lt some only = absurd h
     stop_refuses (RunFault.BadHex n) h r ns f k lt some only = absurd h
     stop_refuses RunFault.HexTooLong h r ns f k lt some only = absurd h
+    stop_refuses RunFault.NotReported h r ns f k lt some only = absurd h
 
     stop_many : (e : RunFault) → Stops work (taking rest left' x) (putting grown held' y) held ms e → (r : List ℕ) (ns : List Spelling) → AreSpelledIn q s ns r → length ns ≡ 1_000_000
         → 0 < length r → (e ≡ RunFault.TooManyMessages) ⊎ IsResourceFault e
@@ -149,6 +151,7 @@ module _ (work : JobOptions) (s : List ℕ) (left' held held' : Option (List ℕ
     stop_many RunFault.OddHex h r ns k many some = absurd h
     stop_many (RunFault.BadHex n) h r ns k many some = absurd h
     stop_many RunFault.HexTooLong h r ns k many some = absurd h
+    stop_many RunFault.NotReported h r ns k many some = absurd h
 
   -- the result of messages of which s is made
   module _ (x y : Bool) where

@@ -69,6 +69,7 @@ refuses_nothing (RunFault.Refused message refusal) side f h = absurd h
 refuses_nothing RunFault.OddHex side f h = absurd h
 refuses_nothing (RunFault.BadHex i) side f h = absurd h
 refuses_nothing RunFault.HexTooLong side f h = absurd h
+refuses_nothing RunFault.NotReported side f h = absurd h
 refuses_nothing RunFault.TooManyMessages side f h = absurd h
 
 module _ (p : Profile) (hex x : Bool) (e : RunFault) where
@@ -117,6 +118,7 @@ module _ (p : Profile) (x y : List ℕ) where
   not_compared RunFault.OddHex n a b h k = absurd n
   not_compared (RunFault.BadHex i) n a b h k = absurd n
   not_compared RunFault.HexTooLong n a b h k = absurd n
+  not_compared RunFault.NotReported n a b h k = absurd n
   not_compared RunFault.TooManyMessages n a b h k = absurd n
   not_compared (RunFault.WriteFault i) n a b h k = absurd n
 
@@ -128,6 +130,7 @@ module _ (p : Profile) (x y : List ℕ) where
   not_refused RunFault.OddHex n side f r = absurd n
   not_refused (RunFault.BadHex i) n side f r = absurd n
   not_refused RunFault.HexTooLong n side f r = absurd n
+  not_refused RunFault.NotReported n side f r = absurd n
   not_refused RunFault.TooManyMessages n side f r = absurd n
   not_refused (RunFault.WriteFault i) n side f r = absurd n
 

@@ -77,6 +77,7 @@ refused_or n left left' x (RunFault.RefusedSide side refusal) i f h = absurd h
 refused_or n left left' x RunFault.OddHex i f h = absurd h
 refused_or n left left' x (RunFault.BadHex place) i f h = absurd h
 refused_or n left left' x RunFault.HexTooLong i f h = absurd h
+refused_or n left left' x RunFault.NotReported i f h = absurd h
 refused_or n left left' x RunFault.TooManyMessages i f h = absurd h
 refused_or n left left' x (RunFault.WriteFault count) i f h = absurd h
 

@@ -1,5 +1,5 @@
 -- The messages that a dump has read, refused ones included.
-use Rattle.std.proofs.Common.{◌≡◌, ◌+◌, ◌<◌, ℕ, Bool, true, false, List, [], ◌∷◌, Option, None, Some, length, IsTrue, subst, sym, refl, inl, inr, arith}
+use Rattle.std.proofs.Common.{◌≡◌, ◌+◌, ◌<◌, ℕ, Bool, true, false, List, [], ◌∷◌, Option, None, Some, length, IsTrue, subst, sym, refl, inl, inr, arith, append-nil}
 use Rattle.std.specs.Prelude.{◌⊎◌, ◌≢◌}
 use Rattle.std.specs.Io.KnownBytes.{Consumes}
 use Rattle.std.proofs.KnownBytes.{Consumes-kept, Consumes-nil, Keeps-refl}
@@ -8,15 +8,15 @@ use Rattle.ill_schema.specs.Profiles.{profile_of}
 use Rattle.ill_schema.specs.declared.refusal.Refusal.{Refusal}
 use Rattle.ill_schema.proofs.Streams.{accepts_some}
 use Rattle.ill_normal.specs.Calls.{taking, putting}
-use Rattle.ill_normal.specs.Items.{Item, Adds, IsRefusedFor, report}
-use Rattle.ill_normal.specs.Messages.{MakesIn, Spelling, counted, position}
-use Rattle.ill_normal.specs.Next.{TakesPart}
+use Rattle.ill_normal.specs.Items.{Item, Adds, IsRefusedFor, report, reports_from}
+use Rattle.ill_normal.specs.Messages.{MakesIn, Spelling, counted, first, position}
+use Rattle.ill_normal.specs.Next.{IsNextRefused, TakesPart}
 use Rattle.ill_normal.specs.Skipping.{Skips, HasNoEnd, HasNothingLeft, Reporting, reporting}
 use Rattle.ill_normal.specs.declared.next_message.TakeError.{TakeError}
 use Rattle.ill_normal.specs.declared.messages.MessagePlace.{MessagePlace}
 use Rattle.ill_normal.specs.declared.messages.RenderedMessage.{RenderedMessage}
 use Rattle.ill_normal.specs.declared.report.RefusalReport.{RefusalReport}
-use Rattle.ill_normal.proofs.SkippedMessages.{skipped_bad, skipped_good, skipped_none}
+use Rattle.ill_normal.proofs.SkippedMessages.{adds_more, end_known, skipped_bad, skipped_good, skipped_none}
 use Rattle.ill_normal.specs.Visiting.{no_counts, with_accepted, with_last, with_refused}
 use Rattle.ill_normal.specs.code.SkippingEnds.{HasSkipped}
 use Rattle.ill_normal.specs.declared.visit.MessageCounts.{MessageCounts}
@@ -95,6 +95,25 @@ module _ (dump : DumpOptions) (left left' left'' held held' held'' : Option (Lis
         dumps = dumps_more dump counts.messages held held' held'' r.dumps begins;
       }
 
+  -- a message was refused, and not reported
+  pub over_unreported : (recorded : List ℕ) (refusal : Refusal) (end : Option ℕ) (grown : Option (List ℕ)) → counts.messages < 1_000_000
+      → IsNextRefused (profile_of dump.profile) left' left'' recorded refusal end
+      → Adds new next [] → DumpSkipsAndStops dump (taking left left'' x) (putting held grown y) (reporting old next) RunFault.NotReported
+  over_unreported recorded refusal end grown lt refused a = record {
+    items = r.skipped.items;
+    rest = left';
+    grown = held';
+    goes = record {
+      octets = r.skipped.goes.octets;
+      are = r.skipped.goes.are;
+      taken = r.skipped.goes.taken;
+      reported = subst (Adds old next) (append-nil (reports_from first r.skipped.items)) (adds_more old new next _ _ r.skipped.goes.reported a);
+    };
+    dumps = subst (λ (k : ℕ). WritesDump dump k held held') r.skipped.count r.dumps;
+    stops = subst (λ (k : ℕ). DumpStopsFor (profile_of dump.profile) (taking left' left'' x) (putting held' grown y) k RunFault.NotReported) r.skipped.count
+        (lt, record { octets = refused.0; refusal = refusal; taken = refused.1; end = end_known refused.0 left'' end refused.3; refused = refused.2 });
+  }
+
   pub over_stops : (grown : Option (List ℕ)) (fault : RunFault) → DumpStopsFor (profile_of dump.profile) (taking left' left'' x) (putting held' grown y) counts.messages fault
       → DumpSkipsAndStops dump (taking left left'' x) (putting held grown y) (reporting old new) fault
   over_stops grown fault h = record {
@@ -124,6 +143,7 @@ module _ (dump : DumpOptions) (left' left'' held' held'' : Option (List ℕ)) (b
     stops_writing RunFault.OddHex h not broken lt = absurd h
     stops_writing (RunFault.BadHex n) h not broken lt = absurd h
     stops_writing RunFault.HexTooLong h not broken lt = absurd h
+    stops_writing RunFault.NotReported h not broken lt = absurd h
     stops_writing RunFault.TooManyMessages h not broken lt = absurd h
     stops_writing RunFault.OutOfMemory h not broken lt = lt
     stops_writing RunFault.ReadFault h not broken lt = absurd (not refl)

@@ -7,7 +7,7 @@ use Rattle.ill_normal.specs.Calls.{Taking, taking, Putting, putting}
 use Rattle.ill_normal.specs.Items.{Item, AreItems, Adds, position_past, reports_from}
 use Rattle.ill_normal.specs.Messages.{TakesNoFurtherIn, first}
 use Rattle.ill_normal.specs.declared.report.RefusalReport.{RefusalReport}
-use Rattle.ill_normal.specs.Skipping.{Reporting, reporting, HasNothingLeft, LosesEnd}
+use Rattle.ill_normal.specs.Skipping.{Reporting, reporting, HasNothingLeft, LosesEnd, TakesRefused}
 use Rattle.ill_inputs.specs.declared.run_fault.RunFault.{RunFault}
 use Rattle.ill_inputs.specs.Inputs.{FailsText, TextOf}
 use Rattle.ill_dump.specs.Dumped.{WritesDump}
@@ -55,6 +55,7 @@ DumpStopsFor q source sink before RunFault.ReadFault =
     (before ≤ 1_000_000) × IsTrue source.broken × TakesNoFurtherIn q before source.left source.left' × Keeps sink.held sink.held'
 DumpStopsFor q source sink before RunFault.OutOfMemory = before < 1_000_000
 DumpStopsFor q source sink before (RunFault.WriteFault n) = (before < 1_000_000) × IsTrue sink.broken
+DumpStopsFor q source sink before RunFault.NotReported = (before < 1_000_000) × TakesRefused q source.left source.left'
 DumpStopsFor q source sink before _ = ⊥
 
 -- the messages before the fault, and why there was one

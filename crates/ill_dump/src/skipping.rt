@@ -11,7 +11,7 @@ use crate::put::{DumpSink, put_message, put_refused};
 use crate::run::DumpOptions;
 use ber_core::{Buffered, FromSlice, Lookahead, Sink, Source};
 use ill_normal::{
-    EndError, MessageCounts, NextMessage, NormalFormsIn, NormalReader, RefusalReport,
+    EndError, MessageCounts, NextMessage, NormalFormsIn, NormalReader, NotReported, RefusalReport,
     ReportRefusals, RunFault, TakeError, VisitMessages, Visited, read_hex, take_message,
     visit_messages,
 };
@@ -176,8 +176,10 @@ impl VisitMessages for SkippingDumper<'_> {
             }
             NextMessage::Refused { refusal, end } => {
                 put_refused(*alloc, *dump, message, recorded, refusal, out, sink)?;
-                reports.report(RefusalReport::new(place, refusal, end), recorded);
-                Ok(Visited::Refused { octets: end })
+                match reports.report(RefusalReport::new(place, refusal, end), recorded) {
+                    Ok(()) => Ok(Visited::Refused { octets: end }),
+                    Err(NotReported) => Err(RunFault::NotReported),
+                }
             }
         }
     }

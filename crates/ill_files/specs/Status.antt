@@ -32,8 +32,10 @@ error_status (ProgramError.Line _) = 2
 error_status ProgramError.HiddenCharacters = 2
 error_status ProgramError.SameFile = 2
 error_status ProgramError.RefusedIsShared = 2
+error_status ProgramError.EmptyList = 2
 error_status (ProgramError.Run line) = run_status_is line.0
 error_status (ProgramError.NoMessage missing) = 1
+error_status (ProgramError.RefusedEnough count) = 1
 error_status _ = 3
 
 -- 0 where all is well, 1 where a message is not normal or two are different
@@ -61,6 +63,12 @@ abbrev pub keeps_output : Bool → Result Verdict ProgramError → Bool
 keeps_output whole (Ok Verdict.Good) = false
 keeps_output whole (Ok Verdict.NotGood) = whole
 keeps_output whole (Err fault) = if whole then true else loses_output fault
+
+-- the file of refused messages stays as it was
+abbrev pub keeps_refused : Result Verdict ProgramError → Bool
+keeps_refused (Err (ProgramError.CannotReplace name fault)) = true
+keeps_refused (Err (ProgramError.NamesAreTaken name)) = true
+keeps_refused done = keeps_output false done
 
 -- of several files: 3 if one of them gave 3, else 1 if one gave 1
 abbrev pub worst : List ℕ → ℕ

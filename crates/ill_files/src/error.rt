@@ -1,10 +1,11 @@
 //! The line that the program prints where it fails, and the status that it ends with.
 ghost use Rattle.std.specs.Prelude.{◌≡◌, [], ◌∷◌};
-ghost use Rattle.ill_files.specs.Status.{is_output_lost, keeps_output, line_status_is, loses_output, run_status_is, status_is, worst};
+ghost use Rattle.ill_files.specs.Status.{is_output_lost, keeps_output, keeps_refused, line_status_is, loses_output, run_status_is, status_is, worst};
 
 use crate::count::Count;
 use crate::names::{FileName, FileNameRef};
 use crate::open_obstacle::OpenObstacle;
+use crate::replacement::ReplaceFault;
 use clap::Error as LineError;
 use clap::error::ErrorKind;
 use ill_args::LineFault;
@@ -36,12 +37,18 @@ pub enum ProgramError {
     /// The file of refused messages is another regular file of the command. Nothing was written.
     #[error("--refused needs a file of its own")]
     RefusedIsShared,
+    /// The list of names is empty, and the words name no file. Nothing was written.
+    #[error("the list names no file")]
+    EmptyList,
+    /// This number of messages is refused, and no more of them were asked for.
+    #[error("stopped after {0}")]
+    RefusedEnough(RefusedCount),
     /// A file with this name can't be opened for reading or writing, for this reason.
     #[error("cannot open {0}")]
     CannotOpen(FileName, OpenObstacle),
-    /// The output was written to a new file, which can't be given this name. The file with this name is as it was.
-    #[error("cannot replace {0}")]
-    CannotReplace(FileName),
+    /// No new file can be written or given this name, for this reason. The file with this name is as it was.
+    #[error("cannot replace {0}: {1}")]
+    CannotReplace(FileName, ReplaceFault),
     /// The output was to be written to a new file beside the file with this name, but all names for it are taken. Nothing was written.
     #[error("cannot write {0}: all names from {0}.part to {0}.part99 are taken")]
     NamesAreTaken(FileName),
@@ -81,10 +88,10 @@ impl ProgramError {
         }
     }
 
-    /// A new file can't be given this name.
-    pub fn cannot_replace(alloc: Global, name: &str) -> ProgramError {
+    /// The file with this name can't be replaced, for this reason.
+    pub fn cannot_replace(alloc: Global, name: &str, fault: ReplaceFault) -> ProgramError {
         match FileName::of(alloc, name) {
-            Ok(name) => ProgramError::CannotReplace(name),
+            Ok(name) => ProgramError::CannotReplace(name, fault),
             Err(_) => ProgramError::out_of_memory(),
         }
     }
@@ -134,6 +141,18 @@ impl fmt::Display for MissingMessage {
     }
 }
 
+/// A number of refused messages.
+#[derive(Clone, Copy, Debug, PartialEq, Eq)]
+pub struct RefusedCount(pub u32);
+
+impl fmt::Display for RefusedCount {
+    fn fmt<W: fmt::Write>(&self, f: &mut fmt::Formatter<W>) -> fmt::Result {
+        let RefusedCount(count) = *self;
+        let count = Count(u64::from(count), "refused message");
+        write!(f, "{count}")
+    }
+}
+
 /// A fault of a job as one line.
 #[derive(Clone, Copy, Debug, PartialEq, Eq)]
 pub struct RunLine(pub RunFault);
@@ -161,6 +180,7 @@ impl fmt::Display for RunLine {
             RunFault::BadHex(place) => write!(f, "hex: bad digit at {place}"),
             RunFault::HexTooLong => f.write_str("hex: too long"),
             RunFault::TooManyMessages => f.write_str("more than 1000000 messages"),
+            RunFault::NotReported => f.write_str("stopped after a refused message"),
             RunFault::OutOfMemory => f.write_str("out of memory"),
             RunFault::ReadFault => f.write_str("read fault"),
             RunFault::WriteFault(written) => write!(f, "write fault after {written} octets"),
@@ -196,13 +216,14 @@ pub fn status_of(done: &Result<Verdict, ProgramError>) -> u8
             ProgramError::Line(_)
             | ProgramError::HiddenCharacters
             | ProgramError::SameFile
-            | ProgramError::RefusedIsShared,
+            | ProgramError::RefusedIsShared
+            | ProgramError::EmptyList,
         ) => 2,
         Err(ProgramError::Run(RunLine(fault))) => run_status(fault),
-        Err(ProgramError::NoMessage(_)) => 1,
+        Err(ProgramError::NoMessage(_) | ProgramError::RefusedEnough(_)) => 1,
         Err(
             ProgramError::CannotOpen(..)
-            | ProgramError::CannotReplace(_)
+            | ProgramError::CannotReplace(..)
             | ProgramError::NamesAreTaken(_)
             | ProgramError::Flush
             | ProgramError::Closed,
@@ -215,6 +236,7 @@ fn run_status(fault: &RunFault) -> u8
 {
     match fault {
         RunFault::Refused { .. } | RunFault::RefusedSide(..) | RunFault::TooManyMessages => 1,
+        RunFault::NotReported => 1,
         RunFault::OddHex | RunFault::BadHex(_) | RunFault::HexTooLong => 1,
         RunFault::OutOfMemory | RunFault::ReadFault | RunFault::WriteFault(_) => 3,
     }
@@ -288,6 +310,16 @@ fn loses_output(error: &ProgramError) -> bool
                 RunFault::OutOfMemory | RunFault::ReadFault | RunFault::WriteFault(_)
             ))
     )
+}
+
+/// Tells whether the file of refused messages stays as it was: an output stays so, or can't be replaced.
+pub fn keeps_refused(done: &Result<Verdict, ProgramError>) -> bool
+    ensures { result ≡ keeps_refused done.now }
+{
+    match done {
+        Err(ProgramError::CannotReplace(..) | ProgramError::NamesAreTaken(_)) => true,
+        done => keeps_output(false, done),
+    }
 }
 
 /// Prints the error of one of several files as one line, which names the file, and says why it can't be opened.

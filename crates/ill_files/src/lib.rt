@@ -24,8 +24,8 @@ mod words;
 
 pub use count::Count;
 pub use error::{
-    CauseName, MissingMessage, ProgramError, RunLine, combined_status, is_of_folder,
-    is_output_lost, keeps_output, print_error, print_error_of, status_of,
+    CauseName, MissingMessage, ProgramError, RefusedCount, RunLine, combined_status, is_of_folder,
+    is_output_lost, keeps_output, keeps_refused, print_error, print_error_of, status_of,
 };
 pub use host::Host;
 pub use input::{
@@ -39,6 +39,7 @@ pub use output::{
     open_standard_output,
 };
 pub use progress::{ProgressLine, ProgressReader};
-pub use same_file::{FileId, are_one_target};
+pub use replacement::{ReplaceFault, ReplaceObstacle};
+pub use same_file::{FileId, are_one_target, is_standard_output};
 pub use streams::open_closed_streams;
 pub use words::{printable_error, words_of};

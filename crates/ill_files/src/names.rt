@@ -126,14 +126,33 @@ fn has_hidden(text: &str) -> bool {
     false
 }
 
-/// Tells whether a character is not seen where it is printed, or changes what is seen around it (General_Category Cc, Cf, Zl and Zp).
+/// Tells whether a character is not seen where it is printed, or changes what is seen around it (General_Category Cc, Cf, Zl and Zp, and
+/// Default_Ignorable_Code_Point).
 fn is_hidden(letter: char) -> bool {
+    is_default_ignorable(letter)
+        || matches!(
+            GeneralCategory::for_char(letter),
+            GeneralCategory::Control
+                | GeneralCategory::Format
+                | GeneralCategory::LineSeparator
+                | GeneralCategory::ParagraphSeparator
+        )
+}
+
+/// Tells whether a character has the property Default_Ignorable_Code_Point of Unicode 16.0, and may be of another category than Format.
+fn is_default_ignorable(letter: char) -> bool {
     matches!(
-        GeneralCategory::for_char(letter),
-        GeneralCategory::Control
-            | GeneralCategory::Format
-            | GeneralCategory::LineSeparator
-            | GeneralCategory::ParagraphSeparator
+        letter,
+        '\u{34f}'
+            | '\u{115f}'..='\u{1160}'
+            | '\u{17b4}'..='\u{17b5}'
+            | '\u{180b}'..='\u{180f}'
+            | '\u{2060}'..='\u{206f}'
+            | '\u{3164}'
+            | '\u{fe00}'..='\u{fe0f}'
+            | '\u{ffa0}'
+            | '\u{fff0}'..='\u{fff8}'
+            | '\u{e0000}'..='\u{e0fff}'
     )
 }
 

@@ -5,8 +5,10 @@ use crate::error::{ProgramError, RunLine, is_output_lost, keeps_output};
 use crate::host::Host;
 use crate::names::FileNameRef;
 use crate::open_obstacle::OpenObstacle;
-use crate::replacement::{self, ReplaceMode, ReplaceObstacle, Replacement, sync_folder};
-use crate::same_file::FileId;
+use crate::replacement::{
+    self, ReplaceFault, ReplaceMode, ReplaceObstacle, Replacement, sync_folder,
+};
+use crate::same_file::{FileId, is_standard_output};
 use ill_inputs::{RunFault, Verdict};
 use std::alloc::Global;
 use std::cell::RefCell;
@@ -232,9 +234,6 @@ pub fn open_standard_output<'r, R: Print + Files + AllocGlobal>(
     output.open(rt.alloc(), OutputKind::Standard(io::writer(rt)))
 }
 
-/// The name by which the system knows standard output.
-const STANDARD_OUTPUT: &str = "/dev/stdout";
-
 /// The destination of the octets of an output until it is closed.
 #[derive(Drop)]
 pub enum OutputDestination {
@@ -244,8 +243,8 @@ pub enum OutputDestination {
     NewFile(String),
 }
 
-/// Opens the output with this name, `-` or `/dev/stdout` for standard output. Nothing else is opened where it is to be replaced as a whole.
-/// A regular file that can't be replaced is written directly, and a line on standard error says so.
+/// Opens the output with this name, which is standard output as [`is_standard_output`] says. Nothing else is opened where it is to be replaced
+/// as a whole. A regular file that can't be replaced is written directly, and a line on standard error says so.
 ///
 /// # Errors
 ///
@@ -256,19 +255,24 @@ pub fn open_output<'r, R: Print + Eprint + Host + AllocGlobal>(
     name: &str,
     whole: bool,
 ) -> Result<OutputDestination, ProgramError> {
-    let way = if name == "-" || name == STANDARD_OUTPUT {
-        None
-    } else {
-        Some(replacement::begin(rt, name)?)
-    };
-    match way {
-        Some(ReplaceMode::Beside(new)) => open_beside(rt, output, new),
-        _ if whole => Err(ProgramError::cannot_replace(rt.alloc(), name)),
-        Some(ReplaceMode::Direct(obstacle)) => open_directly(rt, output, name, obstacle),
-        None => {
-            open_standard_output(rt, output)?;
-            Ok(OutputDestination::InPlace)
+    if is_standard_output(name) {
+        if whole {
+            let fault = ReplaceFault::NoRegularFile;
+            return Err(ProgramError::cannot_replace(rt.alloc(), name, fault));
         }
+        open_standard_output(rt, output)?;
+        return Ok(OutputDestination::InPlace);
+    }
+    match replacement::begin(rt, name)? {
+        ReplaceMode::Beside(new) => open_beside(rt, output, new),
+        ReplaceMode::Direct(obstacle) if whole => {
+            let fault = match obstacle {
+                Some(obstacle) => ReplaceFault::Direct(obstacle),
+                None => ReplaceFault::NoRegularFile,
+            };
+            Err(ProgramError::cannot_replace(rt.alloc(), name, fault))
+        }
+        ReplaceMode::Direct(obstacle) => open_directly(rt, output, name, obstacle),
     }
 }
 
@@ -348,27 +352,37 @@ fn take_name<'r, R: Print + Host + AllocGlobal>(
         let _ = fs::remove_file(rt, part);
         return Err(ProgramError::Flush);
     }
-    match is_still_named(rt, output, part) {
+    let renamed = match is_still_named(rt, output, part) {
         // Another file has this name by now, which is not ours to remove.
-        Some(false) => Err(ProgramError::cannot_replace(rt.alloc(), name)),
-        Some(true) if fs::rename(rt, part, name).is_ok() => {
+        Ok(false) => {
+            let fault = ReplaceFault::NewNameTaken;
+            return Err(ProgramError::cannot_replace(rt.alloc(), name, fault));
+        }
+        Ok(true) => fs::rename(rt, part, name),
+        Err(error) => Err(error),
+    };
+    match renamed {
+        Ok(()) => {
             sync_folder(rt, name);
             Ok(())
         }
-        _ => {
+        Err(error) => {
             let _ = fs::remove_file(rt, part);
-            Err(ProgramError::cannot_replace(rt.alloc(), name))
+            let fault = ReplaceFault::System(error.kind());
+            Err(ProgramError::cannot_replace(rt.alloc(), name, fault))
         }
     }
 }
 
-/// Tells whether this is still the name of the file that the output is. None where that can't be known.
+/// Tells whether this is still the name of the file that the output is.
 fn is_still_named<'r, R: Print + Host + AllocGlobal>(
     rt: &'r R,
     output: &OutputOf<'r, R>,
     name: &str,
-) -> Option<bool> {
-    let file = output.file_id()?;
-    let named = fs::symlink_metadata(rt, name).ok()?;
-    Some(FileId::of(Ok(named)) == Some(file))
+) -> io::Result<bool> {
+    let named = fs::symlink_metadata(rt, name)?;
+    match output.file_id() {
+        Some(file) => Ok(FileId::of(Ok(named)) == Some(file)),
+        None => Err(io::Error::from(ErrorKind::Other)),
+    }
 }

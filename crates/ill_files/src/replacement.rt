@@ -61,6 +61,30 @@ impl fmt::Display for ReplaceObstacle {
     }
 }
 
+/// The reason why a file can't be replaced. It stays as it was.
+#[derive(Clone, Copy, Debug, PartialEq, Eq)]
+pub enum ReplaceFault {
+    /// A call of the system failed so.
+    System(ErrorKind),
+    /// It could be written directly, and is to be replaced as a whole.
+    Direct(ReplaceObstacle),
+    /// It is a device, a pipe or a folder, and is to be replaced as a whole.
+    NoRegularFile,
+    /// Another file has the name of the new one by now.
+    NewNameTaken,
+}
+
+impl fmt::Display for ReplaceFault {
+    fn fmt<W: fmt::Write>(&self, f: &mut fmt::Formatter<W>) -> fmt::Result {
+        match self {
+            ReplaceFault::System(kind) => write!(f, "{kind}"),
+            ReplaceFault::Direct(obstacle) => write!(f, "{obstacle}"),
+            ReplaceFault::NoRegularFile => f.write_str("it is no regular file"),
+            ReplaceFault::NewNameTaken => f.write_str("another file has the name of the new one"),
+        }
+    }
+}
+
 /// The file that a name stands for before it is written to.
 #[derive(Drop)]
 enum ExistingFile {
@@ -68,7 +92,7 @@ enum ExistingFile {
     Absent,
     /// A regular file with no other name.
     File(Metadata),
-    /// A file that can't be replaced: a regular file for this reason, or a device, a pipe, a folder.
+    /// A file that can't be replaced: a regular file or a link to no file, for this reason, or a device, a pipe, a folder.
     Other(Option<ReplaceObstacle>),
 }
 
@@ -77,7 +101,8 @@ enum ExistingFile {
 ///
 /// # Errors
 ///
-/// The file with this name is there and may not be written to, all names for a new file are taken, or memory ran out.
+/// The file with this name is there and may not be written to, all names for a new file are taken, no new file can be made for a reason that
+/// may pass, as a full disk, or memory ran out.
 pub fn begin<R: Host + AllocGlobal>(
     rt: &R,
     name: &str,
@@ -85,11 +110,49 @@ pub fn begin<R: Host + AllocGlobal>(
     match existing_file(rt, name) {
         ExistingFile::Other(obstacle) => Ok(ReplaceMode::Direct(obstacle)),
         ExistingFile::Absent => match create_beside(rt, name, 0o666)? {
-            Some(new) => Ok(ReplaceMode::Beside(new)),
-            None => Ok(ReplaceMode::Direct(Some(ReplaceObstacle::Folder))),
+            Ok(new) => Ok(ReplaceMode::Beside(new)),
+            // The call that makes the file itself says what is wrong with its name.
+            Err(kind) if allows_no_new_file(kind) || is_of_name(kind) => {
+                Ok(ReplaceMode::Direct(Some(ReplaceObstacle::Folder)))
+            }
+            Err(kind) => Err(ProgramError::cannot_replace(
+                rt.alloc(),
+                name,
+                ReplaceFault::System(kind),
+            )),
         },
         ExistingFile::File(old) => begin_beside(rt, name, &old),
     }
+}
+
+/// Tells whether a folder gets no new file for a reason that stays: its mode, or a file system that is read only.
+fn allows_no_new_file(kind: ErrorKind) -> bool {
+    matches!(
+        kind,
+        ErrorKind::PermissionDenied | ErrorKind::ReadOnlyFilesystem
+    )
+}
+
+/// Tells whether a call failed because of the name of a file.
+fn is_of_name(kind: ErrorKind) -> bool {
+    matches!(
+        kind,
+        ErrorKind::NotFound
+            | ErrorKind::NotADirectory
+            | ErrorKind::FilesystemLoop
+            | ErrorKind::InvalidFilename
+    )
+}
+
+/// Tells whether the owner or the mode of a file can't be set for a reason that stays: the rights of the user, or the file system.
+fn keeps_owner(kind: ErrorKind) -> bool {
+    matches!(
+        kind,
+        ErrorKind::PermissionDenied
+            | ErrorKind::ReadOnlyFilesystem
+            | ErrorKind::InvalidInput
+            | ErrorKind::Unsupported
+    )
 }
 
 /// Creates a new file beside a regular one.
@@ -98,8 +161,16 @@ fn begin_beside<R: Host + AllocGlobal>(
     name: &str,
     old: &Metadata,
 ) -> Result<ReplaceMode<R::File>, ProgramError> {
-    let Some(new) = create_beside(rt, name, old.mode() & 0o700)? else {
-        return Ok(ReplaceMode::Direct(Some(ReplaceObstacle::Folder)));
+    let alloc = rt.alloc();
+    let new = match create_beside(rt, name, old.mode() & 0o700)? {
+        Ok(new) => new,
+        Err(kind) if allows_no_new_file(kind) => {
+            return Ok(ReplaceMode::Direct(Some(ReplaceObstacle::Folder)));
+        }
+        Err(kind) => {
+            let fault = ReplaceFault::System(kind);
+            return Err(ProgramError::cannot_replace(alloc, name, fault));
+        }
     };
     let taken_over = copy_owner_and_mode(rt, &new, old);
     if let Ok(true) = taken_over {
@@ -107,11 +178,14 @@ fn begin_beside<R: Host + AllocGlobal>(
     }
     let _ = fs::remove_file(rt, new.name.as_str());
     match taken_over {
-        Ok(_) => {
-            let why = OpenObstacle::Denied;
-            Err(ProgramError::cannot_open(rt.alloc(), name, why))
+        Ok(_) => Err(ProgramError::cannot_open(alloc, name, OpenObstacle::Denied)),
+        Err(error) if keeps_owner(error.kind()) => {
+            Ok(ReplaceMode::Direct(Some(ReplaceObstacle::Owner)))
         }
-        Err(_) => Ok(ReplaceMode::Direct(Some(ReplaceObstacle::Owner))),
+        Err(error) => {
+            let fault = ReplaceFault::System(error.kind());
+            Err(ProgramError::cannot_replace(alloc, name, fault))
+        }
     }
 }
 
@@ -125,6 +199,9 @@ fn existing_file<R: Files>(rt: &R, name: &str) -> ExistingFile {
         Ok(found) if found.is_file() => ExistingFile::Other(Some(ReplaceObstacle::Names)),
         Ok(_) => match fs::metadata(rt, name) {
             Ok(found) if found.is_file() => ExistingFile::Other(Some(ReplaceObstacle::Link)),
+            Err(error) if error.kind() == ErrorKind::NotFound => {
+                ExistingFile::Other(Some(ReplaceObstacle::Link))
+            }
             _ => ExistingFile::Other(None),
         },
         Err(error) if error.kind() == ErrorKind::NotFound => ExistingFile::Absent,
@@ -132,7 +209,7 @@ fn existing_file<R: Files>(rt: &R, name: &str) -> ExistingFile {
     }
 }
 
-/// Creates a new file `NAME.part`, or `NAME.part1` and so on where that name is taken. None where the folder or the file system allows no file.
+/// Creates a new file `NAME.part`, or `NAME.part1` and so on where that name is taken, or says how the call failed.
 ///
 /// # Errors
 ///
@@ -141,15 +218,15 @@ fn create_beside<R: Files + AllocGlobal>(
     rt: &R,
     name: &str,
     mode: u32,
-) -> Result<Option<Replacement<R::File>>, ProgramError> {
+) -> Result<Result<Replacement<R::File>, ErrorKind>, ProgramError> {
     for number in 0..MAX_PART_NAMES {
         let part = part_name(rt.alloc(), name, number).map_err(|_| ProgramError::out_of_memory())?;
         let mut options = OpenOptions::new();
         options.write(true).create_new(true).mode(mode);
         match options.open(rt, part.as_str()) {
-            Ok(file) => return Ok(Some(Replacement { name: part, file })),
+            Ok(file) => return Ok(Ok(Replacement { name: part, file })),
             Err(error) if error.kind() == ErrorKind::AlreadyExists => {}
-            Err(_) => return Ok(None),
+            Err(error) => return Ok(Err(error.kind())),
         }
     }
     Err(ProgramError::names_are_taken(rt.alloc(), name))

@@ -42,5 +42,6 @@ is_fault n left left' x (RunFault.RefusedSide side refusal) h = absurd h
 is_fault n left left' x RunFault.OddHex h = absurd h
 is_fault n left left' x (RunFault.BadHex i) h = absurd h
 is_fault n left left' x RunFault.HexTooLong h = absurd h
+is_fault n left left' x RunFault.NotReported h = absurd h
 is_fault n left left' x RunFault.TooManyMessages h = absurd h
 is_fault n left left' x (RunFault.WriteFault i) h = absurd h

@@ -23,6 +23,8 @@ pub enum RunFault {
     HexTooLong,
     /// The input goes on after 1,000,000 messages. Their output was written.
     TooManyMessages,
+    /// A message is refused, and the receiver of its report stopped the work. The output of the messages before was written.
+    NotReported,
     /// Out of memory. The output of the messages before was written.
     OutOfMemory,
     /// The source is broken. The output of the messages before was written.

@@ -1,5 +1,6 @@
 -- The messages of an input, one after another.
 use Rattle.std.proofs.Common.{◌≡◌, ℕ, suc, ◌+◌, ◌<◌, ◌≤◌, Bool, ◌&&◌, List, [], ◌∷◌, ◌++◌, length, take, Option, Some, None, IsTrue, refl, sym, ap, ap₂, subst, ◌∙◌, arith, inl, inr, nat_eq, append_assoc, append-nil, length-append}
+use Rattle.std.specs.Prelude.{◌⊎◌, MatchOption}
 use Rattle.std.proofs.Math.Dec.{eqb-suc-suc}
 use Rattle.std.proofs.Math.Nat.{min-eq_left}
 use Rattle.std.specs.Io.KnownBytes.{Consumes, Appends, IsAtEnd}
@@ -18,9 +19,9 @@ use Rattle.ill_normal.specs.declared.messages.RenderedMessage.{RenderedMessage}
 use Rattle.ill_normal.specs.declared.report.RefusalReport.{RefusalReport}
 use Rattle.ill_normal.specs.declared.skipping.SkippingError.{SkippingError}
 use Rattle.ill_normal.specs.declared.skipping.SkippingErrorKind.{SkippingErrorKind}
-use Rattle.ill_normal.specs.Items.{Item, good, bad, IsRefusedFor, AreItems, item_octets, position_past, written_of, written_from, report, reports_from, good_in, all_good, Adds}
+use Rattle.ill_normal.specs.Items.{Item, good, bad, IsRefusedFor, AreItems, item_octets, position_past, written_of, written_from, report, reports_from, good_in, all_good, Adds, ComesWith}
 use Rattle.ill_normal.specs.Skipping.{Reporting, reporting, Skips, HasNoEnd, SkipsToEnd, part_written, StopsFor, SkipsAndStops}
-use Rattle.ill_normal.specs.Next.{TakesPart}
+use Rattle.ill_normal.specs.Next.{IsNextRefused, TakesPart}
 use Rattle.ill_inputs.specs.InputEnds.{GoesOn}
 use Rattle.ill_inputs.specs.declared.input_end.EndError.{EndError}
 use Rattle.ill_normal.specs.code.SkippingEnds.{HasSkipped, error_at, skipping_counts, why_of, why_of_end}
@@ -95,6 +96,21 @@ counted_all p i (bad octets refusal ∷ items) =
     let refused = length (reports_from next items) in
     let more : suc refused + good_in p items ≡ suc (refused + good_in p items) = omega arith in
     ap (λ (k : ℕ). nat_eq k (suc (length items))) more ∙ eqb-suc-suc (refused + good_in p items) (length items) ∙ counted_all p next items
+
+-- the end of a message that was refused
+pub end_known : (b : List ℕ) (left : Option (List ℕ)) (end : Option ℕ) → MatchOption end (HasNoEnd b left) (λ n. IsFrame b × (n ≡ counted (length b))) → IsFrame b ⊎ HasNoEnd b left
+end_known b left None h = inr h
+end_known b left (Some n) h = inl h.0
+
+-- a report and the octets that it comes with
+pub comes_with : (q : Named) (left left' : Option (List ℕ)) (recorded : List ℕ) (p : MessagePlace) (refusal : Refusal) (end : Option ℕ)
+    → IsNextRefused (profile_of q) left left' recorded refusal end → ComesWith (report p refusal end) recorded
+comes_with q left left' recorded p refusal end refused =
+    record { message = refused.0; begins = refused.4; profile = q; refused = refused.2; counts = counts end refused.3 }
+  where
+    counts : (end : Option ℕ) → MatchOption end (HasNoEnd refused.0 left') (λ n. IsFrame refused.0 × (n ≡ counted (length refused.0))) → MatchOption end (Unit {0}) (λ n. n ≡ counted (length refused.0))
+    counts None h = tt
+    counts (Some n) h = h.1
 
 module _ (q : Named) where
   -- an item that is right for its octets
@@ -267,6 +283,29 @@ module _ (q : Named) where
         let b = broken refl in
         stops held' (written + 0) SkippingErrorKind.ReadFault (omega (arith, r.size))
         (omega (arith, lt), b.0, ((b.1.octets, b.1.taken, b.1.unfinished q), λ full. absurd (omega (arith, lt, full))), Keeps-refl held')
+
+    -- a message was refused, and not reported
+    pub stops_unreported : (recorded : List ℕ) (refusal : Refusal) (end : Option ℕ) → counts.messages < 1_000_000
+        → IsNextRefused (profile_of q) left' left'' recorded refusal end
+        → Adds new next [] → SkipsAndStops (profile_of q) text is_good (taking left left'' u) (putting held held' v) (reporting old next) (error_at counts (written + 0) SkippingErrorKind.NotReported)
+    stops_unreported recorded refusal end lt refused a = record {
+      items = r.items;
+      rest = left';
+      grown = held';
+      goes = record {
+        octets = r.goes.octets;
+        are = r.goes.are;
+        taken = r.goes.taken;
+        written = r.goes.written;
+        reported = subst (Adds old next) (append-nil (reports_from first r.items)) (adds_more old new next _ _ r.goes.reported a);
+      };
+      messages = r.count;
+      refused = r.bad_ones;
+      good = r.good_are;
+      octets = r.input;
+      written = omega (arith, r.size);
+      stops = (lt, record { octets = refused.0; refusal = refusal; taken = refused.1; end = end_known refused.0 left'' end refused.3; refused = refused.2 }, Keeps-refl held');
+    }
 
     pub stops_writing : {T : Type 0} (is : T → List ℕ → Type 0) (piece : RenderedMessage T) (n : ℕ) → counts.messages < 1_000_000 → (p : Made is text is_good (position (counts.messages + 1) counts.octets) left' left'' piece)
         → Appends held' held'' (take n (text (position (counts.messages + 1) counts.octets) (spelling p.2.apdu p.0))) → n < length (text (position (counts.messages + 1) counts.octets) (spelling p.2.apdu p.0)) → IsTrue v

@@ -213,7 +213,7 @@ module _ (left left' : Option (List ℕ)) (recorded : List ℕ) (size : ℕ) (fr
       none_left (o ∷ x) z = absurd (omega (arith, z))
 
   pub read_next : {T : Type 0} (q : Named) (is : T → List ℕ → Type 0) (text : Spelling → List ℕ) (is_good : Spelling → Bool) (piece : RenderedMessage T) (rest : List ℕ) (m : List ℕ) → Consumes (Some recorded) (Some rest) m
-      → MakesIn (profile_of q) is text is_good piece m → IsNext (profile_of q) is text is_good left left' (NextMessage.Read piece)
+      → MakesIn (profile_of q) is text is_good piece m → IsNext (profile_of q) is text is_good left left' recorded (NextMessage.Read piece)
   read_next q is text is_good piece rest m c h =
       let same = message_is q h.apdu m rest h.spells c in
       (m, subst (Consumes left left') same t.taken, h)
@@ -231,12 +231,13 @@ module _ (left left' : Option (List ℕ)) (recorded : List ℕ) (size : ℕ) (fr
   end_is framed.Part j = inr (j, t.part j)
 
   pub refused_next : {T : Type 0} (q : Named) (is : T → List ℕ → Type 0) (text : Spelling → List ℕ) (is_good : Spelling → Bool) (refusal : Refusal) (end : Option ℕ) → end ≡ end_of frame size
-      → OnlyRefuses (profile_of q) recorded (fault_of refusal) → IsNext (profile_of q) {T = T} is text is_good left left' (NextMessage.Refused refusal end)
+      → OnlyRefuses (profile_of q) recorded (fault_of refusal) → IsNext (profile_of q) {T = T} is text is_good left left' recorded (NextMessage.Refused refusal end)
   refused_next q is text is_good refusal end e h = (
     t.octets,
     t.taken,
     subst (λ z. OnlyRefuses (profile_of q) z (fault_of refusal)) t.keeps h,
     subst (λ (o : Option ℕ). MatchOption o (HasNoEnd t.octets left') (λ n. IsFrame t.octets × (n ≡ counted (length t.octets)))) (sym e) (end_is frame t.judged),
+    t.keeps,
   )
 
 -- ---- the rest of a length that is too great
@@ -287,7 +288,7 @@ unframed_broken left left' left'' recorded recorded' size t r = record {
 module _ (left left' : Option (List ℕ)) (recorded : List ℕ) (size : ℕ) where
   -- what the reader made of what was recorded
   pub read_took : {T : Type 0} (q : Named) (is : T → List ℕ → Type 0) (text : Spelling → List ℕ) (is_good : Spelling → Bool) (frame : Framing) → Took left left' recorded size frame → (piece : RenderedMessage T) (rest m : List ℕ)
-      → Consumes (Some recorded) (Some rest) m → MakesIn (profile_of q) is text is_good piece m → IsNext (profile_of q) is text is_good left left' (NextMessage.Read piece)
+      → Consumes (Some recorded) (Some rest) m → MakesIn (profile_of q) is text is_good piece m → IsNext (profile_of q) is text is_good left left' recorded (NextMessage.Read piece)
   read_took q is text is_good framed.Whole t piece rest m c h = read_next left left' recorded size framed.Whole t q is text is_good piece rest m c h
   read_took q is text is_good framed.Part t piece rest m c h = read_next left left' recorded size framed.Part t q is text is_good piece rest m c h
   read_took q is text is_good framed.Unframed t piece rest m c h =
@@ -307,7 +308,7 @@ module _ (left left' : Option (List ℕ)) (recorded : List ℕ) (size : ℕ) whe
       absurd (t.unframed none_is_part.0 (subst (λ z. IsFrame (z ++ none_is_part.0)) (sym none) none_is_part.2))
 
   pub refused_took : {T : Type 0} (q : Named) (is : T → List ℕ → Type 0) (text : Spelling → List ℕ) (is_good : Spelling → Bool) (frame : Framing) → Took left left' recorded size frame → (refusal : Refusal) (end : Option ℕ)
-      → end ≡ end_of frame size → OnlyRefuses (profile_of q) recorded (fault_of refusal) → IsNext (profile_of q) {T = T} is text is_good left left' (NextMessage.Refused refusal end)
+      → end ≡ end_of frame size → OnlyRefuses (profile_of q) recorded (fault_of refusal) → IsNext (profile_of q) {T = T} is text is_good left left' recorded (NextMessage.Refused refusal end)
   refused_took q is text is_good framed.Whole t refusal end e h = refused_next left left' recorded size framed.Whole t q is text is_good refusal end e h
   refused_took q is text is_good framed.Part t refusal end e h = refused_next left left' recorded size framed.Part t q is text is_good refusal end e h
   refused_took q is text is_good framed.Unframed t refusal end e h = (
@@ -316,4 +317,5 @@ module _ (left left' : Option (List ℕ)) (recorded : List ℕ) (size : ℕ) whe
     subst (λ z. OnlyRefuses (profile_of q) z (fault_of refusal)) t.keeps h,
     subst (λ (o : Option ℕ). MatchOption o (HasNoEnd (t.octets ++ t.more) left') (λ n. IsFrame (t.octets ++ t.more) × (n ≡ counted (length (t.octets ++ t.more))))) (sym e)
         (inl (record { front = t.octets; more = t.more; joined = refl; unframed = t.unframed; within = t.within })),
+    t.keeps,
   )

@@ -1,5 +1,5 @@
 -- An input that isn't given up at a message that is refused: what it is, what is written of it, and what is reported.
-use Rattle.std.specs.Prelude.{◌≡◌, ℕ, ◌+◌, Bool, true, ◌&&◌, List, [], ◌∷◌, ◌++◌, length, take, Option, Some, None}
+use Rattle.std.specs.Prelude.{◌≡◌, ℕ, ◌+◌, Bool, true, ◌&&◌, List, [], ◌∷◌, ◌++◌, length, take, Option, Some, None, MatchOption}
 use Rattle.ber_leaf.specs.Profile.{Profile}
 use Rattle.ber_framing.specs.Framed.{IsFrame}
 use Rattle.ill_schema.specs.declared.refusal.Refusal.{Refusal}
@@ -9,6 +9,8 @@ use Rattle.ill_refusals.specs.Outcome.{OnlyRefuses}
 use Rattle.ill_normal.specs.Messages.{Spelling, after, counted, one_if}
 use Rattle.ill_normal.specs.declared.messages.MessagePlace.{MessagePlace}
 use Rattle.ill_normal.specs.declared.report.RefusalReport.{RefusalReport}
+use Rattle.ill_schema.specs.Profiles.{profile_of}
+use Rattle.ill_tables.specs.declared.profile.Profile.{Profile as Named}
 
 -- one message of an input: a spelling, or octets that are refused
 pub data Item : Type 0 where
@@ -47,6 +49,15 @@ written_from text p (x ∷ items) = written_of (text p) x ++ written_from text (
 -- of the message at a position: why it is refused, and how many octets it has, where its end is known
 abbrev pub report : MessagePlace → Refusal → Option ℕ → RefusalReport
 report p refusal octets = record { message = p.number; offset = p.offset; refusal = refusal; octets = octets }
+
+-- a report comes with the first 1,048,576 octets of its message: in some profile the message is refused as the report says, and where its end
+-- is known, the report counts its octets
+pub record ComesWith (r : RefusalReport) (octets : List ℕ) : Type 0 where
+  pub message : List ℕ
+  pub begins : octets ≡ take 1_048_576 message
+  pub profile : Named
+  pub refused : IsRefusedFor (profile_of profile) message r.refusal
+  pub counts : MatchOption r.octets (Unit {0}) (λ n. n ≡ counted (length message))
 
 -- what is reported of messages from this position on: each that is refused
 abbrev pub reports_from : MessagePlace → List Item → List RefusalReport

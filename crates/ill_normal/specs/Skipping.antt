@@ -1,7 +1,7 @@
 -- What a call that goes on after refusals does to its source, its sink and its reports.
 use Rattle.std.specs.Prelude.{◌≡◌, ◌⊎◌, ℕ, ◌+◌, ◌<◌, ◌≤◌, Bool, nat_eq, List, [], ◌∷◌, ◌++◌, length, take, Option, None, IsTrue}
 use Rattle.std.specs.Io.KnownBytes.{Consumes, Keeps, Appends, IsAtEnd}
-use Rattle.ber_framing.specs.Framed.{IsPartOfFrame, IsUnframed}
+use Rattle.ber_framing.specs.Framed.{IsFrame, IsPartOfFrame, IsUnframed}
 use Rattle.ber_leaf.specs.Profile.{Profile}
 use Rattle.ill_schema.specs.declared.refusal.Refusal.{Refusal}
 use Rattle.ill_normal.specs.Calls.{Taking, taking, Putting, putting}
@@ -52,6 +52,14 @@ pub record LosesEnd (q : Profile) (left left' : Option (List ℕ)) (reports : Re
   pub refused : IsRefusedFor q octets refusal
   pub reported : Adds reports.old reports.new (report p refusal None ∷ [])
 
+-- the octets of the next message were taken, as far as its end can be known, and it is refused
+pub record TakesRefused (q : Profile) (left left' : Option (List ℕ)) : Type 0 where
+  pub octets : List ℕ
+  pub refusal : Refusal
+  pub taken : Consumes left left' octets
+  pub end : IsFrame octets ⊎ HasNoEnd octets left'
+  pub refused : IsRefusedFor q octets refusal
+
 -- nothing was left
 pub record HasNothingLeft (left left' : Option (List ℕ)) (reports : Reporting) : Type 0 where
   pub none : Consumes left left' []
@@ -82,6 +90,8 @@ StopsFor q text source sink before next SkippingErrorKind.OutOfMemory = (before 
 StopsFor q text source sink before next SkippingErrorKind.ReadFault =
     (before ≤ 1_000_000) × IsTrue source.broken × TakesNoFurtherIn q before source.left source.left' × Keeps sink.held sink.held'
 StopsFor q text source sink before next (SkippingErrorKind.WriteFault n) = (before < 1_000_000) × BreaksWithinIn q (text next) source sink n
+StopsFor q text source sink before next SkippingErrorKind.NotReported =
+    (before < 1_000_000) × TakesRefused q source.left source.left' × Keeps sink.held sink.held'
 StopsFor q text source sink before next SkippingErrorKind.TooMany =
     (before ≡ 1_000_000) × ((octet : ℕ) × Consumes source.left source.left' (octet ∷ [])) × Keeps sink.held sink.held'
 
@@ -108,6 +118,7 @@ abbrev pub fault_of_kind : ℕ → SkippingErrorKind → RunFault
 fault_of_kind written SkippingErrorKind.OutOfMemory = RunFault.OutOfMemory
 fault_of_kind written SkippingErrorKind.ReadFault = RunFault.ReadFault
 fault_of_kind written (SkippingErrorKind.WriteFault n) = RunFault.WriteFault written
+fault_of_kind written SkippingErrorKind.NotReported = RunFault.NotReported
 fault_of_kind written SkippingErrorKind.TooMany = RunFault.TooManyMessages
 
 -- what had been read where a job stopped

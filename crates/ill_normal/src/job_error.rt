@@ -73,6 +73,7 @@ fn fault_of(written: u128, why: SkippingErrorKind) -> RunFault
         SkippingErrorKind::OutOfMemory => RunFault::OutOfMemory,
         SkippingErrorKind::ReadFault => RunFault::ReadFault,
         SkippingErrorKind::WriteFault(_) => RunFault::WriteFault(written),
+        SkippingErrorKind::NotReported => RunFault::NotReported,
         SkippingErrorKind::TooMany => RunFault::TooManyMessages,
     }
 }

@@ -132,6 +132,7 @@ pub use next_message::NextMessage;
 pub use next_message::TakeError;
 pub use next_message::take_message;
 pub use report::NoReports;
+pub use report::NotReported;
 pub use report::RefusalReport;
 pub use report::ReportRefusals;
 pub use single::normalise;

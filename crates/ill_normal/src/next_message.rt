@@ -71,7 +71,8 @@ pub fn take_message<M: Render, R: Source, L: Lookahead<R>>(
     ensures next { IfOk result (λ found. MatchOption found
         (Consumes (R.left source.old) (R.left source.new) [] × IsAtEnd (R.left source.new))
         (IsNext (profile_of (M.profile maker.now)) M.Out.is (M.text maker.now position)
-        (M.is_good maker.now) (R.left source.old) (R.left source.new))) }
+        (M.is_good maker.now) (R.left source.old) (R.left source.new)
+        recorded.new.items)) }
     ensures broken { IfErr result (λ e. e ≡ TakeError.Broken → IsTrue (R.is_broken source.new)
         × TakesPart (R.left source.old) (R.left source.new)) }
     ensures stays { IsTrue (R.is_broken source.old) → IsTrue (R.is_broken source.new) }

@@ -43,17 +43,28 @@ impl RefusalReport {
     }
 }
 
+/// The error of a receiver that took no report: the work stops.
+#[derive(Clone, Copy, Debug, PartialEq, Eq)]
+pub struct NotReported;
+
 /// A receiver of reports.
 pub trait ReportRefusals {
-    ghost use Rattle.ill_normal.specs.Items.{Adds};
+    ghost use Rattle.std.specs.Prelude.{OnOk, OnErr};
+    ghost use Rattle.ill_normal.specs.Items.{Adds, ComesWith};
 
     // The reports so far, in order, where they are known.
     ghost reported: { Self → Option (List RefusalReport) };
 
-    /// Takes a report, and the octets of the message: the first 1,048,576 where it has more, and all that are left of the input where its
-    /// end is unknown. No clause says this of the octets.
-    fn report(&mut self, report: RefusalReport, octets: &[u8])
-        ensures { Adds (reported self.old) (reported self.new) (report ∷ []) };
+    /// Takes a report, and the octets of the message: the first 1,048,576 where it has more, and those that were read where its end is
+    /// unknown. The caller promises that they are.
+    ///
+    /// # Errors
+    ///
+    /// The receiver took no report, and the work stops: it can't write, or wants no more of them.
+    fn report(&mut self, report: RefusalReport, octets: &[u8]) -> Result<(), NotReported>
+        requires { ComesWith report octets.now }
+        ensures taken { OnOk result (Adds (reported self.old) (reported self.new) (report ∷ [])) }
+        ensures refused { OnErr result (Adds (reported self.old) (reported self.new) []) };
 }
 
 /// A receiver of no reports, for work that reports nothing.
@@ -65,5 +76,7 @@ impl ReportRefusals for NoReports {
 
     ghost reported = { λ _. None };
 
-    fn report(&mut self, _report: RefusalReport, _octets: &[u8]) {}
+    fn report(&mut self, _report: RefusalReport, _octets: &[u8]) -> Result<(), NotReported> {
+        Ok(())
+    }
 }

@@ -9,7 +9,7 @@ ghost use Rattle.ill_normal.specs.code.SkippingEnds.{HasSkipped, error_at, skipp
 
 use crate::messages::{Render, Rendered};
 use crate::next_message::{NextMessage, take_message};
-use crate::report::{RefusalReport, ReportRefusals};
+use crate::report::{NotReported, RefusalReport, ReportRefusals};
 use crate::visit::{MessageCounts, VisitMessages, Visited, visit_messages};
 use ber_core::{Lookahead, Sink, Source};
 use ill_inputs::EndError;
@@ -38,6 +38,8 @@ pub enum SkippingErrorKind {
     ReadFault,
     /// The sink broke after this many octets of the message.
     WriteFault(usize),
+    /// The receiver of the reports took none of the next message, which is refused.
+    NotReported,
     /// There were 1,000,000 messages, and the input goes on.
     TooMany,
 }
@@ -206,8 +208,12 @@ impl<M: Render> VisitMessages for AcceptedWriter<'_, M> {
             },
             NextMessage::Refused { refusal, end } => {
                 let report = RefusalReport::new(place, refusal, end);
-                reports.report(report, self.recorded.as_slice());
-                Ok(Visited::Refused { octets: end })
+                match reports.report(report, self.recorded.as_slice()) {
+                    Ok(()) => Ok(Visited::Refused { octets: end }),
+                    Err(NotReported) => {
+                        Err(self.stopped(counts, 0, SkippingErrorKind::NotReported))
+                    }
+                }
             }
         }
     }

@@ -15,5 +15,6 @@ unread_bound n s t x (RunFault.RefusedSide m r) u = absurd u
 unread_bound n s t x RunFault.OddHex u = absurd u
 unread_bound n s t x (RunFault.BadHex i) u = absurd u
 unread_bound n s t x RunFault.HexTooLong u = absurd u
+unread_bound n s t x RunFault.NotReported u = absurd u
 unread_bound n s t x RunFault.TooManyMessages u = absurd u
 unread_bound n s t x (RunFault.WriteFault i) u = absurd u

@@ -54,6 +54,7 @@ ends dump s t held held' n all d (RunFault.RefusedSide side refusal) h = h
 ends dump s t held held' n all d RunFault.OddHex h = h
 ends dump s t held held' n all d (RunFault.BadHex place) h = h
 ends dump s t held held' n all d RunFault.HexTooLong h = h
+ends dump s t held held' n all d RunFault.NotReported h = h
 ends dump s t held held' n all d RunFault.OutOfMemory h = h
 ends dump s t held held' n all d RunFault.ReadFault h = h
 ends dump s t held held' n all d (RunFault.WriteFault count) h = h

@@ -84,6 +84,7 @@ before_once (RunFault.RefusedSide side refusal) m n h k = absurd h
 before_once RunFault.OddHex m n h k = absurd h
 before_once (RunFault.BadHex i) m n h k = absurd h
 before_once RunFault.HexTooLong m n h k = absurd h
+before_once RunFault.NotReported m n h k = absurd h
 before_once RunFault.OutOfMemory m n h k = absurd h
 before_once RunFault.ReadFault m n h k = absurd h
 before_once (RunFault.WriteFault i) m n h k = absurd h
@@ -106,6 +107,7 @@ module _ (q : Named) (job : Job) (hex : Bool) (s held held' : List ℕ) (left' :
   stop_wrote RunFault.OddHex sound h = absurd h.stops
   stop_wrote (RunFault.BadHex i) sound h = absurd h.stops
   stop_wrote RunFault.HexTooLong sound h = absurd h.stops
+  stop_wrote RunFault.NotReported sound h = absurd h.stops
   stop_wrote RunFault.OutOfMemory sound h = absurd (sound tt)
   stop_wrote RunFault.ReadFault sound h = absurd (sound tt)
   stop_wrote (RunFault.WriteFault i) sound h = absurd (sound tt)

@@ -2,7 +2,7 @@
 use Rattle.std.specs.Prelude.{List, [], ◌∷◌}
 use Rattle.clap.specs.Walk.{Rule}
 use Rattle.clap.specs.Simple.{App, with_rule}
-use Rattle.ill_args.specs.CommandLine.{file_rule, filename_rule, files_rule, flag_rule, list_rule, message_rule, output_rule, refused_rule}
+use Rattle.ill_args.specs.CommandLine.{file_rule, filename_rule, files_rule, flag_rule, list_rule, max_refused_rule, message_rule, output_rule, refused_rule}
 use Rattle.ill_args.specs.declared.commands.Argument.{Argument}
 
 abbrev pub rule_for : Argument → Rule
@@ -12,6 +12,7 @@ rule_for (Argument.Files help) = files_rule
 rule_for Argument.List = list_rule
 rule_for Argument.Filename = filename_rule
 rule_for Argument.Refused = refused_rule
+rule_for Argument.MaxRefused = max_refused_rule
 rule_for Argument.Output = output_rule
 rule_for Argument.Message = message_rule
 

@@ -1,6 +1,6 @@
 -- Orders that don't contradict themselves.
 use Rattle.ill_args.specs.declared.orders.Order.{Order}
-use Rattle.ill_args.specs.Orders.{HasSameWord, IsBoth, LinesAreCounted, LinesAreJson, LinesGoOn, NamesNotOne, NamesNothing, ReadsInputTwice, ReadsOutput, RefusedEndsWork, SharesRefused, WholeIsPrinted}
+use Rattle.ill_args.specs.Orders.{HasSameWord, IsBoth, LinesAreCounted, LinesAreJson, LinesGoOn, LimitEndsWork, NamesNotOne, NamesNothing, ReadsInputTwice, ReadsOutput, RefusedEndsWork, SharesRefused, WholeIsPrinted}
 
 pub record IsConsistent (order : Order) : Type 0 where
   pub not_same : HasSameWord order → ⊥
@@ -14,4 +14,5 @@ pub record IsConsistent (order : Order) : Type 0 where
   pub one : NamesNotOne order → ⊥
   pub replaced : WholeIsPrinted order → ⊥
   pub goes_on : RefusedEndsWork order → ⊥
+  pub limited : LimitEndsWork order → ⊥
   pub own : SharesRefused order → ⊥

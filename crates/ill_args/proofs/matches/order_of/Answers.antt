@@ -34,7 +34,8 @@ returns-clause-order c =
       json = c.is_set-5.ensures;
       filename = c.is_set-6.ensures;
       whole = c.is_set-7.ensures;
-      message = c.number_of.ensures;
+      max_refused = c.number_of.ensures;
+      message = c.number_of-2.ensures;
       html = c.is_set-8.ensures;
       files = c.in_ok-task.ensures.files;
     }

@@ -30,5 +30,5 @@ returns-in-Err-Refused-clause-next g c =
     let same = sym (c.new-octets.ensures ∙ c.as_slice.ensures.value) in
     let element = subst (λ k. Took left left' k c.in-Ok.taken.octets c.in-Ok.taken.framing) same c.in-Ok.ensures.element in
     let next = rw c.in-Err-Refused.field-0-is at c.in-Err-Refused.ensures in
-    refused_took left left' c.new-octets.result c.in-Ok.taken.octets (g.M.Render.profile c.args.maker.now) g.M.Out.Rendered.is (g.M.Render.text c.args.maker.now c.args.position) (g.M.Render.is_good c.args.maker.now) c.in-Ok.taken.framing element
-    c.in-Err-Refused.refusal c.end_of-end.result c.end_of-end.ensures next.refused.1
+    rw same (refused_took left left' c.new-octets.result c.in-Ok.taken.octets (g.M.Render.profile c.args.maker.now) g.M.Out.Rendered.is (g.M.Render.text c.args.maker.now c.args.position) (g.M.Render.is_good c.args.maker.now) c.in-Ok.taken.framing element
+    c.in-Err-Refused.refusal c.end_of-end.result c.end_of-end.ensures next.refused.1)

@@ -7,10 +7,11 @@ use Rattle.ill_normal.specs.Skipping.{reporting}
 use Rattle.ill_normal.specs.Visiting.{Streams}
 use Rattle.ill_normal.specs.declared.messages.MessagePlace.{MessagePlace}
 use Rattle.ill_normal.specs.declared.visit.MessageCounts.{MessageCounts}
+use Rattle.ill_normal.proofs.SkippedMessages.{comes_with}
 use Rattle.ill_normal.proofs.Visits.{on_last, on_next}
 use Rattle.ill_dump.specs.Skipping.{DumpsOn}
 use Rattle.ill_dump.specs.code.Dumping.{HasDumpedOn, dump_counts}
-use Rattle.ill_dump.proofs.SkippedMessages.{stops_unread, over_bad, over_good, over_stops, over_lost}
+use Rattle.ill_dump.proofs.SkippedMessages.{stops_unread, over_bad, over_good, over_stops, over_lost, over_unreported}
 use Rattle.ill_dump.proofs.skipping.SkippingDumperVisitMessages.visit.Goals as goal
 
 pub returns-in-Err-clause-visits : goal.returns-in-Err-clause-visits
@@ -33,13 +34,13 @@ returns-in_ok-put_message-in-Read-clause-visits g c = λ start.
       stops = λ from h. tt;
     }
 
-pub returns-in_ok-put_refused-in-Refused-clause-visits : goal.returns-in_ok-put_refused-in-Refused-clause-visits
-returns-in_ok-put_refused-in-Refused-clause-visits g c = λ start.
+pub returns-in-Ok-clause-visits : goal.returns-in-Ok-clause-visits
+returns-in-Ok-clause-visits g c = λ start.
     let now = c.args.self.now.dump in
     let next = rw c.in-Ok-Some.field-0-is at c.in-Ok-Some.ensures.next in
     let bad = rw c.in-Refused.is at next in
     let begins = rw c.next_place-place.ensures at c.in_ok-put_refused-in-Refused.ensures.begins in
-    let adds = rw (c.new.ensures, c.next_place-place.ensures) at c.report.ensures in
+    let adds = rw (c.new.ensures, c.next_place-place.ensures) at c.in-Ok.ensures.taken in
     let left' = g.R.Source.left c.take_message.new.source in
     let held' = g.W.Sink.contents c.put_refused.new.sink in
     let reported' = g.T.ReportRefusals.reported c.report.new.self in
@@ -52,4 +53,20 @@ returns-in_ok-put_refused-in-Refused-clause-visits g c = λ start.
       last = λ from h. on_last (Last from) c.args.counts _ _ c.in-Refused.end bad.3
           (λ e end. rw (sym h.0) (over_lost _ from.left _ _ from.held _ _ from.reported _ _ _ _ false false c.args.counts h.1 bad.0 c.in-Refused.refusal c.requires.few bad.1 bad.2 end begins (rw e at adds)));
       stops = λ from h. tt;
+    }
+
+pub report-requires : goal.report-requires
+report-requires g c =
+    let next = rw c.in-Ok-Some.field-0-is at c.in-Ok-Some.ensures.next in
+    let refused = rw c.in-Refused.is at next in
+    rw (c.new.ensures, c.deref-in-Refused-2.ensures.value) (comes_with c.args.self.now.dump.profile _ _ _ c.next_place-place.result c.in-Refused.refusal c.in-Refused.end refused)
+
+pub returns-in-Err-report-clause-visits : goal.returns-in-Err-report-clause-visits
+returns-in-Err-report-clause-visits g c = λ start.
+    let next = rw c.in-Ok-Some.field-0-is at c.in-Ok-Some.ensures.next in
+    let refused = rw c.in-Refused.is at next in
+    record {
+      next = λ from h. tt;
+      last = λ from h. tt;
+      stops = λ from h. rw (sym h.0) (over_unreported _ from.left _ _ from.held _ None from.reported _ _ _ _ _ _ c.args.counts h.1 _ c.in-Refused.refusal c.in-Refused.end _ c.requires.few refused c.in-Err-report.ensures.refused);
     }

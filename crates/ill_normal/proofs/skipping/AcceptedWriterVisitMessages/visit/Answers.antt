@@ -5,7 +5,7 @@ use Rattle.ill_normal.specs.Skipping.{SkipsToEnd, reporting}
 use Rattle.ill_normal.specs.Visiting.{Streams}
 use Rattle.ill_normal.specs.code.SkippingEnds.{HasSkipped, skipping_counts}
 use Rattle.ill_normal.specs.declared.visit.MessageCounts.{MessageCounts}
-use Rattle.ill_normal.proofs.SkippedMessages.{stops_unread, stops_writing, skipped_bad, skipped_good, through_end, through_lost}
+use Rattle.ill_normal.proofs.SkippedMessages.{comes_with, stops_unread, stops_unreported, stops_writing, skipped_bad, skipped_good, through_end, through_lost}
 use Rattle.ill_normal.proofs.Visits.{on_last, on_next}
 use Rattle.ill_normal.proofs.skipping.AcceptedWriterVisitMessages.visit.Goals as goal
 
@@ -51,12 +51,12 @@ returns-in-Err-put-clause-visits g c = λ start.
       stops = λ from h. rw (sym h.0, c.stopped-in-Err-put.ensures) (stops_writing _ _ _ from.left _ _ from.held _ _ from.reported _ None _ _ _ _ _ _ h.1 _ c.in-Read.piece c.in-Err-put.count c.requires.few made some fewer broken);
     }
 
-pub returns-in-Refused-clause-visits : goal.returns-in-Refused-clause-visits
-returns-in-Refused-clause-visits g c = λ start.
+pub returns-in-Ok-report-clause-visits : goal.returns-in-Ok-report-clause-visits
+returns-in-Ok-report-clause-visits g c = λ start.
     let now = c.args.self.now.maker in
     let next = rw c.in-Ok-Some.field-0-is at c.in-Ok-Some.ensures.next in
     let bad = rw c.in-Refused.is at next in
-    let adds = rw (c.new-report.ensures, c.next_place-place.ensures) at c.report.ensures in
+    let adds = rw (c.new-report.ensures, c.next_place-place.ensures) at c.in-Ok-report.ensures.taken in
     let left' = g.R.Source.left c.take_message.new.source in
     let broken = g.R.Source.is_broken c.take_message.new.source in
     let held' = g.W.Sink.contents c.args.sink.now in
@@ -72,4 +72,20 @@ returns-in-Refused-clause-visits g c = λ start.
       last = λ from h. on_last (Last from) c.args.counts _ _ c.in-Refused.end bad.3
           (λ e end. rw (sym h.0) (through_lost _ _ _ from.left _ _ from.held _ None from.reported _ _ _ _ _ _ _ _ h.1 bad.0 c.in-Refused.refusal c.requires.few bad.1 bad.2 end (rw e at adds)));
       stops = λ from h. tt;
+    }
+
+pub report-requires : goal.report-requires
+report-requires g c =
+    let next = rw c.in-Ok-Some.field-0-is at c.in-Ok-Some.ensures.next in
+    let refused = rw c.in-Refused.is at next in
+    rw (c.new-report.ensures, c.as_slice.ensures.value) (comes_with (g.M.Render.profile c.args.self.now.maker.now) _ _ _ c.next_place-place.result c.in-Refused.refusal c.in-Refused.end refused)
+
+pub returns-in-Err-report-clause-visits : goal.returns-in-Err-report-clause-visits
+returns-in-Err-report-clause-visits g c = λ start.
+    let next = rw c.in-Ok-Some.field-0-is at c.in-Ok-Some.ensures.next in
+    let refused = rw c.in-Refused.is at next in
+    record {
+      next = λ from h. tt;
+      last = λ from h. tt;
+      stops = λ from h. rw (sym h.0, c.stopped-in-Err-report.ensures) (stops_unreported _ _ _ from.left _ _ from.held _ None from.reported _ _ _ _ _ _ _ _ h.1 _ c.in-Refused.refusal c.in-Refused.end c.requires.few refused c.in-Err-report.ensures.refused);
     }

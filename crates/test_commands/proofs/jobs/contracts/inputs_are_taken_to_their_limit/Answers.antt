@@ -46,6 +46,7 @@ module _ (work : JobOptions) (s t : List ℕ) (x y : Bool) (held held' : Option 
       one RunFault.OddHex h all = absurd h.stops
       one (RunFault.BadHex i) h all = absurd h.stops
       one RunFault.HexTooLong h all = absurd h.stops
+      one RunFault.NotReported h all = absurd h.stops
 
   either : (r : Result Verdict RunFault) → IfOk r (Done work (Some s) (Some t) held held' counts) → IfErr r (JobStopsAfter work (taking (Some s) (Some t) x) (putting held held' y) counts)
       → length s ≤ counts.octets + 1 + length t
