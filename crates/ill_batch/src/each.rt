@@ -9,8 +9,8 @@ use crate::refused::{OtherFiles, close_refused, is_one_of, open_refused};
 use crate::tally::Tally;
 use ill_args::Inputs;
 use ill_files::{
-    FileId, Host, Output, OutputOf, ProgramError, combined_status, input_names, is_output_lost, list_of,
-    printed, status_of, text_of,
+    FileId, Host, Output, OutputOf, ProgramError, combined_status, input_names, is_output_lost,
+    list_of, printed, status_of, text_of,
 };
 use ill_inputs::Verdict;
 use std::rt::Files;

@@ -33,7 +33,11 @@ pub struct Tally<'p> {
 
 impl<'p> Tally<'p> {
     /// Nothing was counted yet. The work ends with the refused message of the number `max_refused`, if there is such a number.
-    pub fn new(is_counted: bool, max_refused: Option<u32>, progress: &'p ProgressLine) -> Tally<'p> {
+    pub fn new(
+        is_counted: bool,
+        max_refused: Option<u32>,
+        progress: &'p ProgressLine,
+    ) -> Tally<'p> {
         Tally {
             summary: Summary::NONE,
             is_counted,
