@@ -245,8 +245,7 @@ where
 {
     let name = dump.names_input.then_some(dump.name);
     let mut reports = PrintReports::new(rt, name, false, kept, tally);
-    let ran =
-        run_dump_skipping::<S, Buffered, W, _>(rt.alloc(), dump, source, sink, &mut reports);
+    let ran = run_dump_skipping::<S, Buffered, W, _>(rt.alloc(), dump, source, sink, &mut reports);
     reports.add_to(tally);
     match ran {
         Ok(counts) => match missing_message(dump, counts.messages) {

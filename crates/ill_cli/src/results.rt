@@ -15,9 +15,9 @@ use ill_commands::{
     Job, JobOptions, RefusalKind, RefusalReport, RefusedLine, ReportRefusals, RunFault,
     SkippingCounts, Verdict, refused_json, run_skipping_peeking, verdict_of,
 };
-use ill_normal::NotReported;
 use ill_dump::place_of_refusal;
 use ill_files::ProgramError;
+use ill_normal::NotReported;
 use std::alloc::{AllocError, Global};
 use std::io::Write;
 
