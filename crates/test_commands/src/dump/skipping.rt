@@ -2,7 +2,7 @@
 use super::{PLAIN, SPELLED};
 use ber_core::{Pieces, Room, Unbuffered};
 use ill_dump::{DumpCounts, DumpOptions, run_dump, run_dump_skipping};
-use ill_normal::{Cause, Refusal, RefusalReport, ReportRefusals, RunFault};
+use ill_normal::{Cause, NotReported, Refusal, RefusalReport, ReportRefusals, RunFault};
 use std::alloc::{AllocError, Global};
 use std::test::Fail;
 use test_support::octets_of;
@@ -18,9 +18,9 @@ impl ReportRefusals for Reported {
 
     ghost reported = { λ _. None };
 
-    fn report(&mut self, report: RefusalReport, octets: &[u8]) {
+    fn report(&mut self, report: RefusalReport, octets: &[u8]) -> Result<(), NotReported> {
         let _ = octets;
-        let _ = self.reports.push(report);
+        self.reports.push(report).map_err(|_| NotReported)
     }
 }
 

@@ -3,7 +3,7 @@ use ber_core::{Pieces, ToWrite};
 use ill_commands::{
     Job, JobOptions, RefusalReport, ReportRefusals, RunFault, SkippingCounts, run_skipping,
 };
-use ill_normal::{Cause, Refusal};
+use ill_normal::{Cause, NotReported, Refusal};
 use std::alloc::Global;
 use std::test::Fail;
 use test_support::octets_of;
@@ -19,9 +19,9 @@ impl ReportRefusals for Reported {
 
     ghost reported = { λ _. None };
 
-    fn report(&mut self, report: RefusalReport, octets: &[u8]) {
-        let _ = self.reports.push(report);
+    fn report(&mut self, report: RefusalReport, octets: &[u8]) -> Result<(), NotReported> {
         let _ = octets;
+        self.reports.push(report).map_err(|_| NotReported)
     }
 }
 

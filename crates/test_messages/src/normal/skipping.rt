@@ -2,9 +2,9 @@
 use super::{EXPIRED, EXPIRED_HEX, INDEFINITE_HEX};
 use ber_core::{Buffered, FromSlice, Lookahead, Sink, Unbuffered};
 use ill_normal::{
-    Broken, Cause, NodeId, NormalFailure, NormalForms, PartId, Pieces, Refusal, RefusalReport,
-    ReportRefusals, Room, SkippingCounts, SkippingError, SkippingErrorKind, Source, StreamCause,
-    ToWrite, for_each_accepted_message, normalise_stream,
+    Broken, Cause, NodeId, NormalFailure, NormalForms, NotReported, PartId, Pieces, Refusal,
+    RefusalReport, ReportRefusals, Room, SkippingCounts, SkippingError, SkippingErrorKind, Source,
+    StreamCause, ToWrite, for_each_accepted_message, normalise_stream,
 };
 use std::alloc::Global;
 use std::test::Fail;
@@ -22,11 +22,12 @@ impl ReportRefusals for Reported {
 
     ghost reported = { λ _. None };
 
-    fn report(&mut self, report: RefusalReport, octets: &[u8]) {
+    fn report(&mut self, report: RefusalReport, octets: &[u8]) -> Result<(), NotReported> {
         let _ = self.reports.push(report);
         if report.octets.is_some() {
             let _ = self.octets.extend_from_slice(octets);
         }
+        Ok(())
     }
 }
 
@@ -451,11 +452,51 @@ impl ReportRefusals for Count {
 
     ghost reported = { λ _. None };
 
-    fn report(&mut self, report: RefusalReport, octets: &[u8]) {
+    fn report(&mut self, report: RefusalReport, octets: &[u8]) -> Result<(), NotReported> {
         let _ = report;
         let _ = octets;
         self.reports = self.reports.saturating_add(1);
+        Ok(())
     }
+}
+
+/// A receiver that takes no report.
+#[derive(Drop)]
+struct TakesNone;
+
+impl ReportRefusals for TakesNone {
+    ghost use Rattle.std.specs.Prelude.{None};
+
+    ghost reported = { λ _. None };
+
+    fn report(&mut self, report: RefusalReport, octets: &[u8]) -> Result<(), NotReported> {
+        let _ = report;
+        let _ = octets;
+        Err(NotReported)
+    }
+}
+
+#[test]
+fn a_report_that_is_not_taken_ends_the_work(rt: HostRuntime) -> Result<(), Fail> {
+    let octets = joined(rt.alloc(), BETWEEN)?;
+    let mut source = FromSlice::new(&octets);
+    let mut sink: Room<128> = Room::new(128, None);
+    let result = pass_over::<FromSlice<'_>, Buffered, Room<128>, TakesNone>(
+        rt.alloc(),
+        &mut source,
+        &mut sink,
+        &mut TakesNone,
+    );
+    let error = SkippingError {
+        messages: 1,
+        refused: 0,
+        good: 1,
+        octets: 33,
+        written: 33,
+        why: SkippingErrorKind::NotReported,
+    };
+    assert!(rt; result == Err(error) && sink.octets() == EXPIRED);
+    Ok(())
 }
 
 #[test]
