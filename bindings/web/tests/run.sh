@@ -45,7 +45,7 @@ run sh -c 'cd ../build && sha256sum --check --quiet SHA256SUMS'
 run ./contrast.py
 has tsc && run tsc -p tsconfig.json
 has node || exit $status
-run node --test calls.test.mjs elements.test.mjs memory.test.mjs
+run node --test calls.test.mjs elements.test.mjs names.test.mjs memory.test.mjs
 run ./compare.py
 run ./mutants.py
 mkdir -p ../build/pictures
