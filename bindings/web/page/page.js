@@ -217,7 +217,7 @@ async function readText(page, text, name) {
 /** Says whether what is loaded may go for what a link carries: nothing is, or the one who reads says so. */
 function mayReplace(page) {
   if (!page.inputs.length) return true;
-  return confirm(`The link carries a message. Remove the ${counted(page.messages.length, "message")} that the page shows, and read it?`);
+  return confirm(`The link carries a message. Remove what the page shows, ${counted(page.messages.length, "message")}, and read it?`);
 }
 
 /** Reads what the address carries. */
