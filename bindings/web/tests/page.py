@@ -403,12 +403,12 @@ def try_file_names(page):
 
 def follow(page, octets, answer):
     """Goes to a link where the answer to each question is known; returns how many questions there were, and the names of what is loaded."""
-    return page.wait("""const [link, answer] = words, asked = [], own = globalThis.confirm;
-        globalThis.confirm = (text) => { asked.push(text); return answer; };
+    return page.wait("""const [link, answer] = words, asked = [], own = window.confirm;
+        window.confirm = (text) => { asked.push(text); return answer; };
         location.hash = link;
         await new Promise((next) => setTimeout(next, 200));
         await page.turn;
-        globalThis.confirm = own;
+        window.confirm = own;
         return [asked.length, page.inputs.map(({ name }) => name), page.messages.map(({ size }) => size)]""",
         octets if isinstance(octets, str) else f"octets={base64.urlsafe_b64encode(octets).decode().rstrip('=')}", answer)
 
