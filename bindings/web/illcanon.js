@@ -25,7 +25,7 @@ const DIGEST_SIZE = 32;
 /** The number of octets of an input that are copied to the module at once: a block of 8 MiB, without its head. */
 const WINDOW = 8 * LIMIT - 16;
 
-/** The most windows that generators keep in the module between two messages. Where there are more, the one that was used first is copied anew. */
+/** The most windows that generators keep in the module between two messages. A generator that lost its window copies it anew. */
 const MOST_WINDOWS = 8;
 
 /** The memory above which the module begins anew, so that one large input doesn't hold it. */
@@ -117,7 +117,7 @@ const ASCII = new TextDecoder("latin1");
 export class Illcanon {
   #module;
   #exports;
-  /** The windows that were opened and not closed, from the one that was used first. */
+  /** The windows that were opened and not closed, from the one that was not used for the longest time. */
   #windows = new Set();
 
   constructor(module) {
