@@ -20,7 +20,7 @@
 /* The most octets that are read, and that a call writes. */
 #define AREA ((size_t)4 << 20)
 
-/* The most octets that stand before a buffer and have to stay as they are. */
+/* How many octets before a buffer have to stay as they are. */
 #define BEFORE 64
 
 /* The most blocks of a call of which each is refused once. */
