@@ -66,7 +66,7 @@ class Results(Iterator[Union[Message, Refused]]):
             self._turn.release()
 
     def close(self) -> None:
-        """Ends the results, and drops the octets at hand. The stream stays open."""
+        """Ends the results, and drops the octets that are held. The stream stays open."""
         self._begin()
         self._source = _no_input()
         self._turn.release()
@@ -92,7 +92,7 @@ def results(source: Union[Octets, Stream], *, profile: Profile = "2", limit: int
 
 
 class _Input:
-    """An input: its octets from `offset` on that are at hand, of which a message has at most `limit`, and what reads more of them, if any."""
+    """An input: the octets from `offset` on that are held, of which a message has at most `limit`, and what reads more, if there is more."""
 
     def __init__(self, octets: bytes, read: Optional[Callable[[int], Optional[bytes]]], limit: int) -> None:
         self.offset = 0
@@ -105,11 +105,11 @@ class _Input:
         return min(len(self._octets) - self._at, self._limit)
 
     def address(self) -> int:
-        """Where the octets at hand are in memory, until more are read."""
+        """Where the octets that are held are in memory, until more are read."""
         return _address(self._octets) + self._at
 
     def more(self) -> bool:
-        """Reads at most as many octets as are at hand, or a piece. False at the end, and where there are as many as a message may have."""
+        """Reads at most as many octets as are held, or a piece. False at the end, and where there are as many as a message may have."""
         count = len(self)
         if self._read is None or count == self._limit:
             return False
@@ -123,7 +123,7 @@ class _Input:
         return True
 
     def take(self, size: int) -> bytes:
-        """The next octets, which are no longer at hand."""
+        """The next octets, which are no longer held."""
         octets = self._octets[self._at : self._at + size]
         self._at += size
         self.offset += size
@@ -196,7 +196,7 @@ def _end_of(source: _Input) -> Optional[int]:
 
 
 def _call(call: Callable[..., int], before: List[int], source: _Input, *memory: object) -> int:
-    """Makes a call on the octets at hand, and again while it needs more and there are more."""
+    """Makes a call on the octets that are held, and again while it needs more and there are more."""
     while True:
         status = call(*before, source.address(), len(source), *memory)
         if status != Status.NEEDS_MORE or not source.more():

@@ -1,6 +1,6 @@
 /* Names of files, as the program shows them. */
 
-/** A letter that is not seen, or changes how those around it are seen: a control, a format, a separator of lines or paragraphs, an ignorable one. */
+/** A letter that is not seen, or changes how those near it are seen: a control, a format, a separator of lines or paragraphs, an ignorable one. */
 const HIDDEN_LETTER = /[\p{Cc}\p{Cf}\p{Zl}\p{Zp}\p{Default_Ignorable_Code_Point}]/u;
 
 /** How octets are written that have a letter of their own. */
