@@ -12,7 +12,8 @@
  *   - No other thread writes what a call reads, or reads or writes what it writes, while it runs.
  *
  * Any number of threads may make calls at the same time. Calls take memory by malloc and realloc, and free all of it before they return.
- * They are not for signal handlers, nor for the child of a fork in a program with threads.
+ * They are not for signal handlers, nor for the child of a fork in a program with threads. A call takes at most ILLCANON_STACK octets of
+ * stack, with what malloc and realloc take of it in glibc; this is tested, not proved.
  *
  * Each call returns an illcanon_status. Where it is not one of those that the call names, memory is as it was.
  */
@@ -30,6 +31,9 @@
 /* How many octets a digest has. */
 #define ILLCANON_DIGEST_SIZE 32
 
+/* The greatest number of octets of stack that a call takes. */
+#define ILLCANON_STACK 65536
+
 #ifdef __cplusplus
 extern "C" {
 #endif
@@ -39,7 +43,7 @@ enum illcanon_status {
     ILLCANON_DONE = 0,            /* what was asked for is there */
     ILLCANON_REFUSED = 1,         /* the octets are not a message, and the refusal says why */
     ILLCANON_SECOND_REFUSED = 2,  /* of two, the first is a message and the second is not, and the refusal says why */
-    ILLCANON_NEEDS_MORE = 3,      /* the octets may be the beginning of a message: at least one more is needed */
+    ILLCANON_NEEDS_MORE = 3,      /* the octets end before the first fault; more octets may complete a message or be refused */
     ILLCANON_NO_ROOM = 4,         /* the buffer is too short; the size says how many octets it needs */
     ILLCANON_OUT_OF_MEMORY = 5,   /* malloc or realloc returned NULL; nothing was written */
     ILLCANON_UNKNOWN_PROFILE = 6, /* the number is not an illcanon_profile; nothing was read or written */
@@ -152,7 +156,8 @@ uint32_t illcanon_digest(const uint8_t *octets, size_t octets_size, uint8_t *buf
  * from the first octet on: after NEEDS_MORE, call again with all the octets, once more of them are there.
  *
  *   DONE           the message is the first *size octets.
- *   NEEDS_MORE     the octets, which may be none, may be the beginning of a message, and none ends among them.
+ *   NEEDS_MORE     the octets, which may be none, end before the first fault, and no message ends among them. More octets may complete a
+ *                  message or be refused: 74 89 01 gives NEEDS_MORE, and no message begins so.
  *   REFUSED        no message begins so, whatever follows the octets, and *refusal says why.
  *   OUT_OF_MEMORY
  */
@@ -165,7 +170,8 @@ uint32_t illcanon_next(const uint8_t *octets, size_t octets_size, size_t *size, 
  *                  it is touched.
  *   NO_ROOM        the message is the first *read octets. Its normal form has *size octets, more than buffer_size. The buffer is as it
  *                  was.
- *   NEEDS_MORE     the octets, which may be none, may be the beginning of a message, and none ends among them.
+ *   NEEDS_MORE     the octets, which may be none, end before the first fault, and no message ends among them. More octets may complete a
+ *                  message or be refused: 74 89 01 gives NEEDS_MORE, and no message begins so.
  *   REFUSED        no message begins so, whatever follows the octets, and *refusal says why.
  *   OUT_OF_MEMORY
  *

@@ -10,7 +10,7 @@ export type Octets = ArrayBufferView | ArrayBuffer;
 /** Profile 2, or the module profile, which has every row of the module of ISO 10161-1. */
 export type Profile = "2" | "module";
 
-/** How a message is read. The profile is "2" where none is given. */
+/** How a message is read. The profile is "2" where none is given. An object with another name is a TypeError. */
 export interface Reading {
   profile?: Profile;
 }
@@ -64,7 +64,8 @@ export interface Found {
   isEndKnown: boolean;
 }
 
-/** The calls. Each may throw OutOfMemory and Stopped, and TypeError or RangeError where its arguments are not what they are to be. */
+/** The calls. Each may throw OutOfMemory and Stopped, a TypeError where its arguments are not what they are to be, and a RangeError where
+ * a number isn't one of 32 bits. */
 export class Illcanon {
   private constructor();
   /** The normal form of the message that the octets are. Throws Refused. */
@@ -79,7 +80,8 @@ export class Illcanon {
   digest(octets: Octets, options?: Reading): Uint8Array;
   /** The message as it is spelled, also where it is refused. */
   dump(octets: Octets, options?: Writing): Dump;
-  /** The messages that the octets are, one after another. Refused ones are passed over by their identifiers and lengths. */
+  /** The messages that the octets are, one after another. Refused ones are passed over by their identifiers and lengths. The octets are not
+   * to change until the last one. */
   messages(octets: Octets, options?: Reading): Generator<Found, void, void>;
   /** The number of octets of memory that the calls hold. */
   readonly memorySize: number;

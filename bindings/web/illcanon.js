@@ -22,8 +22,11 @@ const PROFILES = { 2: 2, module: 3 };
 const REFUSAL_SIZE = 72, PART_AT = 8;
 const DIGEST_SIZE = 32;
 
-/** The number of octets of an input that are copied to the module at once. */
-const WINDOW = 8 * LIMIT;
+/** The number of octets of an input that are copied to the module at once: a block of 8 MiB, without its head. */
+const WINDOW = 8 * LIMIT - 16;
+
+/** The most windows that generators keep in the module between two messages. A generator that lost its window copies it anew. */
+const MOST_WINDOWS = 8;
 
 /** The memory above which the module begins anew, so that one large input doesn't hold it. */
 const MOST_KEPT = 268435456;
@@ -77,14 +80,35 @@ function viewOf(octets) {
   throw new TypeError("octets are a Uint8Array, another view, or an ArrayBuffer");
 }
 
-function profileNumber({ profile = "2" } = {}) {
-  if (!Object.hasOwn(PROFILES, profile)) throw new RangeError(`profile ${profile} is neither "2" nor "module"`);
+/** The octets of a message as a Uint8Array over the same memory. Of too many for one, the first of them say as much as all. */
+function messageOf(octets) {
+  return viewOf(octets).subarray(0, LIMIT + 1);
+}
+
+/** The options of a call that has options of these names. */
+function optionsOf(options, names) {
+  if (options === undefined) return {};
+  if (typeof options !== "object" || options === null) throw new TypeError("options are an object");
+  for (const name of Reflect.ownKeys(options)) if (!names.includes(name)) throw new TypeError(`the call has no option ${String(name)}`);
+  return options;
+}
+
+/** The number of the profile of a name. */
+function profileNumber(profile = "2") {
+  if (!Object.hasOwn(PROFILES, profile)) throw new TypeError(`profile ${String(profile)} is neither "2" nor "module"`);
   return PROFILES[profile];
 }
 
-function messageNumber({ number = 1 } = {}) {
-  if (!Number.isInteger(number) || number < 0 || number > 0xffffffff) throw new RangeError(`number ${number}`);
-  return number;
+/** The number of the profile that the options of a call name which has no other option. */
+function readingNumber(options) {
+  return profileNumber(optionsOf(options, ["profile"]).profile);
+}
+
+/** The number of the profile that the options of a call name, and that of the message. */
+function writingNumbers(options) {
+  const { profile, number = 1 } = optionsOf(options, ["profile", "number"]);
+  if (!Number.isInteger(number) || number < 0 || number > 0xffffffff) throw new RangeError(`number ${String(number)}`);
+  return { profile: profileNumber(profile), number };
 }
 
 const ASCII = new TextDecoder("latin1");
@@ -93,6 +117,8 @@ const ASCII = new TextDecoder("latin1");
 export class Illcanon {
   #module;
   #exports;
+  /** The windows that were opened and not closed, from the one that was not used for the longest time. */
+  #windows = new Set();
 
   constructor(module) {
     this.#module = module;
@@ -110,49 +136,48 @@ export class Illcanon {
 
   /** The normal form of the message that the octets are. */
   normalise(octets, options) {
-    const view = viewOf(octets);
-    return this.#written("illcanon_normalise_as", view, options, [], view.length + 4096).octets;
+    const view = messageOf(octets);
+    return this.#written("illcanon_normalise_as", view, readingNumber(options), [], view.length + 4096);
   }
 
   /** Says whether the octets are the normal form of the message that they are. */
   check(octets, options) {
-    return this.#answered("illcanon_check_as", [viewOf(octets)], options);
+    return this.#answered("illcanon_check_as", [messageOf(octets)], readingNumber(options));
   }
 
   /** Says whether two messages are the same, however each is spelled. */
   same(first, second, options) {
-    return this.#answered("illcanon_same_as", [viewOf(first), viewOf(second)], options);
+    return this.#answered("illcanon_same_as", [messageOf(first), messageOf(second)], readingNumber(options));
   }
 
   /** The message that the octets are as text, a line for each leaf. */
   show(octets, options) {
-    const view = viewOf(octets);
-    return ASCII.decode(this.#written("illcanon_show_as", view, options, [messageNumber(options)], 8 * view.length + 4096).octets);
+    const view = messageOf(octets), { profile, number } = writingNumbers(options);
+    return ASCII.decode(this.#written("illcanon_show_as", view, profile, [number], 8 * view.length + 4096));
   }
 
   /** SHA-256 of the normal form of the message that the octets are: the same for all spellings. */
   digest(octets, options) {
-    return this.#written("illcanon_digest_as", viewOf(octets), options, [], DIGEST_SIZE).octets;
+    return this.#written("illcanon_digest_as", messageOf(octets), readingNumber(options), [], DIGEST_SIZE);
   }
 
   /** The message as it is spelled, a line for each element, and why it is refused, or null. */
   dump(octets, options) {
-    // Octets after the greatest message aren't listed, and the first of them says as much as all.
-    const view = viewOf(octets).subarray(0, LIMIT + 1);
-    const made = this.#made("illcanon_dump_as", view, options, [messageNumber(options)], 16 * view.length + 4096);
+    const view = messageOf(octets), { profile, number } = writingNumbers(options);
+    const made = this.#made("illcanon_dump_as", view, profile, [number], 16 * view.length + 4096);
     return { text: ASCII.decode(made.octets), refusal: made.refusal };
   }
 
   /** The messages that the octets are, one after another, each with its place, as it is spelled. Refused ones are passed over. */
   messages(octets, options) {
-    return this.#messages(viewOf(octets), profileNumber(options));
+    return this.#messages(viewOf(octets), readingNumber(options));
   }
 
   *#messages(input, profile) {
-    const window = { input, at: 0, count: 0, block: 0n, exports: null };
+    const window = { at: 0, count: 0, block: 0n, exports: null };
     try {
       for (let at = 0, number = 1; at < input.length; number++) {
-        const found = this.#next(window, at, profile, number);
+        const found = this.#next(input, window, at, profile, number);
         this.#trim(window);
         yield found;
         at += found.octets.length;
@@ -216,8 +241,7 @@ export class Illcanon {
   }
 
   /** What a call writes into a buffer, which is made larger where it is too short; and the refusal. */
-  #made(name, view, options, words, room) {
-    const profile = profileNumber(options);
+  #made(name, view, profile, words, room) {
     return this.#run((take) => {
       const input = this.#put(take, view), size = take(8), why = take(REFUSAL_SIZE);
       let buffer = take(room);
@@ -238,12 +262,11 @@ export class Illcanon {
   #written(...words) {
     const made = this.#made(...words);
     if (made.refusal) throw made.refusal;
-    return made;
+    return made.octets;
   }
 
   /** What a call says of octets that are messages. */
-  #answered(name, views, options) {
-    const profile = profileNumber(options);
+  #answered(name, views, profile) {
     const answer = this.#run((take) => {
       const words = views.flatMap((view) => [this.#put(take, view), BigInt(view.length)]), flag = take(4), why = take(REFUSAL_SIZE);
       const status = this.#call(name, profile, ...words, flag, why);
@@ -254,44 +277,47 @@ export class Illcanon {
   }
 
   /** The message that begins at an offset of the input, or what is refused there. */
-  #next(window, at, profile, number) {
+  #next(input, window, at, profile, number) {
     return this.#run((take) => {
       // A message has at most LIMIT octets, so none is cut short by a window of one octet more.
-      const { place, count } = this.#open(window, at, LIMIT + 1);
+      const { place, count } = this.#open(input, window, at, LIMIT + 1);
       const read = take(8), size = take(8), why = take(REFUSAL_SIZE), buffer = take(LIMIT);
       const status = this.#call("illcanon_normalise_next_as", profile, place, BigInt(count), read, buffer, BigInt(LIMIT), size, why);
       if (status === DONE) {
-        const octets = window.input.subarray(at, at + this.#size(read)), normal = this.#view(buffer, this.#size(size));
+        const octets = input.subarray(at, at + this.#size(read)), normal = this.#view(buffer, this.#size(size));
         const isNormal = areEqual(octets, normal);
         return { number, offset: at, octets, isNormal, normalSize: normal.length, refusal: null, isEndKnown: true };
       }
       const refusal = status === NEEDS_MORE ? new Refused(count, "Truncated", null, number) : this.#refusal(why, number);
-      const end = this.#framed(window, at, size);
-      const octets = window.input.subarray(at, end === null ? window.input.length : at + end);
+      const end = this.#framed(input, window, at, size);
+      const octets = input.subarray(at, end === null ? input.length : at + end);
       return { number, offset: at, octets, isNormal: false, normalSize: null, refusal, isEndKnown: end !== null };
     });
   }
 
   /** The number of octets of the element that begins there, by its identifiers and lengths alone; null where its end can't be known. */
-  #framed(window, at, size) {
+  #framed(input, window, at, size) {
     for (let most = LIMIT + 1; ; most *= 4) {
-      const { place, count } = this.#open(window, at, most);
+      const { place, count } = this.#open(input, window, at, most);
       const status = this.#call("illcanon_frame", place, BigInt(count), size);
       if (status === DONE) return this.#size(size);
-      if (status !== NEEDS_MORE || at + count === window.input.length) return null;
+      if (status !== NEEDS_MORE || at + count === input.length) return null;
     }
   }
 
   /** Where the octets of the input from an offset on are in the module's memory, and how many: at least `most`, or all. */
-  #open(window, at, most) {
-    const count = Math.min(most, window.input.length - at);
+  #open(input, window, at, most) {
+    const count = Math.min(most, input.length - at);
     if (window.exports !== this.#exports || at < window.at || at + count > window.at + window.count) {
       this.#close(window);
-      const octets = window.input.subarray(at, at + Math.max(count, WINDOW));
+      for (const other of this.#windows) if (this.#windows.size >= MOST_WINDOWS) this.#close(other);
+      const octets = input.subarray(at, at + Math.max(count, WINDOW));
       const block = this.#take(octets.length);
       this.#view(block, octets.length).set(octets);
       Object.assign(window, { at, count: octets.length, block, exports: this.#exports });
     }
+    this.#windows.delete(window);
+    this.#windows.add(window);
     return { place: window.block + BigInt(at - window.at), count };
   }
 
@@ -299,6 +325,7 @@ export class Illcanon {
   #close(window) {
     if (window.exports === this.#exports) this.#exports.page_give(window.block);
     window.exports = null;
+    this.#windows.delete(window);
   }
 
   /** Gives the memory back that the end of a large element was looked for in. */

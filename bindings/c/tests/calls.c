@@ -277,6 +277,54 @@ static int is_text(const uint8_t *buffer, size_t size, const char *text) {
     return size == strlen(text) && memcmp(buffer, text, size) == 0 && all_are(buffer + size, 40 - size, UNTOUCHED);
 }
 
+/* Octets that can't begin a message, but end before the first fault: a length of nine octets, and an element that passes the end of the one
+ * that it is in, whose length isn't there. */
+static void needs_more_is(void) {
+    static const uint8_t unfinished[][3] = {{0x74, 0x89, 0x01}, {0x74, 0x02, 0x30}};
+    for (size_t i = 0; i < sizeof unfinished / sizeof *unfinished; i++) {
+        struct octets octets = fenced_copy(unfinished[i], sizeof unfinished[i]);
+        next_is(octets, ILLCANON_NEEDS_MORE, 77);
+        struct illcanon_refusal refusal = next_is_not(octets, ILLCANON_NEEDS_MORE);
+        EXPECT(is_untouched(&refusal));
+    }
+}
+
+/* A buffer of ILLCANON_LIMIT octets has room for the normal form of a message, which has as many as the greatest one has. */
+static void greatest_form_is(struct octets message, struct octets form) {
+    uint8_t *buffer = fenced(ILLCANON_LIMIT);
+    size_t size = 77, read = 77;
+    struct illcanon_refusal refusal = untouched();
+    EXPECT(normalise(message.at, message.count, buffer, ILLCANON_LIMIT, &size, &refusal) == ILLCANON_DONE);
+    EXPECT(size == 1048576 && memcmp(buffer, form.at, size) == 0 && is_untouched(&refusal));
+    memset(buffer, UNTOUCHED, ILLCANON_LIMIT);
+    EXPECT(normalise_next(message.at, message.count, &read, buffer, ILLCANON_LIMIT, &size, &refusal) == ILLCANON_DONE);
+    EXPECT(read == message.count && size == 1048576 && memcmp(buffer, form.at, size) == 0 && is_untouched(&refusal));
+    EXPECT(normalise(message.at, message.count, buffer, ILLCANON_LIMIT - 1, &size, &refusal) == ILLCANON_NO_ROOM && size == 1048576);
+    unfence(buffer, ILLCANON_LIMIT);
+}
+
+/* The greatest message: an EXPIRED in normal form, of which nearly all octets are of its transaction-qualifier. And the same without the tag
+ * of its SEQUENCE, which has five octets fewer, and the same normal form. */
+static void greatest_is(void) {
+    static const uint8_t head[] = {0x74, 0x83, 0x0f, 0xff, 0xfb, 0x30, 0x83, 0x0f, 0xff, 0xf6, 0x80, 0x01, 0x02, 0xa1, 0x83, 0x0f, 0xff, 0xe0,
+                                   0xa1, 0x03, 0x1b, 0x01, 0x47, 0xa2, 0x83, 0x0f, 0xff, 0xd6, 0x1b, 0x83, 0x0f, 0xff, 0xd1};
+    static const uint8_t bare_head[] = {0x74, 0x83, 0x0f, 0xff, 0xf6}, tail[] = "\xa2\x0c\xa0\x0a\x80\x08" "20240229";
+    struct octets form = {fenced(1048576), 1048576}, bare = {fenced(1048571), 1048571};
+    EXPECT(ILLCANON_LIMIT == 1048576);
+    memset(form.at, 'Q', form.count);
+    memcpy(form.at, head, sizeof head);
+    memcpy(form.at + form.count - 14, tail, 14);
+    memcpy(bare.at, bare_head, sizeof bare_head);
+    memcpy(bare.at + 5, form.at + 10, form.count - 10);
+    next_is(form, ILLCANON_DONE, 1048576);
+    normal_is(form, 1);
+    normal_is(bare, 0);
+    greatest_form_is(form, form);
+    greatest_form_is(bare, form);
+    unfence(form.at, form.count);
+    unfence(bare.at, bare.count);
+}
+
 /* The line of a message under the largest number and offset. */
 static void line_is(struct octets good) {
     static const char wanted[] =
@@ -439,6 +487,8 @@ int main(int count, char **words) {
         static const uint32_t numbers[] = {0, 1, 4, 0x102, 0x80000003, 0xFFFFFFFF};
         file_is(words[2], words[3]);
         refusals_are(good);
+        needs_more_is();
+        greatest_is();
         line_is(good);
         names_are();
         version_is();

@@ -1,8 +1,9 @@
 #!/bin/sh
 # Tests the library for C, built by `make`: each call on every file of examples/, in profile 2 with and without a number for it, and on the
 # worked messages of the module profile, with the address sanitizer on the caller's side; a k-th malloc that fails; eight threads at once;
-# COUNT (100,000) inputs of each profile changed at random, against the program; the header as C89, C11 and C++; which names the libraries
-# have. Needs `cc`, and the program built: (cd crates/illcanon && rt run -- --version). PROGRAM is another program to compare with.
+# the stack that each call takes; COUNT (100,000) inputs of each profile changed at random, against the program; the header as C89, C11 and
+# C++; which names the libraries have, and how the shared object is linked. Needs `cc` and binutils, and the program built:
+# (cd crates/illcanon && rt run -- --version). PROGRAM is another program to compare with.
 top=$(cd "$(dirname "$0")/../../.." && pwd) || exit 2
 build=$top/bindings/c/build
 tests=$top/bindings/c/tests
@@ -42,6 +43,11 @@ names() {
     done
 }
 
+# The addresses of the names that the shared object uses are found when it is loaded, and can't be written afterwards.
+is_bound_at_once() {
+    readelf -d "$build/libillcanon.so" | grep -q BIND_NOW && readelf -l "$build/libillcanon.so" | grep -q GNU_RELRO
+}
+
 printf '#include "illcanon.h"\nint main(void) { return sizeof(struct illcanon_refusal) != 72; }\n' >header.c
 cp header.c header.cc
 try header-c89 cc -std=c89 -pedantic -Wall -Wextra -Werror -I"$top/bindings/c" -o header header.c
@@ -50,6 +56,7 @@ try header-c11 cc -std=c11 -pedantic -Wall -Wextra -Werror -I"$top/bindings/c" -
 try header-c++ c++ -std=c++11 -pedantic -Wall -Wextra -Werror -I"$top/bindings/c" -c -o header.o header.cc
 try names-of-the-archive names_are nm -g --defined-only "$build/illcanon.o"
 try names-of-the-shared-object names_are nm -D --defined-only "$build/libillcanon.so"
+try bound-at-once is_bound_at_once
 
 printf 741f301d800102a10aa1031b0147a2031b0151a20ca00a80083230323430323239 | xxd -r -p >expired.der
 awk -F'|' 'NF == 4' "$top/crates/test_messages/src/read/module_rows.rt" >rows
@@ -106,6 +113,10 @@ try no-memory-module ./no_memory module externals.der
 try build-threads build threads -pthread
 try threads ./threads - "$examples/every-part.ber"
 try threads-module ./threads module module.ber
+try build-stack build stack -pthread
+try stack ./stack - "$examples/every-part.ber"
+try stack-2 ./stack 2 "$examples/every-part.ber"
+try stack-module ./stack module module.ber
 try build-mutants build mutants
 try mutants ./mutants "$program" "${COUNT:-100000}" - "$@"
 try mutants-module ./mutants "$program" "${COUNT:-100000}" module module.ber externals.der "$examples/module.ber"

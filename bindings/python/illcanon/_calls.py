@@ -40,7 +40,7 @@ class Refused(ValueError):
 
     Where there are more messages, `message` is the number of this one, from 1: of `same`, `messages`, `normal_forms` and `results`. Of the
     last three `start` is the number of octets before it. Of `results`, `octets` is the message that is refused, and `end_known` is False
-    where nothing says where it ends: then `octets` is None, and no result follows.
+    where nothing in its first `limit` octets says where it ends: then `octets` is None, and no result follows.
     """
 
     def __init__(
@@ -261,11 +261,10 @@ def messages(octets: Octets, *, profile: Profile = "2") -> Iterator[bytes]:
     Raises `Refused` at the first octets that begin with none, after the messages before them. `message` is its number, and `start` the
     number of octets before it. `results` goes on.
     """
-    return _messages(_number_of(profile), octets)
+    return _messages(_number_of(profile), _bytes(octets))
 
 
-def _messages(profile: int, octets: Octets) -> Iterator[bytes]:
-    octets = _bytes(octets)
+def _messages(profile: int, octets: bytes) -> Iterator[bytes]:
     size = ctypes.c_size_t()
     at, number = 0, 1
     while at < len(octets):
@@ -281,11 +280,10 @@ def normal_forms(octets: Octets, *, profile: Profile = "2") -> Iterator[bytes]:
     Raises `Refused` at the first octets that begin with none, after the normal forms of the messages before them. `message` is its
     number, and `start` the number of octets before it.
     """
-    return _normal_forms(_number_of(profile), octets)
+    return _normal_forms(_number_of(profile), _bytes(octets))
 
 
-def _normal_forms(profile: int, octets: Octets) -> Iterator[bytes]:
-    octets = _bytes(octets)
+def _normal_forms(profile: int, octets: bytes) -> Iterator[bytes]:
     read, size = ctypes.c_size_t(), ctypes.c_size_t()
     buffer = ctypes.create_string_buffer(max(min(len(octets), LIMIT), 1))
     at, number = 0, 1

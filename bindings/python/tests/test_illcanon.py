@@ -3,20 +3,25 @@ random messages, some changed, beside the encoder and the judge of tests/. COUNT
 package does with a library that breaks its header is tried on one that `cc` makes here.
 """
 import collections
+import contextlib
 import functools
 import glob
 import hashlib
 import io
+import itertools
 import json
 import mmap
 import os
 import pickle
 import random
 import re
+import signal
+import socket
 import subprocess
 import sys
 import tempfile
 import threading
+import tracemalloc
 import unittest
 
 import illcanon
@@ -35,6 +40,35 @@ from refusals import misspelled
 
 EXPIRED = bytes.fromhex("741f301d800102a10aa1031b0147a2031b0151a20ca00a80083230323430323239")
 REQUEST = bytes.fromhex("61343032800102a10aa1031b0147a2031b0151a20ca00a80083230323430323239a9030a0101ab0c800100810100820101830101b000")
+
+
+# The greatest number of octets of a message.
+LIMIT = 1048576
+
+
+def greatest_message():
+    """An EXPIRED in normal form that has as many octets as a message may have: nearly all are of its transaction-qualifier."""
+    text = b"Q" * 1048529
+    qualifier = b"\xa2\x83" + (5 + len(text)).to_bytes(3, "big") + b"\x1b\x83" + len(text).to_bytes(3, "big") + text
+    identifier = bytes.fromhex("a1031b0147") + qualifier
+    parts = b"\x80\x01\x02" + b"\xa1\x83" + len(identifier).to_bytes(3, "big") + identifier + bytes.fromhex("a20ca00a80083230323430323239")
+    return b"\x74\x83" + (5 + len(parts)).to_bytes(3, "big") + b"\x30\x83" + len(parts).to_bytes(3, "big") + parts
+
+
+@contextlib.contextmanager
+def within(seconds):
+    """Raises TimeoutError where what is done takes longer, as where a read waits for ever."""
+
+    def stop(*_):
+        raise TimeoutError(f"after {seconds} seconds")
+
+    before = signal.signal(signal.SIGALRM, stop)
+    signal.alarm(seconds)
+    try:
+        yield
+    finally:
+        signal.alarm(0)
+        signal.signal(signal.SIGALRM, before)
 
 
 def text_of(name):
@@ -142,6 +176,20 @@ class Messages(unittest.TestCase):
         octets = "00" + " 00" * ((1 << 20) - 1)
         self.assertEqual((refusal.cause, text.splitlines()[-1] == f"      0  {octets}  octets  (not judged)"), ("BadTag", True))
 
+    def test_the_greatest_message_is_read_and_an_octet_more_is_refused(self):
+        message = greatest_message()
+        self.assertEqual(len(message), LIMIT)
+        self.assertTrue(illcanon.normalise(message) == message and illcanon.check(message))
+        self.assertTrue(list(illcanon.messages(message + EXPIRED)) == [message, EXPIRED])
+        self.assertIsNone(illcanon.dump(message)[1])
+        text, refusal = illcanon.dump(message + b"\0")
+        self.assertEqual((refusal.cause, refusal.offset), ("TrailingBytes", LIMIT))
+        self.assertIn("\nrefused at 1048576: TrailingBytes\n", text)
+        for call in SINGLE:
+            with self.assertRaises(Refused) as caught:
+                call(message + b"\0")
+            self.assertEqual((caught.exception.cause, caught.exception.offset), ("TrailingBytes", LIMIT))
+
     def test_a_message_is_a_dict(self):
         value = {
             "protocol-version-num": 2,
@@ -185,6 +233,14 @@ class Messages(unittest.TestCase):
             mapped.write(EXPIRED)
             self.assertEqual(illcanon.normalise(mapped), EXPIRED)
         self.assertRaises(TypeError, illcanon.normalise, "text")
+
+    def test_octets_are_those_of_the_call(self):
+        for call, wanted in ((illcanon.messages, EXPIRED), (illcanon.normal_forms, EXPIRED), (illcanon.results, Message(1, 0, EXPIRED))):
+            octets = bytearray(EXPIRED)
+            found = call(octets)
+            octets[:] = REQUEST
+            self.assertEqual(list(found), [wanted])
+            self.assertRaises(TypeError, call, "text")
 
     def test_a_normal_form_may_be_longer(self):
         bare = bytes.fromhex("741d800102a10aa1031b0147a2031b0151a20ca00a80083230323430323239")
@@ -256,6 +312,11 @@ class Refusals(unittest.TestCase):
         with self.assertRaises(ValueError) as caught:
             illcanon.normalise(bytes.fromhex("748030808001020000"))
         self.assertEqual(str(caught.exception), "refused at 7 in message 1: Missing Expired.transaction-id")
+
+    def test_a_refusal_is_of_the_first_message_where_no_other_is_named(self):
+        refused = Refused(0, "Missing")
+        self.assertEqual((refused.message, refused.start, refused.part, refused.octets, refused.end_known), (1, 0, None, None, True))
+        self.assertEqual(str(refused), "refused at 0 in message 1: Missing")
 
 
 # Three EXTERNAL values of a RETURNED: with an OBJECT IDENTIFIER and octets, with a foreign tree, and with bits.
@@ -377,6 +438,33 @@ class Pieces:
         return self.stream.read(min(size, self.most))
 
 
+class Halting:
+    """A stream that gives its items one after another: octets, None where there are none now, or an error, which it raises."""
+
+    def __init__(self, items):
+        self.items = list(items)
+
+    def read(self, size):
+        item = self.items.pop(0) if self.items else b""
+        if isinstance(item, BaseException):
+            raise item
+        assert item is None or len(item) <= size
+        return item
+
+
+class Endless:
+    """A stream of an element that doesn't end, in pieces of 1,440 octets as a network gives them."""
+
+    def __init__(self):
+        self.count = 0
+
+    def read(self, size):
+        piece = b"\x30\x80\x04" + b"\x01\x00\x04" * 480 if self.count == 0 else (b"\x04\x01\x00" * 481)[(self.count - 2) % 3 :]
+        piece = piece[: min(size, 1440)]
+        self.count += len(piece)
+        return piece
+
+
 INCOMPLETE = bytes.fromhex("748030808001020000")
 
 
@@ -391,7 +479,8 @@ class Results(unittest.TestCase):
     def results_are(self, octets, wanted, profile="2"):
         """The results of octets, which are the same however they come."""
         for source in (octets, bytearray(octets), io.BytesIO(octets), Pieces(octets, 1), Pieces(octets, 7), Pieces(octets, 1 << 20)):
-            found = list(illcanon.results(source, profile=profile))
+            with within(60):
+                found = list(itertools.islice(illcanon.results(source, profile=profile), len(wanted) + 1))
             self.assertEqual([facts(result) for result in found], wanted)
 
     def test_results_go_on_after_a_refused_message(self):
@@ -431,13 +520,129 @@ class Results(unittest.TestCase):
 
     def test_what_came_is_given_before_more_is_read(self):
         read, write = os.pipe()
-        with open(read, "rb") as stream, open(write, "wb", buffering=0) as sink:
+        with open(read, "rb") as stream, open(write, "wb", buffering=0) as sink, within(20):
             found = illcanon.results(stream)
             for _ in range(3):
                 sink.write(EXPIRED)
                 self.assertEqual(next(found).octets, EXPIRED)
             os.set_blocking(read, False)
             self.assertRaises(BlockingIOError, next, illcanon.results(stream.raw))
+
+    def test_no_octet_is_lost_where_a_stream_raises_an_error(self):
+        octets = EXPIRED + b"\x74\x00" + b"\x74\x80\x30\x00\x00\x00" + REQUEST
+        size = len(EXPIRED)
+        wanted = [
+            (1, 0, EXPIRED),
+            (2, size, b"\x74\x00", 2, "Missing", "Expired.protocol-version-num", True),
+            (3, size + 2, b"\x74\x80\x30\x00\x00\x00", 4, "Missing", "Expired.protocol-version-num", True),
+            (4, size + 8, REQUEST),
+        ]
+        for error, raised in ((None, BlockingIOError), (BlockingIOError(), BlockingIOError), (OSError("fault"), OSError), (KeyError("x"), KeyError)):
+            for most in (1, 7, 1000):
+                pieces = [octets[at : at + most] for at in range(0, len(octets), most)]
+                found, rows, errors = illcanon.results(Halting(item for piece in pieces for item in (error, piece))), [], 0
+                while True:
+                    try:
+                        rows.append(facts(next(found)))
+                    except StopIteration:
+                        break
+                    except raised:
+                        errors += 1
+                self.assertEqual((rows, errors), (wanted, len(pieces)))
+                self.assertEqual(list(found), [])
+
+    def pipe_is_read(self, stream, write, close):
+        """What doesn't wait is read as far as it came, and on from there, and then to its end."""
+        with within(20):
+            found = illcanon.results(stream)
+            self.assertRaises(BlockingIOError, next, found)
+            write(EXPIRED[:20])
+            for _ in range(2):
+                self.assertRaises(BlockingIOError, next, found)
+            write(EXPIRED[20:] + b"\x74\x00" + REQUEST[:1])
+            rows = [facts(next(found)) for _ in range(2)]
+            self.assertRaises(BlockingIOError, next, found)
+            write(REQUEST[1:])
+            rows.append(facts(next(found)))
+            self.assertRaises(BlockingIOError, next, found)
+            close()
+            self.assertEqual(list(found), [])
+        size = len(EXPIRED)
+        refused = (2, size, b"\x74\x00", 2, "Missing", "Expired.protocol-version-num", True)
+        self.assertEqual(rows, [(1, 0, EXPIRED), refused, (3, size + 2, REQUEST)])
+
+    def test_streams_that_do_not_wait_are_read_on(self):
+        for buffering in (0, -1):
+            read, write = os.pipe()
+            os.set_blocking(read, False)
+            with open(read, "rb", buffering=buffering) as stream, open(write, "wb", buffering=0) as sink:
+                self.pipe_is_read(stream, sink.write, sink.close)
+        one, other = socket.socketpair()
+        with one, other:
+            one.setblocking(False)
+            with one.makefile("rb") as stream:
+                self.pipe_is_read(stream, other.sendall, other.close)
+
+    def test_results_are_an_iterator_that_is_closed(self):
+        stream = io.BytesIO(EXPIRED + REQUEST)
+        found = illcanon.results(stream)
+        self.assertTrue(iter(found) is found and isinstance(found, illcanon.Results))
+        self.assertEqual(next(found).octets, EXPIRED)
+        found.close()
+        for _ in range(2):
+            self.assertRaises(StopIteration, next, found)
+        found.close()
+        self.assertFalse(stream.closed)
+
+    def test_a_result_is_read_once_at_a_time(self):
+        class Turning(Pieces):
+            def read(self, size):
+                if self.most == 33:
+                    self.most = 1000
+                    next(found)
+                return super().read(size)
+
+        found = illcanon.results(Turning(EXPIRED + REQUEST, 33))
+        self.assertRaises(ValueError, next, found)
+        self.assertEqual([it.octets for it in found], [EXPIRED, REQUEST])
+
+    def test_the_end_of_a_refused_message_is_looked_for_in_its_first_octets(self):
+        limit = LIMIT + 1
+        refused = bytes.fromhex("7480040100") + b"\x05\x00" * 524285 + b"\0\0"
+        self.assertEqual(len(refused), limit)
+        longer = refused[:-2] + b"\x05\x00\0\0"
+        rows = [(1, 0, EXPIRED), (2, 33, refused, 2, "UnexpectedTag", None, True), (3, 33 + limit, REQUEST)]
+        for octets, wanted in ((refused, rows), (longer, [rows[0], (2, 33, None, 2, "UnexpectedTag", None, False)])):
+            octets = EXPIRED + octets + REQUEST
+            for source in (octets, bytearray(octets), io.BytesIO(octets), Pieces(octets, 100_000)):
+                self.assertTrue([facts(result) for result in illcanon.results(source, limit=limit)] == wanted)
+            self.assertEqual(len(list(illcanon.results(octets, limit=limit + 2))), 3)
+        for count, is_known in ((1 << 24, True), ((1 << 24) + 1, False)):
+            octets = b"\x74\x80\x04\x84" + (count - 10).to_bytes(4, "big") + bytes(count - 8)
+            self.assertEqual([len(octets), [it.end_known for it in illcanon.results(octets)]], [count, [is_known]])
+
+    def test_few_octets_of_an_endless_message_are_held(self):
+        stream, limit = Endless(), LIMIT + 1
+        tracemalloc.start()
+        try:
+            with within(120):
+                found = [facts(result) for result in illcanon.results(stream, limit=limit)]
+            peak = tracemalloc.get_traced_memory()[1]
+        finally:
+            tracemalloc.stop()
+        self.assertEqual(found, [(1, 0, None, 0, "UnexpectedTag", None, False)])
+        self.assertEqual(stream.count, limit)
+        self.assertLess(peak, 4 * limit)
+
+    def test_a_limit_has_room_for_a_message_and_an_octet(self):
+        for limit in (LIMIT, 0, -1, True):
+            self.assertRaises(ValueError, illcanon.results, EXPIRED, limit=limit)
+        for limit in (None, "2000000", 2e6):
+            self.assertRaises(TypeError, illcanon.results, EXPIRED, limit=limit)
+        self.assertRaises(TypeError, illcanon.results, EXPIRED, 2_000_000)
+        octets = greatest_message() + EXPIRED
+        for source in (octets, io.BytesIO(octets), Pieces(octets, 1 << 20)):
+            self.assertTrue([it.octets for it in illcanon.results(source, limit=LIMIT + 1)] == [octets[:LIMIT], EXPIRED])
 
     def test_a_result_is_whole_in_another_process(self):
         for result in illcanon.results(EXPIRED + b"\x74\x00" + EXPIRED[:20]):
@@ -557,7 +762,11 @@ class Libraries(unittest.TestCase):
         return subprocess.run([sys.executable, "-c", program], env=environment, capture_output=True, text=True, check=False, timeout=60)
 
     def test_a_library_of_another_version_is_refused(self):
-        for defined, words in [(["-DVERSION=\"0.1.9\""], "is libillcanon 0.1.9"), ([], "has no illcanon_version")]:
+        first, _, last = illcanon.__version__.rpartition(".")
+        rows = [([], "has no illcanon_version")]
+        for version in ("0.1.9", f"{first}.{int(last) + 1}", f"{first}.{last}0", f"{first}.", first, ""):
+            rows.append(([f'-DVERSION="{version}"'], f"is libillcanon {version}, and"))
+        for defined, words in rows:
             done = self.run_with("import illcanon", *defined, "-DSTATUS=0", "-DSIZE=0")
             self.assertEqual(done.returncode, 1)
             line = done.stderr.splitlines()[-1]

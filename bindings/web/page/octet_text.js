@@ -1,5 +1,7 @@
 /* Octets as text: hexadecimal and base64. */
 
+import { shownName } from "./names.js";
+
 const HEX_DIGITS = Array.from({ length: 256 }, (_, octet) => octet.toString(16).padStart(2, "0"));
 
 /** The fewest characters that a file of base64 has: shorter ones may be the beginning of a message. */
@@ -20,7 +22,7 @@ export function octetsOfText(text) {
   if (/^[0-9a-f]*$/i.test(digits)) return fromHex(digits);
   if (/^[A-Za-z0-9+/_-]+={0,2}$/.test(plain.replace(/\s+/g, ""))) return fromBase64(plain);
   const at = digits.search(/[^0-9a-f]/i);
-  throw new Error(`it is neither hexadecimal nor base64: “${[...digits.slice(at)][0]}” comes after ${at} digits`);
+  throw new Error(`it is neither hexadecimal nor base64: “${shownName([...digits.slice(at)][0])}” comes after ${at} digits`);
 }
 
 function fromHex(digits) {

@@ -6,6 +6,7 @@ import { linked, linkTo } from "./links.js";
 import { Message } from "./message.js";
 import { MessageList } from "./message_list.js";
 import { MessageView } from "./message_view.js";
+import { shownName } from "./names.js";
 import { fromBase64, kindOfFile, octetsOfText, toHex } from "./octet_text.js";
 
 /** The most octets of a file. */
@@ -184,11 +185,11 @@ function drawer(isOpen) {
 
 async function readFile(page, file) {
   if (file.size > MOST_READ) throw new Error("it has more than 256 MiB");
-  const { clears } = page, octets = new Uint8Array(await file.arrayBuffer()), kind = kindOfFile(octets);
+  const { clears } = page, name = shownName(file.name), octets = new Uint8Array(await file.arrayBuffer()), kind = kindOfFile(octets);
   if (clears !== page.clears) return;
   if (kind !== "octets" && octets.length > MOST_TEXT) throw new Error(`it is text of more than ${counted(MOST_TEXT, "character")}`);
-  if (kind === "octets") await page.read(octets, file.name);
-  else await page.read(octetsOfText(DECODER.decode(octets)), `${file.name} (${kind})`);
+  if (kind === "octets") await page.read(octets, name);
+  else await page.read(octetsOfText(DECODER.decode(octets)), `${name} (${kind})`);
 }
 
 async function readFiles(page, files) {
@@ -198,7 +199,7 @@ async function readFiles(page, files) {
     try {
       await readFile(page, file);
     } catch (error) {
-      faults.push(`${file.name} was not read to its end: ${error.message}.`);
+      faults.push(`${shownName(file.name)} was not read to its end: ${error.message}.`);
     }
   }
   if (faults.length) showFault(faults.join(" "));
@@ -213,11 +214,17 @@ async function readText(page, text, name) {
   }
 }
 
+/** Says whether what is loaded may go for what a link carries: nothing is, or the one who reads says so. */
+function mayReplace(page) {
+  if (!page.inputs.length) return true;
+  return confirm(`The link carries a message. Remove what the page shows, ${counted(page.messages.length, "message")}, and read it?`);
+}
+
 /** Reads what the address carries. */
 async function readLink(page) {
   try {
     const found = linked();
-    if (!found) return;
+    if (!found || !mayReplace(page)) return;
     page.clear();
     $("profile").value = found.profile;
     await page.read(found.octets, "the link");

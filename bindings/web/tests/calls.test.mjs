@@ -36,6 +36,28 @@ const WRONG_FORM = '      2    10 00  [UNIVERSAL 16] = ""  (not judged)';
 
 const calls = await load();
 
+/** Each call that takes options, on a message. */
+const EACH = {
+  ...Object.fromEntries(["normalise", "check", "show", "digest", "dump", "messages"].map((name) => [name, (octets, options) => calls[name](octets, options)])),
+  same: (octets, options) => calls.same(octets, octets, options),
+};
+
+/** An EXPIRED in normal form that has as many octets as a message may have, and then zeros: nearly all are of its transaction-qualifier. */
+function greatestMessage(zeros = 0) {
+  const octets = new Uint8Array(1048576 + zeros);
+  octets.fill(0x51, 0, 1048576);
+  octets.set(of("74830ffffb" + "30830ffff6" + "800102" + "a1830fffe0" + "a1031b0147" + "a2830fffd6" + "1b830fffd1"));
+  octets.set(of("a20ca00a80083230323430323239"), 1048576 - 14);
+  return octets;
+}
+
+/** An element of 900,000,000 octets, which is no message, and whose end is looked for in more memory than there is. */
+function hugeElement() {
+  const octets = new Uint8Array(900000000);
+  octets.set(of("748435a4e8fa"));
+  return octets;
+}
+
 test("a message has one normal form", () => {
   assert.deepEqual(calls.normalise(INDEFINITE), EXPIRED);
   assert.deepEqual(calls.normalise(file("expired-long-form.ber")), EXPIRED);
@@ -137,21 +159,76 @@ test("a refused element may be larger than the window of the input", () => {
 });
 
 test("other calls may be made between two messages, also after memory ran out", () => {
-  const stream = calls.messages(Buffer.concat([EXPIRED, INDEFINITE, EXPIRED])), sizes = [];
+  const stream = calls.messages(Buffer.concat([EXPIRED, INDEFINITE, EXPIRED])), sizes = [], huge = hugeElement();
   for (const { octets } of stream) {
     sizes.push(octets.length);
-    assert.throws(() => calls.normalise(new Uint8Array(900000000)), OutOfMemory);
+    assert.throws(() => [...calls.messages(huge)], OutOfMemory);
     assert.equal(calls.check(EXPIRED), true);
   }
   assert.deepEqual(sizes, [33, 47, 33]);
 });
 
 test("memory that runs out is said, and the next call works", () => {
-  for (const call of ["normalise", "check", "show", "digest"]) {
-    assert.throws(() => calls[call](new Uint8Array(900000000)), OutOfMemory);
+  const huge = hugeElement();
+  for (let i = 0; i < 4; i++) {
+    assert.throws(() => calls.messages(huge).next(), OutOfMemory);
     assert.deepEqual(calls.normalise(INDEFINITE), EXPIRED);
   }
   assert.ok(calls.memorySize < 16000000, String(calls.memorySize));
+});
+
+test("octets that are too many for a message are refused in little memory", async () => {
+  const calls = await load();
+  for (const size of [67108864, 900000000]) {
+    const octets = new Uint8Array(size);
+    for (const call of ["normalise", "check", "show", "digest"]) assert.throws(() => calls[call](octets), { name: "Refused", cause: "BadTag", offset: 0 });
+    assert.throws(() => calls.same(octets, octets), { cause: "BadTag", number: 1 });
+    assert.throws(() => calls.same(EXPIRED, octets), { cause: "BadTag", number: 2 });
+    assert.equal(calls.dump(octets).refusal.cause, "BadTag");
+  }
+  assert.ok(calls.memorySize < 100000000, String(calls.memorySize));
+});
+
+test("the greatest message is read, and octets after it are refused", () => {
+  const message = greatestMessage();
+  assert.equal(message.length, 1048576);
+  assert.equal(calls.check(message), true);
+  assert.equal(calls.dump(message).refusal, null);
+  for (const zeros of [1, 2, 50000000]) {
+    const octets = greatestMessage(zeros), wanted = { name: "Refused", cause: "TrailingBytes", offset: 1048576 };
+    for (const call of ["normalise", "check", "show", "digest"]) assert.throws(() => calls[call](octets), { ...wanted, number: 1 });
+    assert.throws(() => calls.same(octets, message), { ...wanted, number: 1 });
+    assert.throws(() => calls.same(message, octets), { ...wanted, number: 2 });
+    const { cause, offset } = calls.dump(octets).refusal;
+    assert.deepEqual([cause, offset], ["TrailingBytes", 1048576]);
+    const [first] = calls.messages(octets);
+    assert.deepEqual([first.octets.length, first.refusal, first.isNormal], [1048576, null, true]);
+  }
+});
+
+test("generators that are left open take no room from other calls", async () => {
+  const calls = await load(), size = EXPIRED.length, count = Math.floor(9000000 / size);
+  const hex = Buffer.from(EXPIRED).toString("hex");
+  // Ten inputs of 9 MB: of the messages of each the transaction-qualifier is another letter.
+  const messages = [..."ABCDEFGHIJ"].map((letter) => of(`${hex.slice(0, 36)}${letter.charCodeAt(0).toString(16)}${hex.slice(38)}`));
+  const inputs = messages.map((message) => {
+    const octets = new Uint8Array(count * size);
+    for (let at = 0; at < octets.length; at += size) octets.set(message, at);
+    return octets;
+  });
+  const open = Array.from({ length: 100 }, (_, at) => calls.messages(inputs[at % 10]));
+  for (const stream of open) assert.equal(stream.next().value.offset, 0);
+  assert.ok(calls.memorySize < 100000000, String(calls.memorySize));
+  assert.deepEqual(calls.normalise(INDEFINITE), EXPIRED);
+  assert.equal(calls.dump(new Uint8Array(67108864)).refusal.cause, "BadTag");
+  for (let at = 199; at >= 0; at--) {
+    const { number, offset, octets, refusal, isNormal } = open[at % 100].next().value;
+    assert.deepEqual([offset, octets, refusal, isNormal], [(number - 1) * size, messages[at % 10], null, true]);
+  }
+  assert.ok(calls.memorySize < 200000000, String(calls.memorySize));
+  assert.equal([...open[0]].length, count - 3);
+  for (const stream of open) stream.return();
+  assert.equal(calls.check(EXPIRED), true);
 });
 
 test("no more octets are listed than the greatest message has", () => {
@@ -186,11 +263,26 @@ test("octets are any view or buffer, and are not changed", () => {
 });
 
 test("profiles and numbers are checked", () => {
-  for (const profile of ["1", "3", 3, "toString", null]) {
-    for (const call of ["check", "messages"]) assert.throws(() => calls[call](EXPIRED, { profile }), RangeError);
+  for (const profile of ["1", "3", 3, "toString", null, "", "Module", Symbol("2"), {}]) {
+    for (const call of Object.values(EACH)) assert.throws(() => call(EXPIRED, { profile }), TypeError);
   }
-  for (const number of [-1, 4294967296, 1.5, "1"]) assert.throws(() => calls.show(EXPIRED, { number }), RangeError);
-  for (const number of [-1, 4294967296]) assert.throws(() => calls.dump(EXPIRED, { number }), RangeError);
+  for (const number of [-1, 4294967296, 1.5, "1", null, NaN]) {
+    for (const call of ["show", "dump"]) assert.throws(() => calls[call](EXPIRED, { number }), RangeError);
+  }
+});
+
+test("options are an object that has no name but those of the call's options", () => {
+  const hidden = Object.defineProperty({}, "Profile", { value: "module" });
+  const wrong = [
+    null, "module", "", 7, 0, 7n, true, Symbol("profile"), () => ({ profile: "module" }), ["module"], new String("module"), { Profile: "module" },
+    { profil: "module" }, { profile: "module", strict: true }, { [Symbol("profile")]: "module" }, hidden, EXPIRED,
+  ];
+  for (const [name, call] of Object.entries(EACH)) {
+    for (const options of wrong) assert.throws(() => call(EXPIRED, options), TypeError, `${name} ${String(options)}`);
+    for (const options of [undefined, {}, Object.create(null), { profile: undefined }, { profile: "2" }, { profile: "module" }]) assert.doesNotThrow(() => call(EXPIRED, options));
+    const isWriting = name === "show" || name === "dump";
+    assert[isWriting ? "doesNotThrow" : "throws"](() => call(EXPIRED, { number: 3 }), isWriting ? undefined : TypeError);
+  }
 });
 
 test("the module is loaded as octets, a URL, a Response or a module", async () => {
@@ -208,9 +300,27 @@ test("the largest message is read, and one octet more is refused", () => {
 
 test("the causes are those of the header for C", () => {
   const header = readFileSync(new URL("../../c/illcanon.h", import.meta.url), "utf8");
-  const named = [...header.matchAll(/^ +ILLCANON_([A-Z_]+) = (\d+),? +\/\* (?!profile|the module|what|the octets are not|of two|the octets may|the buffer|malloc|the number)/gm)];
+  const named = [...header.matchAll(/^ +ILLCANON_([A-Z_]+) = (\d+),? +\/\* (?!profile|the module|what|the octets are not|of two|the octets end before|the buffer|malloc|the number)/gm)];
   for (const [, name, number] of named) assert.equal(CAUSES[number - 1].toUpperCase(), name.replaceAll("_", ""));
   assert.equal(named.length, CAUSES.length);
+});
+
+test("the types are those of what the calls return", () => {
+  const types = readFileSync(new URL("../illcanon.d.ts", import.meta.url), "utf8");
+  const declared = (name) => {
+    const body = types.slice(types.search(new RegExp(`^export (?:interface|class) ${name}\\b`, "m")));
+    return Object.fromEntries([...body.slice(0, body.search(/^\}/m)).matchAll(/^  (?:readonly )?(\w+): (.*);$/gm)].map(([, member, type]) => [member, type]));
+  };
+  const typeOf = (value) => (typeof value === "object" && value !== null ? value.constructor.name : value === null ? "null" : typeof value);
+  const found = [...calls.messages(Uint8Array.from([...EXPIRED, ...MISSING]))], refusals = [found[1].refusal, calls.dump(of("6280")).refusal];
+  const rows = [["Found", found], ["Refused", refusals], ["Dump", [calls.dump(EXPIRED), calls.dump(MISSING)]], ["Illcanon", [calls]]];
+  for (const [name, values] of rows) {
+    const members = Object.entries(declared(name));
+    assert.ok(members.length > 0, name);
+    for (const [member, type] of members) {
+      for (const value of values) assert.ok(type.split(" | ").includes(typeOf(value[member])), `${name}.${member}: ${type}`);
+    }
+  }
 });
 
 test("the types name what the module has", () => {

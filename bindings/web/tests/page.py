@@ -374,10 +374,55 @@ def try_files(page):
 
 def try_faults(page):
     page.drop(REFUSED + LONG_FORM, "refused.ber")
-    page.run("const { calls } = page, dump = calls.dump; calls.dump = () => calls.normalise(new Uint8Array(900000000)); page.choose(3); calls.dump = dump")
+    page.run("""const { calls } = page, dump = calls.dump, huge = new Uint8Array(900000000);
+        huge.set([0x74, 0x84, 0x35, 0xa4, 0xe8, 0xfa]);
+        calls.dump = () => calls.messages(huge).next();
+        page.choose(3);
+        calls.dump = dump""")
     check("memory that runs out is said", "memory of the reader ran out" in page.text("#fault"))
     page.run("page.choose(0)")
     check("and the work goes on", page.run("return document.getElementById('fault').hidden") and page.text("#title") == "Expired")
+
+
+def try_file_names(page):
+    """Letters of names that are not seen are shown by their octets, wherever a name is."""
+    hidden = "\u202e\u034f\U000e0100"
+    shown = "$'a\\342\\200\\256\\315\\217\\363\\240\\204\\200b.ber'"
+    in_page = "return [...arguments[0]].filter((letter) => document.documentElement.outerHTML.includes(letter))"
+    for octets, end in (LONG_FORM, ""), (LONG_FORM.hex().encode(), " (hexadecimal)"):
+        page.drop(octets, f"a{hidden}b.ber")
+        check(f"a name is shown by its octets{end}", page.text("#summary") == f"1 message in {shown}{end}")
+        check("no hidden letter is in the page", page.run(in_page, hidden) == [])
+    page.drop(b"", f"a{hidden}b.ber")
+    check("so is the name of a file that is not read", page.text("#fault") == f"{shown} was not read to its end: there are no octets.")
+    check("no hidden letter is in the words", page.run(in_page, hidden) == [])
+    page.paste("74\u202e")
+    check("nor in those of a text", "“$'\\342\\200\\256'” comes after 2 digits" in page.text("#fault") and page.run(in_page.replace("outerHTML", "innerText"), hidden) == [])
+    page.run("page.clear()")
+
+
+def follow(page, octets, answer):
+    """Goes to a link where the answer to each question is known; returns how many questions there were, and the names of what is loaded."""
+    return page.wait("""const [link, answer] = words, asked = [], own = window.confirm;
+        window.confirm = (text) => { asked.push(text); return answer; };
+        location.hash = link;
+        await new Promise((next) => setTimeout(next, 200));
+        await page.turn;
+        window.confirm = own;
+        return [asked.length, page.inputs.map(({ name }) => name), page.messages.map(({ size }) => size)]""",
+        octets if isinstance(octets, str) else f"octets={base64.urlsafe_b64encode(octets).decode().rstrip('=')}", answer)
+
+
+def try_links_that_replace(page):
+    page.run("page.clear()")
+    check("a link is read at once where nothing is loaded", follow(page, EXPIRED, False) == [0, ["the link"], [33]])
+    check("what is loaded stays where that is the answer", follow(page, LONG_FORM, False) == [1, ["the link"], [33]])
+    page.drop(LONG_FORM, "expired-long-form.ber")
+    check("so does a file", follow(page, EXPIRED, False) == [1, ["expired-long-form.ber"], [44]])
+    check("a bad link asks nothing", follow(page, "octets=!", True) == [0, ["expired-long-form.ber"], [44]])
+    check("an address without octets asks nothing", follow(page, "list", True) == [0, ["expired-long-form.ber"], [44]])
+    check("the link is read where that is the answer", follow(page, REFUSED[:33] * 2, True) == [1, ["the link"], [33, 33]])
+    page.run("page.clear()")
 
 
 def try_links(page):
@@ -393,6 +438,7 @@ def try_links(page):
     other.quit()
     page.drop(vector("limits", "limit-message"), "large.ber")
     check("a large message has no link", page.run("return document.getElementById('copy-link').disabled"))
+    try_links_that_replace(page)
 
 
 def try_controls(page):
@@ -507,7 +553,7 @@ def try_old_browser():
 
 def main():
     page = Session()
-    for part in (try_start, try_messages, try_elements, try_views, try_refusals, try_texts, try_controls, try_links, try_faults, try_printing, try_large, try_policy):
+    for part in (try_start, try_messages, try_elements, try_views, try_refusals, try_texts, try_file_names, try_controls, try_links, try_faults, try_printing, try_large, try_policy):
         part(page)
     page.quit()
     try_narrow()
