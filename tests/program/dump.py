@@ -91,6 +91,9 @@ FIXED = [
     "7420301e800102a10ba1041b020e47a2031b0151a20ca00a80083230323430323239",
     # rows and APDUs that profile 2 leaves out
     f"74223020{HEAD}bf3100",
+    # bits of which unused ones are not 0, and an extension with a default that is written
+    f"6a353033{HEAD}b1092807020105820203ff9f25083230323430323239",
+    f"74343032{HEAD}bf31123010800101810100a2803080050000000000",
     "7300",
     "0500",
 ]
