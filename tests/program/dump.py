@@ -96,6 +96,8 @@ FIXED = [
     f"74343032{HEAD}bf31123010800101810100a2803080050000000000",
     "7300",
     "0500",
+    # where a delivery service is due, as one of many parts
+    f"6121301f{HEAD}0500",
 ]
 # the causes that are limits
 LIMITS = {"IntegerTooLong", "TooLong", "TooDeep"}
