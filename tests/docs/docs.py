@@ -150,6 +150,8 @@ def check_version():
         ("bindings/python/pyproject.toml", r'^version = "([^"]+)"'),
         ("bindings/python/backend/wheel_of_illcanon.py", r'VERSION = "illcanon", "([^"]+)"'),
         ("bindings/python/illcanon/_library.py", r'^VERSION = "([^"]+)"'),
+        ("bindings/web/package.json", r'"version": "([^"]+)"'),
+        ("CHANGELOG.md", r"^## \[?(\d+\.\d+\.\d+)"),
         ("crates/ill_c/src/version.rt", r'VERSION: &\[u8\] = b"([^"]+)"'),
         ("crates/ill_c/specs/Version.antt", r'^version = codes "([^"]+)"'),
     ]:
