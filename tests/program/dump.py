@@ -96,8 +96,17 @@ FIXED = [
     f"74343032{HEAD}bf31123010800101810100a2803080050000000000",
     "7300",
     "0500",
+    # an OBJECT IDENTIFIER with a number of more than 63 bits
+    f"6a3f303d{HEAD}b1132811060b69ffffffffffffffffff7f820203f89f25083230323430323239",
     # where a delivery service is due, as one of many parts
     f"6121301f{HEAD}0500",
+]
+# Messages that each run has, and both profiles accept: each octet that is quoted in its own way, TRUE as 01, and each form of a length and a string.
+GOOD = [
+    "74243022800102a10fa1081b067e5c22007fe9a2031b0151a20ca00a80083230323430323239",
+    f"65233021{HEAD}9f230101",
+    "7481253080800102a10aa1031b0147a2031b0151a210a00ea00c0404323032340404303232390000",
+    f"741d{HEAD}",
 ]
 # the causes that are limits
 LIMITS = {"IntegerTooLong", "TooLong", "TooDeep"}
@@ -574,9 +583,10 @@ def main():
         for number, octets in enumerate(inputs(chance, min(count, 400), ROOTS[profile])):
             names.append(f"f{number}")
             (folder / names[-1]).write_bytes(octets)
-        for number, digits in enumerate(FIXED):
-            names.append(f"fixed-{number}")
-            (folder / names[-1]).write_bytes(bytes.fromhex(digits))
+        for kind, messages in ("fixed", FIXED), ("good", GOOD):
+            for number, digits in enumerate(messages):
+                names.append(f"{kind}-{number}")
+                (folder / names[-1]).write_bytes(bytes.fromhex(digits))
         names += compare_examples(folder, profile)
         text = compare(folder, names, seed, profile, words)
         check_notes(text)
@@ -590,6 +600,8 @@ def main():
     for number, digits in enumerate(FIXED):
         if profile == "2" and f"fixed-{number}: message 1: refused\n" not in text:
             sys.exit(f"dump.py: seed {seed}: {digits} is not refused")
+    if re.search(r"^good-\d+: message 1: refused", text, re.M):
+        sys.exit(f"dump.py: seed {seed}: a good message is refused")
     kinds = Counter(re.findall(r"^refused at \d+: (\w+)", text, re.M))
     lines = text.count("\n")
     print(f"seed {seed}, profile {profile}: {len(names)} files, {lines} lines, all right;", ", ".join(f"{cause} {times}" for cause, times in kinds.most_common()))
