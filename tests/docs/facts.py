@@ -37,12 +37,12 @@ SAYINGS = [
     ("levels", r"(\w+) levels\b", 0),
     ("levels", r"\blevel (\w+) of a foreign tree", 1),
     ("open", r"(\w+) (?:open elements|elements (?:(?:are|would be) )?open)\b", 0),
-    ("open", r"would be at depth (\w+)|it would be at depth (\w+)", 1),
-    ("open", r"\bnested to depth (\w+)", 0),
+    ("open", r"would be at depth (\w+)", 1),
+    ("open", r"(?:nested to|, at) depth (\w+)", 0),
 ]
-# Numbers of seven digits and more that are no limits of ours, by the file that says them.
+# Numbers of seven digits and more that are no limits of ours: the greatest ones of 32 and of 64 bits.
 OTHERS = {4_294_967_295, 18_446_744_073_709_551_615}
-# What says limits, and how often each at least.
+# What says limits, and how often each at least. A text may say each number of seven digits and more only as a limit, or one of OTHERS.
 SAID = {
     "README.md": {"octets": 1, "open": 1, "levels": 1, "integer": 2, "tag number": 1},
     DEFINITIONS: {"open": 2, "levels": 2, "integer": 1, "tag number": 1, "tag": 1},
@@ -65,7 +65,7 @@ NOT_COMPARED = {"docs/PERFORMANCE.md", "CHANGELOG.md", "vectors/README.md"}
 ENDS = {"SHOW": "show", "CHECK": "check", "DIGEST": "digest", "DUMP": "dump", "SAME": "same", "CANONICALISE": "canonicalise"}
 # How each help topic begins.
 BEGINNINGS = {"causes": "Why a message is refused.", "profile": "A profile is what is read of ISO 10161-1."}
-# What both the help and the man page say of an option, and of no other.
+# What both the help and the man page say of an option, and of no other. A new option gets a line here.
 OPTIONS = {
     "hex": r"input is hexadecimal text\b",
     "profile": r"Reads the messages (of all inputs )?in (this|the) profile",
@@ -139,7 +139,7 @@ def numbers_in(text):
         part = re.sub(r"\n\.\w+ ?|\s+|\\\n", " ", part)
         for name, pattern, more in SAYINGS:
             for match in re.finditer(pattern, part):
-                number = value(next(group for group in match.groups() if group))
+                number = value(match[1])
                 if number is not None:
                     yield name, number - more
         for match in re.finditer(r"\b(\w+) octets", part):
