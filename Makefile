@@ -1,6 +1,6 @@
 # illcanon: `make first` proves the library, builds a small program over it, and writes and shows the normal forms of the messages of
-# examples/. `make` proves and builds the program illcanon, `make check` proves and tests everything, `make install` copies the program,
-# its man page and its completions, and `make uninstall` removes them again.
+# examples/. `make` proves and builds the program illcanon, `make check` proves everything and runs each test that takes less than a minute,
+# `make install` copies the program, its man page and its completions, and `make uninstall` removes them again.
 #
 # PREFIX is the folder that they are copied to; DESTDIR is put before it, for packages. The libraries for C and Python have a Makefile of
 # their own: bindings/c.
@@ -33,7 +33,7 @@ $(PROGRAM):
 	cd crates/illcanon && rt run -- --version
 
 check:
-	rt ci
+	@tests/check.sh
 
 install: $(PROGRAM)
 	$(INSTALL) -d '$(DESTDIR)$(BINDIR)' '$(DESTDIR)$(MANDIR)/man1' '$(DESTDIR)$(BASH_COMPLETIONS)' '$(DESTDIR)$(ZSH_COMPLETIONS)' '$(DESTDIR)$(FISH_COMPLETIONS)'

@@ -1,8 +1,8 @@
 #!/bin/bash
-# Builds the programs and runs what isn't part of `rt ci`: the documents and their examples, the test vectors, the program on its rows and
-# under faults, allocations of memory refused in turn, edits that the prover must refuse, and the calls for C. Where Python, GNU time or YAZ's headers are installed: the
-# package for Python, the comparisons with the model in Python, the time and memory of the worst inputs, and the comparison with other
-# codecs; where binaryen and wabt are, the page, in the browsers that are there. Takes minutes where the crates have to be proved first.
+# Builds the programs and runs what isn't part of `rt ci`: the scripts of check.sh, the test vectors, allocations of memory refused in turn, edits
+# that the prover must refuse, and the calls for C. Where Python, GNU time or YAZ's headers are installed: the package for Python, the
+# comparisons with the model in Python, the time and memory of the worst inputs, and the comparison with other codecs; where binaryen and
+# wabt are, the page, in the browsers that are there. Takes minutes where the crates have to be proved first.
 cd "$(dirname "$0")" || exit 2
 status=0
 log=$(mktemp) || exit 2
@@ -30,14 +30,11 @@ calls_for_c() { (cd ../crates/ill_c && rt lib) && make -C ../bindings/c all exam
 
 build "the program" ./build_program.sh
 build "the libraries for C" calls_for_c
+run ./check.sh --scripts
 run memory/allocations.sh
 run edits/run.sh
-for script in program/program.sh program/faults.sh program/descriptors.sh ../bindings/c/tests/run.sh; do run $script; done
+run ../bindings/c/tests/run.sh
 has python3 || exit $status
-run python3 docs/trusted.py --check
-run python3 docs/calling.py --check
-run python3 docs/proved.py --check
-run python3 docs/docs.py
 run python3 ../examples/make.py --check
 run python3 ../vectors/make.py --check
 run ../bindings/python/tests/run.sh

@@ -1,12 +1,13 @@
 #!/usr/bin/env python3
-"""Checks the documents: links and names of files, sizes, words, the version, the list of causes, and the examples with their output.
+"""Checks the documents: links and names of files, sizes, words, the version, the list of causes, and the examples with their output; and by
+facts.py numbers, exit statuses, commands and options against the code. Of the sources, words of comments.
 
 Usage: tests/docs/docs.py [PROGRAM]
 
 A block ```console holds commands, each after `$ `, and after each the lines that it prints (standard output and standard
 error together). They run one after the other, by bash, in a new folder that has the files of examples/, with `illcanon` on
 the path. A block ```sh is run, too, unless it is marked `no-run`, and has to end with status 0. PROGRAM is the built program
-(else crates/illcanon/out/illcanon); without it no example is run, and that is said.
+(else crates/illcanon/out/illcanon); without it no example is run, and that is a fault.
 """
 import os
 import pathlib
@@ -16,8 +17,10 @@ import subprocess
 import sys
 import tempfile
 
+import facts
+
 ROOT = pathlib.Path(__file__).resolve().parents[2]
-DOCUMENTS = [ROOT / "README.md", ROOT / "CHANGELOG.md", ROOT / "vectors/README.md", *sorted((ROOT / "docs").glob("*.md"))]
+DOCUMENTS = [ROOT / "README.md", ROOT / "CHANGELOG.md", ROOT / "SECURITY.md", ROOT / "vectors/README.md", *sorted((ROOT / "docs").glob("*.md"))]
 # Words that the documents don't use, each with one to use in its place.
 WORDS = [
     (re.compile(r"\bwant of\b|\bwanting\b"), "missing"),
@@ -28,7 +31,16 @@ WORDS = [
     (re.compile(r"\btold\b"), "reported"),
     (re.compile(r"\bstands?\b(?! for)|\bstanding\b"), "is"),
 ]
+# Words that the sources don't use either.
+SOURCE_WORDS = [
+    (re.compile(r"\bwant of memory\b"), "out of memory"),
+    (re.compile(r"\bso many (octets|messages|bytes)\b"), "a number"),
+    (re.compile(r"\bis none\b"), "is not, or invalid"),
+    (re.compile(r"\bsurely\b"), "certainly"),
+]
 LARGEST = {"README.md": 9216, "docs/DECISIONS.md": 12288}
+# as many words as README.md and docs/*.md have at most
+MOST_WORDS = 12_000
 faults = []
 
 
@@ -98,6 +110,21 @@ def check_words(path, text):
                 fault(path, number, f"say `{instead}` for `{word.search(line).group()}`")
 
 
+def check_sources():
+    """The words of *.rt."""
+    for path in sorted((ROOT / "crates").glob("*/src/**/*.rt")):
+        for number, line in enumerate(path.read_text(encoding="utf-8").splitlines(), 1):
+            for word, instead in SOURCE_WORDS:
+                if word.search(line):
+                    fault(path, number, f"say `{instead}` for `{word.search(line).group()}`")
+
+
+def check_words_in_all():
+    count = sum(len(path.read_text(encoding="utf-8").split()) for path in [ROOT / "README.md", *(ROOT / "docs").glob("*.md")])
+    if count > MOST_WORDS:
+        fault(ROOT / "README.md", 1, f"README.md and docs/*.md have {count} words, and at most {MOST_WORDS} are wanted")
+
+
 def check_sizes(path, text):
     most = LARGEST.get(str(path.relative_to(ROOT)))
     if most and len(text.encode()) > most:
@@ -123,6 +150,8 @@ def check_version():
         ("bindings/python/pyproject.toml", r'^version = "([^"]+)"'),
         ("bindings/python/backend/wheel_of_illcanon.py", r'VERSION = "illcanon", "([^"]+)"'),
         ("bindings/python/illcanon/_library.py", r'^VERSION = "([^"]+)"'),
+        ("bindings/web/package.json", r'"version": "([^"]+)"'),
+        ("CHANGELOG.md", r"^## \[?(\d+\.\d+\.\d+)"),
         ("crates/ill_c/src/version.rt", r'VERSION: &\[u8\] = b"([^"]+)"'),
         ("crates/ill_c/specs/Version.antt", r'^version = codes "([^"]+)"'),
     ]:
@@ -210,10 +239,14 @@ def main():
             examples += run_examples(path, text, program)
     check_version()
     check_causes()
+    check_sources()
+    check_words_in_all()
+    if not program.exists():
+        fault(ROOT / "crates", 1, f"the program is not built, so no example was run: {program}")
+    faults.extend(facts.check([str(path.relative_to(ROOT)) for path in DOCUMENTS], program))
     for line in faults:
         print(line)
-    ran = f"{examples} examples" if program.exists() else "no example was run: the program is not built"
-    print(f"{len(DOCUMENTS)} documents, {ran}, {len(faults)} faults")
+    print(f"{len(DOCUMENTS)} documents, {examples} examples, {len(faults)} faults")
     sys.exit(1 if faults else 0)
 
 

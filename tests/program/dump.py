@@ -1,8 +1,9 @@
 #!/usr/bin/env python3
-"""Compares `illcanon dump` with another writer of the dump, over spellings of random APDUs, good and changed, and over the examples of `illcanon help causes`.
+"""Compares `illcanon dump` with another writer of the dump, over spellings of random APDUs, good and changed, over the examples of
+`illcanon help causes`, and over a few messages that each run has.
 
-The writer goes by the judge of judge.py, the tables and the names. Each APDU, each note and each cause has to come at least once; a message has
-a note if and only if it is not in normal form; the line on standard error is that of `check`. Needs the program built.
+The writer goes by the judge of judge.py, the tables and the names. Each APDU, each note, each hint and each cause has to come at least once; a
+message has a note if and only if it is not in normal form; the line on standard error is that of `check`. Needs the program built.
 Usage: dump.py [SEED [COUNT [PROFILE]]], PROFILE being `2`, the default, or `module`. Prints the seed, with which a run is made again.
 """
 import copy
@@ -61,6 +62,52 @@ TEXTS = {
 # as many octets a header has at most
 MOST_HEADER = 132
 OUR_LIMIT = "    a limit of illcanon, not of ISO 10161-1\n"
+MARKED = "    --profile module reads what is marked as not read\n"
+READS_PART = "    --profile module reads this part\n"
+OTHER_TAGS = "    --profile module has other tags here\n"
+ESCAPES = "    --profile module reads escape sequences\n"
+# the hints that each run has to meet
+HINTS = {"2": [OUR_LIMIT, MARKED, READS_PART, OTHER_TAGS, ESCAPES], "module": [OUR_LIMIT]}
+# a version, an identifier and a time, with which most APDUs begin
+HEAD = "800102a10aa1031b0147a2031b0151a20ca00a80083230323430323239"
+# Messages that each run has, since random ones seldom are like these. Profile 2 refuses them.
+FIXED = [
+    # tag numbers of five octets, and others that begin with ones
+    "ffffffffff",
+    "7405ffffffffff",
+    "7405ff80ffffff",
+    "7404ffffffff",
+    "7405ffffffff7f",
+    "74051f80808001",
+    # units per medium, a reason and a delivery service as the module has them, and both reasons of a Will-Supply
+    f"63323030{HEAD}9b0101bd0ea80c300aa0030a0101a103020101",
+    f"63323030{HEAD}9b0101bd0ea80c300a800101a10302010190019a",
+    f"642f302d{HEAD}9f1f0105bf2009a5073005a0030a0101",
+    f"642f302d{HEAD}9f1f0105bf2009a50730050500800101",
+    f"64353033{HEAD}9f1f0101bf200fa10d300b800101a7061b04706f7374",
+    f"642f302d{HEAD}9f1f0101bf2009a10730058001010500",
+    # the escape sequences of a GeneralString
+    "7420301e800102a10ba1041b021b47a2031b0151a20ca00a80083230323430323239",
+    "7420301e800102a10ba1041b020e47a2031b0151a20ca00a80083230323430323239",
+    # rows and APDUs that profile 2 leaves out
+    f"74223020{HEAD}bf3100",
+    # bits of which unused ones are not 0, and an extension with a default that is written
+    f"6a353033{HEAD}b1092807020105820203ff9f25083230323430323239",
+    f"74343032{HEAD}bf31123010800101810100a2803080050000000000",
+    "7300",
+    "0500",
+    # an OBJECT IDENTIFIER with a number of more than 63 bits
+    f"6a3f303d{HEAD}b1132811060b69ffffffffffffffffff7f820203f89f25083230323430323239",
+    # where a delivery service is due, as one of many parts
+    f"6121301f{HEAD}0500",
+]
+# Messages that each run has, and both profiles accept: each octet that is quoted in its own way, TRUE as 01, and each form of a length and a string.
+GOOD = [
+    "74243022800102a10fa1081b067e5c22007fe9a2031b0151a20ca00a80083230323430323239",
+    f"65233021{HEAD}9f230101",
+    "7481253080800102a10aa1031b0147a2031b0151a210a00ea00c0404323032340404303232390000",
+    f"741d{HEAD}",
+]
 # the causes that are limits
 LIMITS = {"IntegerTooLong", "TooLong", "TooDeep"}
 LEVELS_TEXT = "a value of an open type would have more than 20 levels"
@@ -288,7 +335,7 @@ class Dumper(Judge):
         due = place.get("due", [])
         yield from (f"    due {text}\n" for text in due)
         if any(text.endswith(" (not read)") for text in due):
-            yield "    --profile module reads what is marked as not read\n"
+            yield MARKED
         yield from self.hint(fault)
         yield from self.unjudged(fault)
 
@@ -326,11 +373,11 @@ class Dumper(Judge):
         elif self.profile == "module":
             return
         if fault.cause == "LeftOut":
-            yield "    --profile module reads this part\n"
+            yield READS_PART
         elif fault.cause in ("WrongForm", "UnexpectedTag") and self.path and self.round().node in RETAGGED:
-            yield "    --profile module has other tags here\n"
+            yield OTHER_TAGS
         elif fault.cause == "BadText" and self.text_node == "General":
-            yield "    --profile module reads escape sequences\n"
+            yield ESCAPES
 
     def unjudged(self, fault):
         """The elements from a fault on, by identifiers and lengths alone, up to the end of the outermost one."""
@@ -536,6 +583,10 @@ def main():
         for number, octets in enumerate(inputs(chance, min(count, 400), ROOTS[profile])):
             names.append(f"f{number}")
             (folder / names[-1]).write_bytes(octets)
+        for kind, messages in ("fixed", FIXED), ("good", GOOD):
+            for number, digits in enumerate(messages):
+                names.append(f"{kind}-{number}")
+                (folder / names[-1]).write_bytes(bytes.fromhex(digits))
         names += compare_examples(folder, profile)
         text = compare(folder, names, seed, profile, words)
         check_notes(text)
@@ -543,6 +594,14 @@ def main():
     for note in NOTES + (MODULE_NOTES if profile == "module" else []):
         if not re.search(rf"  \((.*, )?{note}", text):
             sys.exit(f"dump.py: seed {seed}: no message has the note {note}")
+    for hint in HINTS[profile]:
+        if hint not in text:
+            sys.exit(f"dump.py: seed {seed}: no message has the hint {hint.strip()}")
+    for number, digits in enumerate(FIXED):
+        if profile == "2" and f"fixed-{number}: message 1: refused\n" not in text:
+            sys.exit(f"dump.py: seed {seed}: {digits} is not refused")
+    if re.search(r"^good-\d+: message 1: refused", text, re.M):
+        sys.exit(f"dump.py: seed {seed}: a good message is refused")
     kinds = Counter(re.findall(r"^refused at \d+: (\w+)", text, re.M))
     lines = text.count("\n")
     print(f"seed {seed}, profile {profile}: {len(names)} files, {lines} lines, all right;", ", ".join(f"{cause} {times}" for cause, times in kinds.most_common()))

@@ -3,15 +3,18 @@
 
 The document is parsed by Python's html.parser. Its text is that of the lines of `dump`, character for character, but for the octets beside the
 elements; these and the headers are the octets of the message, in order. It has the tags and attributes that are named here and no others, each is
-closed where it has to be, and none comes from a message or a name. Needs the program built.
+closed where it has to be, and none comes from a message or a name. The class of each part follows from its words or octets. The head is that
+which is written here, with a style of a known checksum: it was read, and hides nothing of a message. Needs the program built.
 Usage: dump_html.py [SEED [COUNT [PROFILE]]], PROFILE being `2`, the default, or `module`. Prints the seed, with which a run is made again.
 """
+import hashlib
 import json
 import random
 import re
 import subprocess
 import sys
 import tempfile
+from collections import Counter
 from html.parser import HTMLParser
 from pathlib import Path
 
@@ -32,8 +35,41 @@ TAGS = {
     "code": [{}],
     "b": [{}],
 }
+# the tags of the head, with their attributes
+HEAD = [
+    ("html", {"lang": "en"}),
+    ("head", {}),
+    ("meta", {"charset": "utf-8"}),
+    ("meta", {"http-equiv": "Content-Security-Policy", "content": "default-src 'none'; style-src 'unsafe-inline'"}),
+    ("meta", {"name": "viewport", "content": "width=device-width, initial-scale=1"}),
+    ("meta", {"name": "color-scheme", "content": "light dark"}),
+    ("title", {}),
+    ("style", {}),
+    ("body", {}),
+]
+# SHA-256 of the style. After a change of the style, see that each class can still be told from the others, and that nothing is hidden but by
+# a reader who closes an element. Then put the checksum here that the failure prints.
+STYLE = "7a0cec23226b1822bd920f01efa2bc99b467a919486dca87be50dc9d149e166e"
+# the one rule with `display: none`: the browser's own mark before a line
+HIDDEN = ["summary::-webkit-details-marker { display: none; }"]
+# the classes of a message's words, by how they begin
+HEADS = {"good": r"[A-Z][\w-]+, \d+ octets, normal\n", "warn": r"[A-Z][\w-]+, \d+ octets, not normal, normal form \d+ octets\n", "bad": r"refused\n"}
+# what the parts of a line are, by their classes
+PARTS = {
+    "at": r" *\d+",
+    "c0": r"[0-3][0-9a-f]( .*)?",
+    "c1": r"[4-7][0-9a-f]( .*)?",
+    "c2": r"[89ab][0-9a-f]( .*)?",
+    "c3": r"[c-f][0-9a-f]( .*)?",
+    "len": r"[0-9a-f]{2}( [0-9a-f]{2})*",
+    "note": r"\(.*\)",
+}
 # what a hostile text is made of
 PIECES = ["<script>alert(1)</script>", "</span></summary></details></section>", "<img src=x onerror=alert(1)>", "&lt;", "&amp;", "&#60;", "&", "<", ">", "\"", "'", "<!--", "-->", "]]>", "</style>", "<?php", "\\x3c", "  (note)", " = ", "\r\n", "\t", "\u2028", "é", "\x00", "\x1b[31m", "a"]
+
+
+# how often each class was there
+CLASSES = Counter()
 
 
 def fail(*words):
@@ -48,6 +84,8 @@ class Page(HTMLParser):
         super().__init__(convert_charrefs=True)
         # the open tags, each with its class; the text of the body; of each message the lines of its elements, and the octets beside each
         self.open, self.text, self.messages, self.head = [], [], [], []
+        # the words of the title and the style, the parts of each class, and of each message its class in `h2`
+        self.style, self.parts, self.heads = "", [], []
 
     def handle_starttag(self, tag, attrs):
         kind = dict(attrs).get("class")
@@ -61,6 +99,10 @@ class Page(HTMLParser):
         self.open.append((tag, kind))
         if tag == "section":
             self.messages.append(([], []))
+        if tag == "span" and self.has("h2"):
+            self.heads.append([kind, ""])
+        elif tag == "span" and kind:
+            self.parts.append([kind, ""])
         if kind == "row":
             self.messages[-1][0].append("")
             self.messages[-1][1].append("")
@@ -71,7 +113,11 @@ class Page(HTMLParser):
 
     def handle_data(self, data):
         if not self.has("body"):
+            if self.has("style"):
+                self.style += data
             return
+        if self.open[-1][0] == "span" and self.open[-1][1]:
+            (self.heads if self.has("h2") else self.parts)[-1][1] += data
         if self.has("code"):
             self.messages[-1][1][-1] += data
             return
@@ -104,9 +150,35 @@ def parsed(document):
     page.close()
     if page.open:
         fail("tags are not closed:", page.open)
-    if any(tag == "script" or "src" in attrs or "href" in attrs for tag, attrs in page.head):
-        fail("the document loads something:", page.head)
+    if page.head != HEAD:
+        fail("the head has other tags:", page.head)
+    check_style(page.style)
+    check_classes(page)
     return page
+
+
+def check_style(style):
+    """The style is the one that was read."""
+    found = hashlib.sha256(style.encode()).hexdigest()
+    if found != STYLE:
+        fail("the style has another checksum:", found)
+    hidden = [line for line in style.splitlines() if re.search(r"display: *none|visibility|opacity|url\(|@import|font-size: *0|text-indent", line)]
+    if hidden != HIDDEN:
+        fail("the style hides or loads something:", hidden)
+
+
+def check_classes(page):
+    """Each part has the class of its words or octets, and each message one class in its first line."""
+    if len(page.heads) != len(page.messages):
+        fail(len(page.messages), "messages, and", len(page.heads), "of them with a class")
+    for kind, words in page.heads:
+        if kind not in HEADS or not re.fullmatch(HEADS[kind], words):
+            fail("a message of the class", kind, "has the words", repr(words))
+        CLASSES[kind] += 1
+    for kind, words in page.parts:
+        if kind in PARTS and not re.fullmatch(PARTS[kind], words, re.S):
+            fail("a part of the class", kind, "is", repr(words))
+        CLASSES[kind] += 1
 
 
 def octets_shown(rows, beside):
@@ -200,6 +272,9 @@ def main():
                     whole = [None] * len(parsed(run(folder, [*words, "--keep-going", "--html"], [name for name, _, _ in part])[0]).messages)
                 found = compare(folder, [*words, "--keep-going"], [name for name, _, _ in part], whole)
                 messages, characters = messages + found[0], characters + found[1]
+    missing = {*HEADS, *PARTS, "name", "value"} - set(CLASSES)
+    if missing:
+        fail("nothing has the classes", sorted(missing))
     print(f"seed {seed}, profile {profile}: {messages} messages, {characters} characters of text, all right")
 
 

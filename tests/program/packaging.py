@@ -71,8 +71,10 @@ def check_man_page(commands):
     described = text[text.index(".Sh OPTIONS") : text.index(".Sh EXIT STATUS")]
     listed = {"-" + option for line in re.findall(r"^\.It (Fl .*)$", described, re.M) for option in re.findall(r"(?:Fl|,) (-?\w[\w-]*)", line)}
     expect(listed, set().union(*commands.values()), "man/illcanon.1, options")
-    version = run([PROGRAM, "--version"]).stdout.split()
-    expect(version[0], "illcanon", "--version")
+    version = re.search(r'\.version\("([^"]+)"\)', (ROOT / "crates/ill_args/src/commands.rt").read_text(encoding="utf-8"))[1]
+    for flag in "--version", "-V":
+        done = run([PROGRAM, flag])
+        expect((done.returncode, done.stdout, done.stderr), (0, f"illcanon {version}\n", ""), flag)
     if shutil.which("mandoc"):
         done = run(["mandoc", "-T", "lint", ROOT / "man/illcanon.1"])
         expect((done.returncode, done.stdout + done.stderr), (0, ""), "mandoc -T lint man/illcanon.1")

@@ -2,14 +2,16 @@
 """The line of `--summary` on a terminal that says how far the work is, by a pseudo-terminal.
 
 The program reads a slow pipe, with standard error at a pseudo-terminal. The line comes after two seconds and not before, is written over
-itself, never ends in a line feed, and is erased before the line of a fault and before the summary. Without `--summary`, and where standard
-error is no terminal, nothing is shown. Needs the program built. Takes about ten seconds.
+itself, never ends in a line feed, and is erased before the line of a fault and before the summary. Where the size of a pipe is not known, it
+has no share, even if the other files have sizes. Without `--summary`, and where standard error is no terminal, nothing is shown. Needs the
+program built. Takes about fifteen seconds.
 """
 import os
 import pty
 import re
 import subprocess
 import sys
+import tempfile
 import threading
 import time
 from pathlib import Path
@@ -61,6 +63,20 @@ def run(words, pieces, pause, terminal=True):
     return parts, program.wait()
 
 
+def check_end_of_file():
+    """The line is erased where a refusal ends the work on a pipe; and with a pipe among the inputs there is no share."""
+    with tempfile.NamedTemporaryFile() as file:
+        file.write(EXPIRED)
+        file.flush()
+        parts, status = run(["check", "--summary", "-", file.name], [EXPIRED] * 11 + [REFUSED], 0.25)
+    text = "".join(part for _, part in parts)
+    expect(status == 1 and parts[0][0] >= 2, "status", status, "and a line after", parts[0][0], "seconds")
+    fault = FAULT.format(12).replace("illcanon: ", "illcanon: -: ") + "illcanon: -: left at message 12, which begins at octet 363\r\n"
+    expect(text.count(ERASE + fault) == 1, "no line of the fault in", repr(text))
+    rest = text.replace(fault, "").rpartition("illcanon: 2 files, ")[0]
+    expect(re.fullmatch(f"({re.escape(ERASE)}(illcanon: [12] files?, [0-9]+ octets)?)+", rest), "other text:", repr(text))
+
+
 def main():
     pieces = [EXPIRED] * 12 + [REFUSED] + [EXPIRED] * 3
     words = ["check", "--summary", "--keep-going", "-"]
@@ -77,6 +93,7 @@ def main():
     expect(len(octets) >= 4 and octets == sorted(set(octets)), "the lines have", octets)
     expect(set(octets) <= {33 * n for n in range(13)} | {398 + 33 * n for n in range(4)}, "the lines have", octets)
 
+    check_end_of_file()
     quick, _ = run(words, [EXPIRED] * 3, 0.1)
     expect("".join(part for _, part in quick) == summary.replace("16 messages, 15", "3 messages, 3").replace("1 refused, 497", "0 refused, 99"), quick)
     piped, _ = run(words, pieces, 0.25, terminal=False)

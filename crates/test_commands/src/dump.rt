@@ -3,7 +3,7 @@
 mod contracts;
 mod skipping;
 
-use ber_core::{Pieces, Room, Unbuffered};
+use ber_core::{Pieces, Room, ToWrite, Unbuffered};
 use ill_commands::RunFault;
 use ill_dump::{DumpFormat, DumpOptions, run_dump};
 use ill_schema::Profile;
@@ -280,6 +280,61 @@ const HINT: &str = "refused at 33: LeftOut Expired.expired-extensions
      52          00 00  end mark  (not judged)
 ";
 
+/// A SHIPPED whose units per medium have the module's tags, and the end of its dump in profile 2.
+const UNITS: &str =
+    "63323030800102a10aa1031b0147a2031b0151a20ca00a800832303234303232399b0101bd0ea80c300aa0030a0101a103020101";
+
+const UNITS_LINES: &str = "refused at 42: WrongForm
+    it is primitive where it has to be constructed, or the reverse
+    path Shipped.supply-details.no-of-units-per-medium.item[0].medium
+    found [0] constructed: a0
+    due [0] primitive: 80
+    --profile module has other tags here
+     42            a0 03  [0]  (not judged)
+     44              0a 01  [UNIVERSAL 10] = 01  (not judged)
+     47            a1 03  [1]  (not judged)
+     49              02 01  [UNIVERSAL 2] = 01  (not judged)
+";
+
+/// An ILL-ANSWER whose reason has the module's tag, and the end of its dump in profile 2.
+const REASON: &str =
+    "642f302d800102a10aa1031b0147a2031b0151a20ca00a800832303234303232399f1f0105bf2009a5073005a0030a0101";
+
+const REASON_LINES: &str = "refused at 44: WrongForm
+    it is primitive where it has to be constructed, or the reverse
+    path ILL-Answer.results-explanation.will-supply-results.reason-will-supply
+    found [0] constructed: a0
+    due [0] primitive: 80
+    --profile module has other tags here
+     44            a0 03  [0]  (not judged)
+     46              0a 01  [UNIVERSAL 10] = 01  (not judged)
+";
+
+/// An ILL-ANSWER with conditions and a delivery service that only the module has there, and the end of its dump in profile 2.
+const SERVICE: &str =
+    "64353033800102a10aa1031b0147a2031b0151a20ca00a800832303234303232399f1f0101bf200fa10d300b800101a7061b04706f7374";
+
+const SERVICE_LINES: &str = "refused at 47: UnexpectedTag
+    the tag is not due there
+    path ILL-Answer.results-explanation.conditional-results
+    found [7] constructed: a7
+    due [1] date-for-reply
+    due [2] location-list
+    due the end of the element
+    --profile module has other tags here
+     47            a7 06  [7]  (not judged)
+     49              1b 04  [UNIVERSAL 27] = \"post\"  (not judged)
+";
+
+/// The beginning of a RETURNED with an EXTERNAL, up to 70,000 octets of its encoding; and what comes after them.
+const LONG: &str =
+    "6a830111ac30830111a7800102a10aa1031b0147a2031b0151a20ca00a80083230323430323239b18301117a28830111758183011170";
+
+const AFTER_LONG: &str = "9f25083230323430323239";
+
+/// The end of its dump: the last octet of the encoding, and the line after it.
+const LONG_LINES: &str = "A\"\n  70054      9f 25 08  date-returned = 20240229\n";
+
 /// Tells whether the dump of a message in a profile ends with these lines.
 fn ends_with(
     alloc: Global,
@@ -310,6 +365,43 @@ fn elements_of_the_module_are_listed(rt: HostRuntime) -> Result<(), Fail> {
 
 #[test]
 fn a_part_that_is_not_read_has_a_hint(rt: HostRuntime) -> Result<(), Fail> {
-    assert!(rt; ends_with(rt.alloc(), Profile::Two, EXTENDED, HINT)?);
+    for (message, lines) in [
+        (EXTENDED, HINT),
+        (UNITS, UNITS_LINES),
+        (REASON, REASON_LINES),
+        (SERVICE, SERVICE_LINES),
+    ] {
+        let found = ends_with(rt.alloc(), Profile::Two, message, lines)?;
+        assert!(rt; found, "{lines}");
+    }
+    Ok(())
+}
+
+/// The dump of the RETURNED with a long EXTERNAL, in the module profile.
+fn dump_of_long(alloc: Global) -> Result<Vec<u8>, AllocError> {
+    let mut octets = octets_of(alloc, LONG)?;
+    octets.extend_from_slice(&vec![in alloc; b'A'; 70_000]?)?;
+    octets.extend_from_slice(&octets_of(alloc, AFTER_LONG)?)?;
+    let mut source = Pieces::new(&octets, 4096, None);
+    let mut written = Vec::new(alloc);
+    let mut sink = ToWrite::new(&mut written);
+    let dump = DumpOptions {
+        profile: Profile::Module,
+        ..PLAIN
+    };
+    let _ = run_dump::<Pieces<'_>, Unbuffered, ToWrite<&mut Vec<u8>>>(
+        alloc,
+        dump,
+        &mut source,
+        &mut sink,
+    );
+    Ok(written)
+}
+
+#[test]
+fn lines_follow_a_long_value(rt: HostRuntime) -> Result<(), Fail> {
+    let text = dump_of_long(rt.alloc())?;
+    let head = b"message 1: Returned, 70065 octets, normal\n";
+    assert!(rt; text.starts_with(head) && text.ends_with(LONG_LINES.as_bytes()));
     Ok(())
 }

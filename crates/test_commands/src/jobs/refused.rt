@@ -1,7 +1,7 @@
 //! Lines of `refused_json` with the place in words, row by row.
 use ill_commands::{Job, JobOptions, RefusalReport, refused_json};
 use ill_dump::place_of_refusal;
-use ill_normal::{Failure, Refusal, decode_normal_as};
+use ill_normal::{Cause, Failure, Refusal, decode_normal_as};
 use ill_schema::Profile;
 use std::alloc::Global;
 use std::test::Fail;
@@ -9,7 +9,7 @@ use test_support::octets_of;
 
 /// The octets of a message that is refused, its profile, the name of its file, how many octets it has, where that is known, and the line of it
 /// as message 7 after 100 octets.
-const ROWS: [(&str, Profile, Option<&str>, Option<u64>, &str); 12] = [
+const ROWS: [(&str, Profile, Option<&str>, Option<u64>, &str); 13] = [
     // nothing in it
     (
         "7400",
@@ -104,7 +104,21 @@ const ROWS: [(&str, Profile, Option<&str>, Option<u64>, &str); 12] = [
         Some(3),
         "{\"number\":7,\"offset\":100,\"octets\":3,\"refused\":{\"cause\":\"UnexpectedTag\",\"offset\":0,\"kind\":\"invalid\",\"found\":\"[APPLICATION 31] constructed: 7f 1f\",\"due\":[\"[APPLICATION 1] ILL-Request\",\"[APPLICATION 2] Forward-Notification (not read)\",\"[APPLICATION 3] Shipped\",\"[APPLICATION 4] ILL-Answer\",\"[APPLICATION 5] Conditional-Reply\",\"[APPLICATION 6] Cancel\",\"[APPLICATION 7] Cancel-Reply\",\"[APPLICATION 8] Received\",\"[APPLICATION 9] Recall\",\"[APPLICATION 10] Returned\",\"[APPLICATION 11] Checked-In\",\"[APPLICATION 12] Overdue\",\"[APPLICATION 13] Renew\",\"[APPLICATION 14] Renew-Answer\",\"[APPLICATION 15] Lost\",\"[APPLICATION 16] Damaged\",\"[APPLICATION 17] Message\",\"[APPLICATION 18] Status-Query\",\"[APPLICATION 19] Status-Or-Error-Report (not read)\",\"[APPLICATION 20] Expired\"]}}\n",
     ),
+    // in the module profile, where a delivery service has two forms
+    (
+        "642f302d 800102 a10aa1031b0147a2031b0151 a20ca00a80083230323430323239 9f1f0101 bf2009a1073005 800101 0500",
+        Profile::Module,
+        None,
+        Some(49),
+        "{\"number\":7,\"offset\":100,\"octets\":49,\"apdu\":\"ILL-Answer\",\"refused\":{\"cause\":\"UnexpectedTag\",\"offset\":47,\"kind\":\"invalid\",\"path\":\"ILL-Answer.results-explanation.conditional-results\",\"found\":\"[UNIVERSAL 5] primitive: 05\",\"due\":[\"[1] date-for-reply\",\"[2] location-list\",\"[7] proposed-delivery-service.physical-delivery\",\"[50] proposed-delivery-service.electronic-delivery\",\"the end of the element\"]}}\n",
+    ),
 ];
+
+/// An EXPIRED, and its line were its normal form too long: the refusal is of the whole message, and has no place in words.
+const EXPIRED: &str = "741f301d800102a10aa1031b0147a2031b0151a20ca00a80083230323430323239";
+
+const TOO_LONG: &str =
+    "{\"number\":7,\"offset\":100,\"octets\":33,\"apdu\":\"Expired\",\"refused\":{\"cause\":\"NormalTooLong\",\"offset\":0,\"kind\":\"not read\"}}\n";
 
 /// The refusal of the message that the octets are.
 fn refusal_of(alloc: Global, profile: Profile, octets: &[u8]) -> Result<Refusal, Fail> {
@@ -114,26 +128,60 @@ fn refusal_of(alloc: Global, profile: Profile, octets: &[u8]) -> Result<Refusal,
     }
 }
 
+/// Tells whether a message of these octets that is refused so, in a file of this name, has this line.
+fn has_line(
+    alloc: Global,
+    profile: Profile,
+    file: Option<&str>,
+    octets: &[u8],
+    (refusal, count): (Refusal, Option<u64>),
+    wanted: &str,
+) -> Result<bool, Fail> {
+    let report = RefusalReport {
+        message: 7,
+        offset: 100,
+        refusal,
+        octets: count,
+    };
+    let work = JobOptions {
+        profile,
+        name: file.unwrap_or("-"),
+        names_input: file.is_some(),
+        ..JobOptions::new(Job::CheckJson, false)
+    };
+    let place = place_of_refusal(alloc, profile, octets, refusal)?;
+    let refused = refused_json(alloc, work, report, octets, &place, Vec::new(alloc))?;
+    Ok(refused.line.as_slice() == wanted.as_bytes())
+}
+
 #[test]
 fn each_line_of_a_refused_message(rt: HostRuntime) -> Result<(), Fail> {
     let alloc = rt.alloc();
     for (input, profile, file, count, wanted) in &ROWS {
         let octets = octets_of(alloc, input)?;
-        let report = RefusalReport {
-            message: 7,
-            offset: 100,
-            refusal: refusal_of(alloc, *profile, &octets)?,
-            octets: *count,
-        };
-        let work = JobOptions {
-            profile: *profile,
-            name: file.unwrap_or("-"),
-            names_input: file.is_some(),
-            ..JobOptions::new(Job::CheckJson, false)
-        };
-        let place = place_of_refusal(alloc, *profile, &octets, report.refusal)?;
-        let refused = refused_json(alloc, work, report, &octets, &place, Vec::new(alloc))?;
-        assert!(rt; refused.line.as_slice() == wanted.as_bytes(), "{input}");
+        let refusal = refusal_of(alloc, *profile, &octets)?;
+        let found = has_line(alloc, *profile, *file, &octets, (refusal, *count), wanted)?;
+        assert!(rt; found, "{input}");
     }
+    Ok(())
+}
+
+#[test]
+fn a_normal_form_that_is_too_long_has_no_place(rt: HostRuntime) -> Result<(), Fail> {
+    let alloc = rt.alloc();
+    let octets = octets_of(alloc, EXPIRED)?;
+    let refusal = Refusal {
+        at: 0,
+        cause: Cause::NormalTooLong,
+    };
+    let found = has_line(
+        alloc,
+        Profile::Two,
+        None,
+        &octets,
+        (refusal, Some(33)),
+        TOO_LONG,
+    )?;
+    assert!(rt; found);
     Ok(())
 }
