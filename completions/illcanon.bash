@@ -13,12 +13,12 @@ _illcanon() {
     case $command in
         '') words='show check digest dump same canonicalise help --help --version -h -V' ;;
         help) words='show check digest dump same canonicalise help causes profile' ;;
-        show) words='--hex --profile --keep-going --refused --summary --json --with-filename -H --files-from --help -h' ;;
-        check) words='--hex --profile --keep-going --refused --summary --json --lines --with-filename -H --files-from --help -h' ;;
-        digest) words='--hex --profile --keep-going --refused --summary --json --lines --with-filename -H --files-from --help -h' ;;
-        dump) words='--hex --profile --keep-going --message --html --with-filename -H --files-from --help -h' ;;
+        show) words='--hex --profile --keep-going --refused --max-refused --summary --json --with-filename -H --files-from --help -h' ;;
+        check) words='--hex --profile --keep-going --refused --max-refused --summary --json --lines --with-filename -H --files-from --help -h' ;;
+        digest) words='--hex --profile --keep-going --refused --max-refused --summary --json --lines --with-filename -H --files-from --help -h' ;;
+        dump) words='--hex --profile --keep-going --max-refused --message --html --with-filename -H --files-from --help -h' ;;
         same) words='--hex --profile --help -h' ;;
-        canonicalise) words='--hex --profile --keep-going --refused --summary --whole --lines --output -o --files-from --help -h' ;;
+        canonicalise) words='--hex --profile --keep-going --refused --max-refused --summary --whole --lines --output -o --files-from --help -h' ;;
     esac
     # The value of --profile may come after `=`, which is a word of its own.
     [[ $word == = || ${COMP_WORDS[before]} != = ]] || before=$((before - 1))

@@ -19,6 +19,7 @@ complete -c illcanon -n '__fish_seen_subcommand_from show check digest dump same
 complete -c illcanon -n '__fish_seen_subcommand_from show check digest dump same canonicalise' -l profile -x -a '2 module' -d 'Read messages in this profile'
 complete -c illcanon -n '__fish_seen_subcommand_from show check digest dump canonicalise' -l keep-going -d 'Go on after a message that is refused'
 complete -c illcanon -n '__fish_seen_subcommand_from show check digest canonicalise' -l refused -r -F -d 'Write the octets of refused messages to this file'
+complete -c illcanon -n '__fish_seen_subcommand_from show check digest dump canonicalise' -l max-refused -x -d 'Stop after this number of refused messages'
 complete -c illcanon -n '__fish_seen_subcommand_from show check digest canonicalise' -l summary -d 'Report numbers at the end'
 complete -c illcanon -n '__fish_seen_subcommand_from show check digest' -l json -d 'Write a line of JSON for each message'
 complete -c illcanon -n '__fish_seen_subcommand_from dump' -l message -x -d 'Write this message alone'
