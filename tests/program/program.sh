@@ -179,6 +179,26 @@ for words in 'help causes' 'help profile'; do
     [ "$(wc -l <out)" -gt 20 ] || echo 'no such text' >want-out
     compare "$words" 0
 done
+# Each help begins with what it is about: a topic with its sentence, a command with its line of `--help`.
+"$program" --help >ALL
+while IFS='|' read -r words sentence; do
+    "$program" $words >out 2>err
+    status=$?
+    [ -n "$sentence" ] || sentence=$(sed -n "s/^  ${words#help } *//p" ALL)
+    case $(cat out) in "$sentence"*) cp out want-out ;; *) echo "$sentence" >want-out ;; esac
+    : >want-err
+    compare "first line: $words" 0
+done <<'LINES'
+help causes|Why a message is refused.
+help profile|A profile is what is read of ISO 10161-1.
+help show|
+help check|
+help digest|
+help dump|
+help same|
+help canonicalise|
+LINES
+rm ALL
 # A topic of help is no command.
 for words in causes profile 'causes --' 'causes F'; do
     row "topic: $words" 2 '' any $words
@@ -399,16 +419,33 @@ wait
 cmp -s G OTHER || { failed=$((failed + 1)) && echo 'failed: the fifo got something else'; }
 row full-device-as-output 3 '' 'illcanon: flush fault\n' canonicalise F /dev/full
 ln -s TARGET LINK
-row link-as-output 0 '' '' canonicalise F LINK
+row link-to-an-absent-file-as-whole-output 3 '' 'illcanon: cannot replace LINK: it is a link\n' canonicalise --whole F LINK
+[ -e TARGET ] && failed=$((failed + 1)) && echo 'failed: a file was made by a link that can not be replaced'
+row link-to-an-absent-file-as-output 0 '' 'illcanon: LINK is written directly: it is a link\n' canonicalise F LINK
+{ [ -L LINK ] && cmp -s G TARGET; } || { failed=$((failed + 1)) && echo 'failed: the link is gone, or no file is made'; }
 row link-to-a-file-as-output 0 '' 'illcanon: LINK is written directly: it is a link\n' canonicalise F LINK
-row link-as-whole-output 3 '' 'illcanon: cannot replace LINK\n' canonicalise --whole F LINK
+row link-as-whole-output 3 '' 'illcanon: cannot replace LINK: it is a link\n' canonicalise --whole F LINK
 { [ -L LINK ] && cmp -s G TARGET; } || { failed=$((failed + 1)) && echo 'failed: the link is gone, or its file is not written'; }
 cp OLD OUT && ln OUT SECOND
 row second-name-as-output 0 '' 'illcanon: OUT is written directly: it has several names\n' canonicalise F OUT
-row second-name-as-whole-output 3 '' 'illcanon: cannot replace OUT\n' canonicalise --whole F OUT
+row second-name-as-whole-output 3 '' 'illcanon: cannot replace OUT: it has several names\n' canonicalise --whole F OUT
 cmp -s G SECOND || { failed=$((failed + 1)) && echo 'failed: the second name has something else'; }
 rm OUT SECOND LINK TARGET OTHER
 ls | grep part && failed=$((failed + 1)) && echo 'failed: a temporary file is left'
+
+# A new file gets the group of OUT, though the owner is the same. The group has to be another than a file gets that is made there.
+own=$(touch OWN && stat -c %g OWN && rm OWN)
+if [ "$(id -u)" = 0 ]; then other=65534; else other=$(id -G | tr ' ' '\n' | grep -vx "$own" | head -n 1); fi
+if [ -n "$other" ]; then
+    cp OLD OUT && chgrp "$other" OUT && chmod 640 OUT
+    was=$(stat -c %u:%g:%a OUT)
+    row group-alone 0 '' '' canonicalise F OUT
+    [ "$(stat -c %u:%g:%a OUT)" = "$was" ] || { failed=$((failed + 1)) && echo 'failed: owner, group or mode have changed'; }
+    [ "${was#*:}" = "$other:640" ] || { failed=$((failed + 1)) && echo 'failed: OUT had no other group'; }
+    rm OUT
+else
+    echo 'not tried: the user is in one group only, so no file has another'
+fi
 
 # A folder or a file that may not be written to, by a user who isn't root.
 as_nobody=
@@ -515,24 +552,7 @@ cp OLD OUT && touch OUT.part $(seq -f OUT.part%g 99)
 row names-are-taken 3 '' 'illcanon: cannot write OUT: all names from OUT.part to OUT.part99 are taken\n' canonicalise GOOD OUT
 rm OUT.part*
 kept names-are-taken
-# The system's name of standard output appends as `-` does.
-cp OLD LOG
-"$program" canonicalise GOOD /dev/stdout >>LOG 2>err
-status=$?
-cat OLD GOOD | cmp -s - LOG || { failed=$((failed + 1)) && echo 'failed: standard output by its name: the file was emptied'; }
-cp LOG out && cat OLD GOOD >want-out && : >want-err
-compare standard-output-by-its-name 0
-# Lines that are read of the file that they are written to would never end.
-echo 7400 >SELF
-for command in check digest; do
-    "$program" $command --lines SELF >>SELF 2>err
-    status=$?
-    printf "$same_line" >want-err
-    : >out && : >want-out
-    compare "lines-into-their-file: $command" 2
-done
-[ "$(cat SELF)" = 7400 ] || { failed=$((failed + 1)) && echo 'failed: lines were written to their own file'; }
-rm OUT LOG SELF
+rm OUT
 # Help that can't be written, and help that nobody reads.
 printf 'illcanon: flush fault\n' >want-err
 for words in --help --version 'help causes'; do
@@ -559,8 +579,255 @@ printf "error: unexpected argument '$word' found\n\n  tip: to pass '$word' as a 
 : >want-out
 compare hidden-characters-in-a-word 2
 
+# A list without names, and no FILE.
+cp OLD OUT && cp OLD KEPT && : >LIST
+empty='illcanon: the list names no file\n'
+for words in show check digest dump 'check --json' 'show --keep-going --refused KEPT' 'check --json --keep-going --refused KEPT' 'canonicalise -o OUT' \
+    'canonicalise --whole -o OUT' 'canonicalise --keep-going --refused KEPT -o OUT' 'canonicalise -o -'; do
+    row "empty-list: $words" 2 '' "$empty" $words --files-from LIST
+    row "empty-list-from-a-pipe: $words" 2 '' "$empty" $words --files-from -
+    cmp -s OLD KEPT || { failed=$((failed + 1)) && echo "failed: empty-list: $words: the file of refused messages has changed"; }
+    kept "empty-list: $words"
+done
+row empty-list-and-a-file 0 "GOOD: message 1: $normal" '' check -H --files-from LIST GOOD
+# A link to an absent file leads to OUT; and OUT has the name of the new file of another.
+rm OUT && ln -s OUT LINK && ln -s LINK TWICE && ln -s "$folder/OUT" FAR
+own='illcanon: --refused needs a file of its own\n'
+for link in LINK TWICE FAR ./LINK; do
+    row "refused-by-a-link: $link" 2 '' "$own" canonicalise --keep-going --refused $link MIDDLE OUT
+    row "out-by-a-link: $link" 2 '' "$own" canonicalise --keep-going --refused OUT MIDDLE $link
+    [ -e OUT ] && failed=$((failed + 1)) && echo "failed: refused-by-a-link: $link: OUT was made" && rm OUT
+done
+rm LINK TWICE FAR
+row out-is-the-new-file 2 '' "$own" canonicalise --keep-going --refused b MIDDLE b.part
+row out-is-the-new-file-of-many 2 '' "$own" canonicalise --keep-going --refused ./b -o b.part GOOD MIDDLE
+ls | grep '^b' && failed=$((failed + 1)) && echo 'failed: out-is-the-new-file: a file is left'
+# A file with this name is there, so the new file has another one.
+cp OLD b.part
+row out-is-no-new-file 1 '' "$refused" canonicalise --keep-going --refused b MIDDLE b.part
+{ cmp -s TWO b.part && [ "$(od -An -tx1 b | tr -d ' ')" = 7400 ]; } || { failed=$((failed + 1)) && echo 'failed: out-is-no-new-file: other octets'; }
+rm b b.part KEPT LIST
+# Lines, all of them or OUT as it was.
+printf '%s\n7400\n' $EXPIRED >LINES
+cp OLD OUT
+row lines-whole 1 '' 'illcanon: OUT stays as it was: not every line is a message\n' canonicalise --lines --whole LINES OUT
+kept lines-whole
+printf '%s\n' $INDEFINITE >LINES
+row lines-whole-and-good 0 '' '' canonicalise --lines --whole LINES OUT
+[ "$(cat OUT)" = $EXPIRED ] || { failed=$((failed + 1)) && echo 'failed: lines-whole-and-good: OUT is not the normal form'; }
+row lines-without-whole 0 '' '' canonicalise --lines LINES OUT
+rm OUT LINES
+# Standard output by each of its names appends as `-` does, and is not replaced.
+for name in - /dev/stdout /dev/fd/1 /proc/self/fd/1; do
+    case $name in /*) [ -e $name ] || { echo "not tried: $name is not there" && continue; } ;; esac
+    for words in "GOOD $name" "-o $name GOOD"; do
+        cp OLD LOG
+        "$program" canonicalise $words >>LOG 2>err
+        status=$?
+        cp LOG out && cat OLD GOOD >want-out && : >want-err
+        compare "standard output by its name: $words" 0
+    done
+    cp OLD LOG
+    "$program" canonicalise --whole GOOD $name >>LOG 2>err
+    status=$?
+    cp LOG out && cp OLD want-out
+    case $name in -) any=2 ;; *) any=3 && echo "illcanon: cannot replace $name: it is no regular file" >want-err ;; esac
+    [ $name = - ] && echo 'illcanon: --whole needs a file for OUT' >want-err
+    compare "whole standard output by its name: $name" $any
+done
+rm LOG
+# Output into its own input, which has a message in hexadecimal, so that what is written could be read again. Nothing is written.
+echo 7400 >SELF && cp SELF KEPT && ln SELF HARD && ln -s SELF SOFT && printf 'GOOD\0SELF' >LIST
+for words in 'show SELF' 'check SELF' 'digest SELF' 'dump SELF' 'show --json SELF' 'check --json SELF' 'digest --json SELF' 'dump --html SELF' 'canonicalise SELF -' 'canonicalise -o - SELF' \
+    'show --keep-going SELF' 'check --json --keep-going SELF' 'digest --keep-going SELF' 'dump --keep-going SELF' 'canonicalise --keep-going SELF -' 'check --hex SELF' \
+    'check --lines SELF' 'digest --lines SELF' 'canonicalise --lines SELF -' 'canonicalise -o - GOOD SELF' 'check GOOD SELF' 'show --json --keep-going SELF GOOD' 'dump --html GOOD SELF' \
+    'digest --files-from LIST' 'check -H --files-from SELF GOOD' 'check ./SELF' 'check HARD' 'digest SOFT' 'check --profile module SELF' 'check --keep-going --max-refused 1 SELF' \
+    'canonicalise SELF /dev/stdout' 'canonicalise -o /dev/fd/1 GOOD SELF' 'same SELF GOOD' 'same GOOD HARD'; do
+    timeout 20 "$program" $words >>SELF 2>err
+    status=$?
+    : >out && : >want-out && printf "$same_line" >want-err
+    compare "into its own input: $words" 2
+    cmp -s KEPT SELF || { failed=$((failed + 1)) && echo "failed: into its own input: $words: it has changed" && cat KEPT >SELF; }
+done
+for words in 'show -' 'check --json --keep-going -' 'digest --lines -' 'dump -' 'check GOOD -' 'canonicalise - -' 'check /dev/stdin'; do
+    timeout 20 "$program" $words <SELF >>SELF 2>err
+    status=$?
+    compare "into its own standard input: $words" 2
+    cmp -s KEPT SELF || { failed=$((failed + 1)) && echo "failed: into its own standard input: $words: it has changed" && cat KEPT >SELF; }
+done
+rm SELF KEPT HARD SOFT LIST
+# Another file may be appended to.
+cp OLD LOG
+"$program" check GOOD >>LOG 2>err
+status=$?
+cp LOG out && { cat OLD && printf "message 1: $normal"; } >want-out && : >want-err
+compare another-file-is-appended-to 0
+rm LOG
+
+# The work ends with a number of refused messages, of all files. TWICE has two of them, at 33 and 68.
+octets TWICE $EXPIRED$EMPTY$EXPIRED$EMPTY$EXPIRED
+octets ENDED $EXPIRED$INCOMPLETE
+second="illcanon: refused at 2 in message 2: $missing"
+fourth="illcanon: refused at 2 in message 4: $missing"
+one='illcanon: stopped after 1 refused message\n'
+row max-refused 1 "message 1: $normal" "$second$one" check --keep-going --max-refused 1 TWICE
+row max-refused-summary 1 "message 1: $normal" "$second${one}illcanon: left at message 2, which begins at octet 33\nillcanon: 1 file, 2 messages, 1 normal, 0 not normal, 1 refused, 35 octets, 1 left before the end\n" \
+    check --keep-going --max-refused 1 --summary TWICE
+row max-refused-is-the-last 1 "message 1: ${normal}message 3: $normal" "$second${fourth}illcanon: stopped after 2 refused messages\n" check --keep-going --max-refused=2 TWICE
+row max-refused-is-more 1 "message 1: ${normal}message 3: ${normal}message 5: $normal" "$second$fourth" check --keep-going --max-refused 3 TWICE
+row max-refused-is-the-most 1 "message 1: ${normal}message 3: ${normal}message 5: $normal" "$second$fourth" check --keep-going --max-refused 1000000 TWICE
+row max-refused-with-an-unknown-end 1 "message 1: $normal" "illcanon: $unknown$one" check --keep-going --max-refused 1 ENDED
+row max-refused-of-files 1 "MIDDLE: message 1: ${normal}MIDDLE: message 3: ${normal}TWICE: message 1: $normal" \
+    "illcanon: MIDDLE: refused at 2 in message 2: ${missing}illcanon: TWICE: refused at 2 in message 2: ${missing}illcanon: TWICE: stopped after 2 refused messages\n" \
+    check --keep-going --max-refused 2 MIDDLE TWICE ABSENT
+row max-refused-of-one-with-its-name 1 "$digest  TWICE:1\n" "illcanon: TWICE: refused at 2 in message 2: ${missing}illcanon: TWICE: stopped after 1 refused message\n" digest -H --keep-going --max-refused 1 TWICE
+row max-refused-show 1 "$(printf 'message 1 Expired\nprotocol-version-num = 2\ntransaction-id.transaction-group-qualifier = general "G"\ntransaction-id.transaction-qualifier = general "Q"\nservice-date-time.date-time-of-this-service.date = 20240229')\n" \
+    "$second$one" show --keep-going --max-refused 1 TWICE
+row max-refused-show-as-json 1 '{"number":1,"offset":0,"octets":33,"apdu":"Expired","normal":true,'"$value" "$second$one" show --json --keep-going --max-refused 1 TWICE
+"$program" dump MIDDLE 2>err >want-out
+printf "$second$one" >want-err
+"$program" dump --keep-going --max-refused 1 TWICE >out 2>err
+status=$?
+compare max-refused-dump 1
+refused_json='{"number":2,"offset":33,"octets":2,"apdu":"Expired","refused":{"cause":"Missing","offset":2,"kind":"invalid","part":"Expired.protocol-version-num","path":"Expired","found":"the end of the element","due":["[UNIVERSAL 16] SEQUENCE","[0] protocol-version-num"]}}\n'
+row max-refused-json 1 '{"number":1,"offset":0,"octets":33,"apdu":"Expired","normal":true}\n'"$refused_json"'{"summary":{"files":1,"messages":2,"normal":1,"not_normal":0,"refused":1,"not_read":0,"invalid":1,"octets":35,"not_opened":0,"left":1}}\n' \
+    "${one}illcanon: left at message 2, which begins at octet 33\n" check --json --keep-going --max-refused 1 --summary TWICE
+printf '%s\n' $EXPIRED $EMPTY $EXPIRED $EMPTY >in
+row max-refused-in-hexadecimal 1 "$EXPIRED\n" "$second$one" canonicalise --hex --keep-going --max-refused 1 - -
+: >in
+cp OLD OUT && cp OLD KEPT
+row max-refused-canonicalise 1 '' "$second${fourth}illcanon: stopped after 2 refused messages\n" canonicalise --keep-going --max-refused 2 --refused KEPT TWICE OUT
+{ cmp -s TWO OUT && [ "$(od -An -tx1 KEPT | tr -d ' ')" = 74007400 ]; } || { failed=$((failed + 1)) && echo 'failed: max-refused-canonicalise: other octets'; }
+row max-refused-of-many-into-one 1 '' "illcanon: MIDDLE: refused at 2 in message 2: ${missing}illcanon: TWICE: refused at 2 in message 2: ${missing}illcanon: TWICE: stopped after 2 refused messages\n" \
+    canonicalise --keep-going --max-refused 2 --refused KEPT -o OUT MIDDLE TWICE ABSENT
+{ cat TWO GOOD | cmp -s - OUT && [ "$(od -An -tx1 KEPT | tr -d ' ')" = 74007400 ]; } || { failed=$((failed + 1)) && echo 'failed: max-refused-of-many-into-one: other octets'; }
+cp OLD OUT
+row max-refused-whole 1 '' "$second$one" canonicalise --whole --keep-going --max-refused 1 TWICE OUT
+kept max-refused-whole
+for command in show check digest dump 'canonicalise -o OUT'; do
+    row "max-refused-needs: $command" 2 '' 'illcanon: --max-refused needs --keep-going\n' $command --max-refused 1 GOOD
+    for number in 0 1000001; do
+        row "max-refused-$number: $command" 2 '' "error: invalid value '$number' for '--max-refused <N>': $number is not in 1..=1000000$help" $command --keep-going --max-refused $number GOOD
+    done
+done
+row same-has-no-max-refused 2 '' any same --max-refused 1 GOOD GOOD
+rm OUT KEPT TWICE ENDED
+
+# More than 1,000,000 messages: the numbers at the end say where the file was left. Of each message the file FULL has 33 octets, EMPTIES 2.
+cat MANY MANY MANY MANY MANY >SOME && for _ in $(seq 500); do cat SOME; done >FULL && cat GOOD >>FULL
+head -c 2000002 /dev/zero | sed 's/\x00\x00/t\x00/g' >EMPTIES
+more='illcanon: more than 1000000 messages\n'
+for words in check digest show 'check --json' 'digest --json' 'canonicalise -o -' 'check --keep-going' 'check --json --keep-going' 'show --json --keep-going' 'canonicalise --keep-going -o -'; do
+    "$program" $words --summary FULL 2>err | tail -n 1 >out
+    status=${PIPESTATUS[0]}
+    numbers='illcanon: 1 file, 1000000 messages, 1000000 normal, 0 not normal, 0 refused, 33000000 octets, 1 left before the end\n'
+    case $words in
+        check*--json* | digest*--json*)
+            numbers=''
+            echo '{"summary":{"files":1,"messages":1000000,"normal":1000000,"not_normal":0,"refused":0,"not_read":0,"invalid":0,"octets":33000000,"not_opened":0,"left":1}}' >want-out
+            ;;
+        *) cp out want-out ;;
+    esac
+    printf "${more}illcanon: left at message 1000001, which begins at octet 33000000\n$numbers" >want-err
+    compare "left after a million: $words" 1
+done
+for words in 'check --keep-going' 'canonicalise --keep-going -o -' 'check --json --keep-going'; do
+    "$program" $words --summary EMPTIES 2>&1 | tail -n 4 | grep -v 'refused at\|"refused":{' >out
+    status=${PIPESTATUS[0]}
+    case $words in
+        *--json*) numbers='{"summary":{"files":1,"messages":1000000,"normal":0,"not_normal":0,"refused":1000000,"not_read":0,"invalid":1000000,"octets":2000000,"not_opened":0,"left":1}}\n' ;;
+        *) numbers='illcanon: 1 file, 1000000 messages, 0 normal, 0 not normal, 1000000 refused, 2000000 octets, 1 left before the end\n' ;;
+    esac
+    printf "${more}illcanon: left at message 1000001, which begins at octet 2000000\n$numbers" >want-out
+    : >err && : >want-err
+    compare "left after a million refused ones: $words" 1
+done
+
+# How far the work is, on a terminal: the share of IN, where OUT takes nothing for more than two seconds.
+if command -v script >/dev/null; then
+    mkfifo SLOW
+    (exec <SLOW; sleep 2.3; cat >/dev/null) &
+    script -qec "'$program' canonicalise --summary FULL SLOW" SCREEN </dev/null >/dev/null
+    wait
+    tr '\r' '\n' <SCREEN | sed 's/\x1b\[K//' | grep -c '^illcanon: 1 file, [0-9]* octets, [0-9]* %, [0-9]* octets/s, [0-9]* s left$' >out
+    if [ "$(cat out)" -gt 0 ] && tr '\r' '\n' <SCREEN | grep -q '1 file, 1000000 messages'; then
+        passed=$((passed + 1))
+    else
+        failed=$((failed + 1)) && echo 'failed: progress of canonicalise IN OUT' && head -c 2000 SCREEN | cat -v
+    fi
+    rm SLOW SCREEN
+else
+    echo 'not tried: script is not installed, so no terminal shows how far canonicalise is'
+fi
+rm FULL EMPTIES SOME
+
+# Files of two devices that have one number are two files. Two file systems in memory, which only this shell sees, number their files
+# alike; else a file in /dev/shm gets the number of one of the system's.
+mkdir ONE OTHER
+cat >mounts <<'MOUNTS'
+mount -t tmpfs one ONE && mount -t tmpfs other OTHER && cp F ONE/IN && cp OLD OTHER/OUT && [ "$(stat -c %i ONE/IN)" = "$(stat -c %i OTHER/OUT)" ] || exit 99
+"$program" canonicalise ONE/IN OTHER/OUT || exit
+cmp -s G OTHER/OUT || echo OUT is not the normal form
+# A file that is a mount of its own stays as it was.
+cp OLD MOUNTED && mount --bind F MOUNTED || exit 98
+"$program" canonicalise TWO MOUNTED
+[ $? = 3 ] && cmp -s KEPT MOUNTED || echo a mount was replaced
+MOUNTS
+cp F KEPT
+export program
+tried=no
+for way in 'unshare -m' 'unshare -rm'; do
+    $way true 2>/dev/null || continue
+    $way bash mounts >out 2>err
+    status=$?
+    [ $status = 99 ] && continue
+    tried=yes
+    : >want-out && echo 'illcanon: cannot replace MOUNTED: resource busy' >want-err
+    [ $status = 98 ] && status=0 && : >want-err && echo 'not tried: no file can be mounted'
+    compare 'files of two devices with one number' 0
+    break
+done
+if [ $tried = no ] && [ -w /dev/shm ] && [ -d /sys ]; then
+    shared=$(mktemp /dev/shm/illcanon.XXXXXX)
+    twin=$(find /sys -xdev -type f -readable -inum "$(stat -c %i "$shared")" 2>/dev/null | head -n 1)
+    if [ -n "$twin" ]; then
+        tried=yes
+        "$program" canonicalise --keep-going "$twin" "$shared" >out 2>err
+        status=$?
+        if [ $status != 2 ] && ! grep -q 'same file' err; then passed=$((passed + 1)); else failed=$((failed + 1)) && echo 'failed: files of two devices are one' && cat err; fi
+    fi
+    rm "$shared"
+fi
+[ $tried = yes ] || { passed=$((passed + 1)) && echo 'not tried: no two devices have files with one number here'; }
+rm -rf ONE OTHER KEPT MOUNTED mounts
+
+# Where the system has no name for standard input, OUT that can't be replaced may be that, and is not written.
+if [ "$(id -u)" = 0 ] && command -v chroot >/dev/null; then
+    mkdir ROOT && cp "$program" ROOT/illcanon
+    for library in $(ldd "$program" | grep -o '/[^ ]*'); do mkdir -p "ROOT${library%/*}" && cp -L "$library" "ROOT$library"; done
+    if chroot ROOT /illcanon --version >out 2>err; then
+        cp F ROOT/OUT && ln ROOT/OUT ROOT/SECOND
+        for words in 'canonicalise - OUT' 'canonicalise -o OUT -' 'canonicalise --keep-going -o OUT -'; do
+            chroot ROOT /illcanon $words <ROOT/OUT >out 2>err
+            status=$?
+            : >want-out && echo 'illcanon: cannot replace OUT: it has several names' >want-err
+            compare "no name for standard input: $words" 3
+            cmp -s F ROOT/OUT || { failed=$((failed + 1)) && echo "failed: no name for standard input: $words: OUT has changed" && cat F >ROOT/OUT; }
+        done
+        rm ROOT/SECOND
+        chroot ROOT /illcanon canonicalise - OUT <ROOT/OUT >out 2>err
+        status=$?
+        : >want-err
+        compare 'no name for standard input, and OUT can be replaced' 0
+        cmp -s G ROOT/OUT || { failed=$((failed + 1)) && echo 'failed: no name for standard input: OUT is not the normal form'; }
+    else
+        echo 'not tried: the program does not run in a folder of its own'
+    fi
+    rm -rf ROOT
+fi
+
 # Names in lines: one line each, and the shell reads it back.
-for name in 'a b' "it's" 'K\303\266ln' 'x\ny' '\033[2J' 'caf\351' '\302\205' "a\\tb'c" "\$'\\\\n'" 'gpj.\342\200\256reb'; do
+for name in 'a b' "it's" 'K\303\266ln' 'x\ny' '\033[2J' 'caf\351' '\302\205' "a\\tb'c" "\$'\\\\n'" 'gpj.\342\200\256reb' 'a\342\200\251b' 'a\315\217b'; do
     word=$(printf "$name.")
     word=${word%.}
     "$program" check "$word" >out 2>err
@@ -574,6 +841,18 @@ for name in 'a b' "it's" 'K\303\266ln' 'x\ny' '\033[2J' 'caf\351' '\302\205' "a\
         failed=$((failed + 1)) && echo "failed: name $name: status $status" && cat -v err
     fi
 done
+
+# Letters that aren't seen, or end a line, are shown by their octets: U+202E, U+2028, U+2029, U+034F, U+115F, U+180B, U+FE0F, U+E0100.
+for octets in '\342\200\256' '\342\200\250' '\342\200\251' '\315\217' '\341\205\237' '\341\240\213' '\357\270\217' '\363\240\204\200'; do
+    row "hidden letter $octets" 3 '' "illcanon: cannot open \$'a${octets//\\/\\\\}b'\n" check "$(printf "a${octets}b")"
+done
+# Why a file can't be opened, of several files.
+long=$(printf 'n%.0s' $(seq 256))
+ln -s ITSELF ITSELF
+row reasons-of-names 3 "GOOD: message 1: $normal" "illcanon: cannot open $long: name too long\nillcanon: cannot open ITSELF: too many links\n" check "$long" ITSELF GOOD
+row reason-of-one-name 3 '' "illcanon: cannot open $long: name too long\n" check -H "$long"
+row link-to-itself-as-output 3 '' 'illcanon: cannot open ITSELF\n' canonicalise GOOD ITSELF
+rm ITSELF
 
 cd / && rm -rf "$folder"
 echo "$passed passed, $failed failed"
