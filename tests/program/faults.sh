@@ -42,6 +42,38 @@ for _ in 1 2 3 4 5 6 7 8 9 10 11 12 13 14 15 16 17; do cat MANY MANY >MORE && mv
 status=${PIPESTATUS[0]}
 expect closed-pipe 3 ''
 
+# Refused messages have lines of JSON on standard output. The work ends with the first that can't be written, and nothing is said where nobody
+# reads them any more: of an input that comes for ever, the program takes no more than it has taken until then. EMPTY is refused at its end.
+head -c 800000 /dev/zero | sed 's/\x00\x00/t\x00/g' >EMPTY
+# pieces COUNT: the octets of EMPTY this many times, and then the number of those that were taken into the file TAKEN
+pieces() {
+    local count=0
+    trap '' PIPE
+    while [ $count -lt "$1" ] && cat EMPTY 2>/dev/null; do count=$((count + 1)); echo $count >TAKEN; done
+}
+for words in 'check --json' 'digest --json'; do
+    "$program" $words --keep-going EMPTY 2>err | head -c 10 >PART
+    status=${PIPESTATUS[0]}
+    expect "closed-pipe: $words" 3 ''
+    echo 0 >TAKEN
+    pieces 500 | timeout 60 "$program" $words --keep-going - 2>err | true
+    status=${PIPESTATUS[1]}
+    expect "closed-pipe-of-a-long-input: $words" 3 ''
+    [ "$(cat TAKEN)" -le 1 ] || { failed=$((failed + 1)) && echo "failed: closed-pipe-of-a-long-input: $words: $(cat TAKEN) pieces of the input were taken"; }
+    echo 0 >TAKEN
+    pieces 500 | timeout 60 "$program" $words --keep-going - 2>err >/dev/full
+    status=${PIPESTATUS[1]}
+    expect "full-device-of-a-long-input: $words" 3 'illcanon: \(write fault after 0 octets\|flush fault\)'
+    [ "$(cat TAKEN)" -le 1 ] || { failed=$((failed + 1)) && echo "failed: full-device-of-a-long-input: $words: $(cat TAKEN) pieces of the input were taken"; }
+    if command -v strace >/dev/null && strace -o CALLS true 2>/dev/null; then
+        strace -o CALLS -e trace=write "$program" $words --keep-going EMPTY >/dev/full 2>err
+        status=$?
+        expect "full-device: $words" 3 'illcanon: \(write fault after 0 octets\|flush fault\)'
+        # The octets that could not be written are tried again where the output is flushed and closed.
+        [ "$(grep -c '^write(1' CALLS)" -le 3 ] || { failed=$((failed + 1)) && echo "failed: full-device: $words: $(grep -c '^write(1' CALLS) writes"; }
+    fi
+done
+
 # A file of at most one block, as standard output; and as OUT, which isn't made then.
 (trap '' XFSZ && ulimit -f 1 && exec "$program" canonicalise MANY - >PART 2>err)
 status=$?
@@ -64,6 +96,55 @@ cp ONE OUT
 status=$?
 expect memory-of-out 3 'illcanon: out of memory'
 cmp -s ONE OUT || { failed=$((failed + 1)) && echo 'failed: memory-of-out: OUT has changed'; }
+
+# The file of refused messages stays as it was where memory runs out, OUT or standard output can't be written, or an input can't be read, and
+# no new file is left. Where nothing fails, it has the messages.
+printf 't\0' >BAD
+cat ONE BAD ONE LARGE BAD >MIXED
+cat MANY BAD >LONG
+echo old >OLD
+mkdir FOLDER
+# stays NAME STATUS PATTERN: as expect, and R is as it was
+stays() {
+    expect "$@"
+    cmp -s OLD R || { failed=$((failed + 1)) && echo "failed: $1: the file of refused messages has changed"; }
+    [ ! -e R.part ] || { failed=$((failed + 1)) && rm R.part && echo "failed: $1: a new file is left"; }
+}
+for words in 'canonicalise -' 'canonicalise OUT' 'check' 'check --json' 'digest' 'digest --json' 'show' 'show --json'; do
+    out=''
+    set -- $words
+    case $words in canonicalise*) out=$2 && set -- canonicalise ;; esac
+    keep='--keep-going --refused R'
+    cp OLD R && cp ONE OUT
+    (ulimit -v 4500 && exec "$program" "$@" $keep MIXED $out >PART 2>err)
+    status=$?
+    sed -i '/refused at/d' err
+    stays "memory-of-refused: $words" 3 'illcanon: out of memory'
+    case $out in *OUT) cmp -s ONE OUT || { failed=$((failed + 1)) && echo 'failed: memory-of-refused: OUT has changed'; } ;; esac
+    "$program" "$@" $keep FOLDER $out >PART 2>err
+    status=$?
+    stays "folder-with-refused: $words" 3 'illcanon: read fault'
+    case $out in *OUT) cmp -s ONE OUT || { failed=$((failed + 1)) && echo 'failed: folder-with-refused: OUT has changed'; } ;; esac
+    "$program" "$@" $keep LONG ${out/OUT//dev/full} >/dev/full 2>err
+    status=$?
+    sed -i '/refused at/d' err
+    stays "full-device-with-refused: $words" 3 'illcanon: \(write fault after [0-9]* octets\|flush fault\)'
+    if [ "$out" != OUT ]; then
+        "$program" "$@" $keep LONG $out 2>err | head -c 10 >PART
+        status=${PIPESTATUS[0]}
+        sed -i '/refused at/d' err
+        stays "closed-pipe-with-refused: $words" 3 ''
+    fi
+    "$program" "$@" $keep MIXED $out >PART 2>err
+    status=$?
+    [ $status = 1 ] && cat BAD BAD | cmp -s - R || { failed=$((failed + 1)) && echo "failed: refused messages: $words: status $status, or not the two"; }
+done
+# Of several files one can't be read.
+cp OLD R
+"$program" check --keep-going --refused R MIXED FOLDER >PART 2>err
+status=$?
+sed -i '/refused at/d' err
+stays folder-among-files 3 'illcanon: FOLDER: read fault\|illcanon: cannot open FOLDER: is a directory'
 
 # A small stack.
 (ulimit -s 256 && exec "$program" canonicalise LARGE OUT 2>err)
