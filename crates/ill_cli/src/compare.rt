@@ -7,12 +7,13 @@ ghost use Rattle.ill_commands.specs.Compared.{SameDone, SameFails};
 use crate::plan::ReadOptions;
 use ber_core::{Sink, Source, ToWrite};
 use ill_commands::{RunFault, Verdict, run_same_as};
-use ill_files::{ProgramError, open_alone};
+use ill_files::{FileId, ProgramError, open_alone};
 use std::alloc::Global;
 use std::io::{self, BufWriter, Write};
 use std::rt::Files;
 
-/// Compares two inputs, and prints whether they hold the same message. Both are opened before either is read.
+/// Compares two inputs, and prints whether they hold the same message. Both are opened before either is read. Standard output must be neither
+/// of them.
 pub fn compare<R: Print + Input + Files + AllocGlobal>(
     rt: &R,
     reading: ReadOptions,
@@ -20,6 +21,11 @@ pub fn compare<R: Print + Input + Files + AllocGlobal>(
     second: &str,
 ) -> Result<Verdict, ProgramError> {
     let alloc = rt.alloc();
+    let written = FileId::of_standard_output(rt);
+    let is_read = FileId::of_input(rt, first) == written || FileId::of_input(rt, second) == written;
+    if written.is_some() && is_read {
+        return Err(ProgramError::SameFile);
+    }
     let mut first = open_alone(rt, first)?;
     let mut second = open_alone(rt, second)?;
     let mut writer = BufWriter::new(alloc, io::writer(rt)).map_err(

@@ -9,20 +9,29 @@ use std::env::FillError;
 use std::fmt::Display;
 use std::fs::{File, FileTimes, Files, Metadata, OpenFile, OpenOptions, Permissions};
 use std::io::{self, BufRead, ErrorKind, Lines, Read, Seek, SeekFrom, Write};
+use std::os::unix::fs::MetadataExt;
+use std::path::PathBuf;
 use std::rt::Env;
 use std::time::{Clock, Duration};
 
 /// The calls that fail.
 #[derive(Clone, Copy)]
 pub struct Faults {
-    /// Standard output takes this many octets, and a file that is written too.
+    /// Standard output takes this many octets, and so does a file that is written, unless `file_room` says otherwise.
     pub room: Option<usize>,
+    /// A file that is written takes this many octets.
+    pub file_room: Option<usize>,
+    /// Only the first write past the room fails.
+    pub once: bool,
+    /// A write past the room fails because nobody reads the output any more.
+    pub closed: bool,
     /// A file that is read gives this many octets before a read fails.
     pub readable: Option<usize>,
     pub sync: bool,
-    pub rename: bool,
-    /// No new file can be made.
-    pub create_new: bool,
+    /// No file can be renamed, for this reason.
+    pub rename: Option<ErrorKind>,
+    /// No new file can be made, for this reason.
+    pub create_new: Option<ErrorKind>,
     /// Another file takes the name of a new one before it is renamed.
     pub swapped: bool,
 }
@@ -30,12 +39,48 @@ pub struct Faults {
 /// No call fails.
 pub const NO_FAULTS: Faults = Faults {
     room: None,
+    file_room: None,
+    once: false,
+    closed: false,
     readable: None,
     sync: false,
-    rename: false,
-    create_new: false,
+    rename: None,
+    create_new: None,
     swapped: false,
 };
+
+impl Faults {
+    /// The error of a write past the room.
+    fn of_write(&self) -> io::Error {
+        if self.closed {
+            io::Error::from(ErrorKind::BrokenPipe)
+        } else {
+            fails()
+        }
+    }
+}
+
+/// The calls on files that are watched.
+#[derive(Drop)]
+pub struct Watch {
+    /// The number of folders that were synced.
+    pub synced_folders: Cell<u32>,
+    /// The number of other files that were synced.
+    pub synced_files: Cell<u32>,
+    /// The mode that a file had before its mode was set.
+    pub mode_before: Cell<u32>,
+}
+
+impl Watch {
+    /// No call was made yet.
+    pub fn new() -> Watch {
+        Watch {
+            synced_folders: Cell::new(0),
+            synced_files: Cell::new(0),
+            mode_before: Cell::new(0),
+        }
+    }
+}
 
 /// The arguments and the files that the program starts with.
 #[derive(Clone, Copy)]
@@ -48,6 +93,7 @@ pub struct Start<'a> {
     pub faults: Faults,
     /// Standard error is a terminal, and this number of milliseconds goes by until the clock is read the next time.
     pub terminal: Option<u64>,
+    pub watch: &'a Watch,
 }
 
 /// A runtime whose words and standard streams are values, and whose files are the host's.
@@ -57,6 +103,8 @@ pub struct Fake<'a> {
     output: RefCell<Vec<u8>>,
     errors: RefCell<Vec<u8>>,
     milliseconds: Cell<u64>,
+    /// True if a write to standard output failed.
+    failed: Cell<bool>,
 }
 
 /// The state that the program left.
@@ -96,31 +144,56 @@ impl Alloc for Fake<'_> {
 impl Print for Fake<'_> {
     fn print<D: Display + Drop>(&self, value: D) -> io::Result<()> {
         let text = format!(in self.alloc(); "{value}").map_err(|_| fails())?;
-        append(&self.output, text.as_bytes())
+        self.put_all(text.as_bytes())
     }
 
     fn println<D: Display + Drop>(&self, value: D) -> io::Result<()> {
         let text = format!(in self.alloc(); "{value}\n").map_err(|_| fails())?;
-        append(&self.output, text.as_bytes())
+        self.put_all(text.as_bytes())
     }
 
     fn write_all(&self, bytes: &[u8]) -> io::Result<()> {
-        append(&self.output, bytes)
+        self.put_all(bytes)
     }
 
     fn write_some(&self, bytes: &[u8]) -> io::Result<usize>
         ensures bound { IfOk result (λ n. n ≤ length bytes.now) }
     {
-        let Some(room) = self.start.faults.room else {
-            append(&self.output, bytes)?;
-            return Ok(bytes.len());
+        self.put(bytes)
+    }
+}
+
+impl Fake<'_> {
+    /// Writes the first of these octets to standard output, as far as there is room, and returns how many.
+    fn put(&self, octets: &[u8]) -> io::Result<usize>
+        ensures bound { IfOk result (λ n. n ≤ length octets.now) }
+    {
+        let faults = self.start.faults;
+        let room = if faults.once && self.failed.get() {
+            None
+        } else {
+            faults.room
         };
-        let count = room.saturating_sub(len_of(&self.output)).min(bytes.len());
-        if count == 0 {
-            return Err(fails());
+        let count = match room {
+            Some(room) => room.saturating_sub(len_of(&self.output)).min(octets.len()),
+            None => octets.len(),
+        };
+        if count == 0 && !octets.is_empty() {
+            self.failed.set(true);
+            return Err(faults.of_write());
         }
-        append(&self.output, &bytes[..count])?;
+        append(&self.output, &octets[..count])?;
         Ok(count)
+    }
+
+    /// Writes octets to standard output, or the first of them where there is no room for more, and fails.
+    fn put_all(&self, octets: &[u8]) -> io::Result<()> {
+        let count = self.put(octets)?;
+        if count < octets.len() {
+            self.failed.set(true);
+            return Err(self.start.faults.of_write());
+        }
+        Ok(())
     }
 }
 
@@ -149,12 +222,12 @@ impl Clock for Fake<'_> {
     }
 }
 
-impl Host for Fake<'_> {
+impl<'a> Host for Fake<'a> {
     fn is_terminal(&self) -> bool {
         self.start.terminal.is_some()
     }
 
-    fn change_owner(&self, file: &FakeFile, owner: u32, group: u32) -> io::Result<()> {
+    fn change_owner(&self, file: &FakeFile<'a>, owner: u32, group: u32) -> io::Result<()> {
         self.host.change_owner(&file.inner, owner, group)
     }
 }
@@ -201,13 +274,16 @@ impl Env for Fake<'_> {
 
 /// A file of the host whose calls may fail.
 #[derive(Drop)]
-pub struct FakeFile {
+pub struct FakeFile<'a> {
     inner: File,
     faults: Faults,
     moved: usize,
+    /// True if a write failed.
+    failed: bool,
+    watch: &'a Watch,
 }
 
-impl Read for FakeFile {
+impl Read for FakeFile<'_> {
     fn read(&mut self, buf: &mut [u8]) -> io::Result<usize> {
         let Some(most) = self.faults.readable else {
             return self.inner.read(buf);
@@ -222,14 +298,20 @@ impl Read for FakeFile {
     }
 }
 
-impl Write for FakeFile {
+impl Write for FakeFile<'_> {
     fn write(&mut self, buf: &[u8]) -> io::Result<usize> {
-        let Some(most) = self.faults.room else {
+        let room = if self.faults.once && self.failed {
+            None
+        } else {
+            self.faults.file_room.or(self.faults.room)
+        };
+        let Some(most) = room else {
             return self.inner.write(buf);
         };
         let count = most.saturating_sub(self.moved).min(buf.len());
         if count == 0 {
-            return Err(fails());
+            self.failed = true;
+            return Err(self.faults.of_write());
         }
         let written = self.inner.write(&buf[..count])?;
         self.moved = self.moved.saturating_add(written);
@@ -241,13 +323,13 @@ impl Write for FakeFile {
     }
 }
 
-impl Seek for FakeFile {
+impl Seek for FakeFile<'_> {
     fn seek(&mut self, to: SeekFrom) -> io::Result<u64> {
         self.inner.seek(to)
     }
 }
 
-impl OpenFile for FakeFile {
+impl OpenFile for FakeFile<'_> {
     fn metadata(&self) -> io::Result<Metadata> {
         self.inner.metadata()
     }
@@ -260,6 +342,12 @@ impl OpenFile for FakeFile {
         if self.faults.sync {
             return Err(fails());
         }
+        let synced = if self.inner.metadata()?.is_dir() {
+            &self.watch.synced_folders
+        } else {
+            &self.watch.synced_files
+        };
+        synced.set(synced.get().saturating_add(1));
         self.inner.sync_all()
     }
 
@@ -268,6 +356,8 @@ impl OpenFile for FakeFile {
     }
 
     fn set_permissions(&self, perm: Permissions) -> io::Result<()> {
+        let mode = self.inner.metadata()?.mode() & 0o7777;
+        self.watch.mode_before.set(mode);
         self.inner.set_permissions(perm)
     }
 
@@ -285,6 +375,7 @@ impl<'a> Fake<'a> {
             output: RefCell::new(Vec::new(host.alloc())),
             errors: RefCell::new(Vec::new(host.alloc())),
             milliseconds: Cell::new(0),
+            failed: Cell::new(false),
         }
     }
 
@@ -296,6 +387,7 @@ impl<'a> Fake<'a> {
             output,
             errors,
             milliseconds: _,
+            failed: _,
         } = self;
         Ended {
             status,
@@ -316,19 +408,23 @@ impl Fake<'_> {
     }
 }
 
-impl Files for Fake<'_> {
-    type File = FakeFile;
+impl<'a> Files for Fake<'a> {
+    type File = FakeFile<'a>;
 
     type Dir = <HostRuntime as Files>::Dir;
 
-    fn open_file(&self, how: &OpenOptions, path: &str) -> io::Result<FakeFile> {
-        if how.asks_create_new() && self.start.faults.create_new {
-            return Err(io::Error::from(ErrorKind::PermissionDenied));
+    fn open_file(&self, how: &OpenOptions, path: &str) -> io::Result<FakeFile<'a>> {
+        if let Some(kind) = self.start.faults.create_new {
+            if how.asks_create_new() {
+                return Err(io::Error::from(kind));
+            }
         }
         Ok(FakeFile {
             inner: self.host.open_file(how, self.path(path)?)?,
             faults: self.start.faults,
             moved: 0,
+            failed: false,
+            watch: self.start.watch,
         })
     }
 
@@ -347,13 +443,17 @@ impl Files for Fake<'_> {
         self.host.symlink_metadata(path)
     }
 
+    fn read_link<B: Allocator>(&self, alloc: B, path: &str) -> io::Result<PathBuf<B>> {
+        self.host.read_link(alloc, path)
+    }
+
     fn copy(&self, from: &str, to: &str) -> io::Result<u64> {
         self.host.copy(from, to)
     }
 
     fn rename(&self, from: &str, to: &str) -> io::Result<()> {
-        if self.start.faults.rename {
-            return Err(fails());
+        if let Some(kind) = self.start.faults.rename {
+            return Err(io::Error::from(kind));
         }
         self.host.rename(from, to)
     }

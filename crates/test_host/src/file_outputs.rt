@@ -1,5 +1,5 @@
 //! Outputs that are files with a mode, with more than one name, or with another file beside them.
-use crate::fake::{Ended, Faults, NO_FAULTS, Start};
+use crate::fake::{Ended, Faults, NO_FAULTS, Start, Watch};
 use crate::runs::Octets::Repeated;
 use crate::runs::{EXPIRED, INDEFINITE, Program, enter, holds, leave, run};
 use std::alloc::AllocError;
@@ -17,6 +17,7 @@ fn canonicalise<'n, P: Program>(rt: &HostRuntime, input: &'n [u8], output: &'n [
             standard: None,
             faults: NO_FAULTS,
             terminal: None,
+            watch: &Watch::new(),
         },
     )
 }
@@ -56,6 +57,32 @@ fn is_replaced<P: Program>(rt: &HostRuntime) -> Result<bool, Fail> {
     )
 }
 
+/// Tells whether a new file is for its owner alone until it has its mode, and is synced, and then the folder that has its name.
+fn is_private_and_synced<P: Program>(rt: &HostRuntime) -> Result<bool, Fail> {
+    fs::write(rt, "folder/kept", b"old")?;
+    fs::set_permissions(rt, "folder/kept", Permissions::from_mode(0o640))?;
+    let watch = Watch::new();
+    let words: [&[u8]; 3] = [b"canonicalise", b"B", b"folder/kept"];
+    let ended = run::<P>(
+        rt,
+        Start {
+            words: &words,
+            input: b"",
+            standard: None,
+            faults: NO_FAULTS,
+            terminal: None,
+            watch: &watch,
+        },
+    );
+    Ok(
+        ended.status == 0
+            && has_form(rt, "folder/kept")?
+            && watch.mode_before.get() == 0o600
+            && watch.synced_files.get() == 1
+            && watch.synced_folders.get() == 1,
+    )
+}
+
 /// Tells whether a file of two names is written under both.
 fn keeps_its_names<P: Program>(rt: &HostRuntime) -> Result<bool, Fail> {
     fs::write(rt, "one", b"old")?;
@@ -68,12 +95,12 @@ fn keeps_its_names<P: Program>(rt: &HostRuntime) -> Result<bool, Fail> {
     )
 }
 
-/// Tells whether a link stays, and the file is made that it leads to, or written if it is there.
+/// Tells whether a link stays, and the file is made that it leads to, or written if it is there, each with a line.
 fn keeps_the_link<P: Program>(rt: &HostRuntime) -> Result<bool, Fail> {
     symlink(rt, "target", "link")?;
     let line = "illcanon: link is written directly: it is a link\n";
     Ok(
-        goes_to::<P>(rt, "link")?
+        goes_directly_to::<P>(rt, "link", line)?
             && has_form(rt, "target")?
             && goes_directly_to::<P>(rt, "link", line)?
             && fs::symlink_metadata(rt, "link")?.is_symlink(),
@@ -139,11 +166,13 @@ fn keeps_what_another_took<P: Program>(rt: &HostRuntime) -> Result<bool, Fail> {
             standard: None,
             faults,
             terminal: None,
+            watch: &Watch::new(),
         },
     );
     Ok(
         ended.status == 3
-            && ended.errors.as_slice() == b"illcanon: cannot replace swapped\n".as_slice()
+            && ended.errors.as_slice()
+                == b"illcanon: cannot replace swapped: another file has the name of the new one\n".as_slice()
             && fs::read(rt, "swapped")?.as_slice() == b"old".as_slice()
             && fs::exists(rt, "swapped.part")?,
     )
@@ -185,6 +214,8 @@ fn first_wrong_here<P: Program>(rt: &HostRuntime) -> Result<Option<&'static str>
         Some("an absent file")
     } else if !is_replaced::<P>(rt)? {
         Some("a file with a mode")
+    } else if !is_private_and_synced::<P>(rt)? {
+        Some("a file in a folder")
     } else if !keeps_its_names::<P>(rt)? {
         Some("a file of two names")
     } else if !keeps_the_link::<P>(rt)? {

@@ -7,10 +7,10 @@ mod file_outputs;
 mod folders;
 mod runs;
 
-pub use fake::{Ended, Fake, FakeFile, Faults, NO_FAULTS, Start};
+pub use fake::{Ended, Fake, FakeFile, Faults, NO_FAULTS, Start, Watch};
 pub use file_outputs::first_wrong_output;
 pub use folders::folder;
 pub use runs::{
     BEFORE, EXPIRED, INDEFINITE, Octets, Program, QUIET, Row, comes_true, enter, fail_with, holds,
-    leave, run, run_line, test_rows,
+    leave, run, run_line, run_with_faults, test_rows,
 };

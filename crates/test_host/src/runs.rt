@@ -1,5 +1,5 @@
 //! Runs of a program in a folder with files.
-use crate::fake::{Ended, Fake, Faults, NO_FAULTS, Start};
+use crate::fake::{Ended, Fake, Faults, NO_FAULTS, Start, Watch};
 use crate::folders::folder;
 use std::alloc::AllocError;
 use std::fs;
@@ -76,7 +76,7 @@ pub const QUIET: Row = Row {
 /// text as a VisibleString, and cut short with an octet after it that begins nothing that is due. In `first`, `middle`, `last` and `endless`
 /// a message is refused: one with nothing in it, whose end is known, or one without its second part, whose end mark is missing. E and F are an
 /// EXPIRED with an extension, in normal form and spelled in another way, which only the module profile reads; G is a refused message and E.
-static FILES: [(&str, &str); 18] = [
+static FILES: [(&str, &str); 21] = [
     (
         "A",
         "741f301d800102a10aa1031b0147a2031b0151a20ca00a80083230323430323239",
@@ -132,6 +132,14 @@ static FILES: [(&str, &str); 18] = [
         "many",
         "741f301d800102a10aa1031b0147a2031b0151a20ca00a80083230323430323239*1000",
     ),
+    // 1,200,000 octets of a message are more than a message may have.
+    (
+        "long",
+        "741f301d800102a10aa1031b0147a2031b0151a20ca00a80083230323430323239 748400124f80 00*1200000 741f301d800102a10aa1031b0147a2031b0151a20ca00a80083230323430323239",
+    ),
+    // A refused message of 20,004 octets, and twenty thousand of two octets each.
+    ("large", "74824e20 05*20000"),
+    ("refusals", "7400*20000"),
     // A list of a thousand names.
     ("thousand", "4100*1000"),
     // A name with a line end.
@@ -173,6 +181,7 @@ fn write_files(rt: &HostRuntime) -> Result<(), Fail> {
     for (name, text) in &TEXTS {
         fs::write(rt, name, *text)?;
     }
+    fs::create_dir(rt, "folder")?;
     Ok(())
 }
 
@@ -235,6 +244,27 @@ pub fn run_line<P: Program>(
             standard: None,
             faults: NO_FAULTS,
             terminal: None,
+            watch: &Watch::new(),
+        },
+    ))
+}
+
+/// Runs the program on the words of a line, where these calls fail.
+pub fn run_with_faults<P: Program>(
+    rt: &HostRuntime,
+    line: &'static str,
+    faults: Faults,
+) -> Result<Ended, Fail> {
+    let words = words_of(rt, line)?;
+    Ok(run::<P>(
+        rt,
+        Start {
+            words: &words,
+            input: b"",
+            standard: None,
+            faults,
+            terminal: None,
+            watch: &Watch::new(),
         },
     ))
 }
@@ -250,6 +280,7 @@ fn ends_right<P: Program>(rt: &HostRuntime, row: &Row) -> Result<bool, Fail> {
             standard: row.standard,
             faults: row.faults,
             terminal: row.terminal,
+            watch: &Watch::new(),
         },
     );
     Ok(

@@ -5,7 +5,7 @@ use test_host::Octets::Text;
 use test_host::{Faults, INDEFINITE, NO_FAULTS, QUIET, Row, test_rows};
 
 /// Commands with no output of their own. O is absent.
-static ROWS: [Row; 33] = [
+static ROWS: [Row; 35] = [
     Row {
         words: "show A",
         output: Text(
@@ -63,6 +63,21 @@ static ROWS: [Row; 33] = [
         words: "check O",
         status: 3,
         errors: "illcanon: cannot open O\n",
+        ..QUIET
+    },
+    // The answer would go to one of the files.
+    Row {
+        words: "same A B",
+        standard: Some("A"),
+        status: 2,
+        errors: "illcanon: IN and OUT are the same file\n",
+        ..QUIET
+    },
+    Row {
+        words: "same A B",
+        standard: Some("B"),
+        status: 2,
+        errors: "illcanon: IN and OUT are the same file\n",
         ..QUIET
     },
     Row {

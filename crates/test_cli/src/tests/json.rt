@@ -2,10 +2,10 @@
 use super::program::Illcanon;
 use std::test::Fail;
 use test_host::Octets::Text;
-use test_host::{QUIET, Row, test_rows};
+use test_host::{Ended, Faults, NO_FAULTS, QUIET, Row, enter, leave, run_with_faults, test_rows};
 
 /// Results of messages, refused ones among them.
-static ROWS: [Row; 18] = [
+static ROWS: [Row; 19] = [
     Row {
         words: "check --json A",
         output: Text(
@@ -49,6 +49,20 @@ static ROWS: [Row; 18] = [
         output: Text(
             b"{\"number\":1,\"offset\":0,\"octets\":33,\"apdu\":\"Expired\",\"normal\":true}\n{\"number\":2,\"offset\":33,\"octets\":2,\"apdu\":\"Expired\",\"refused\":{\"cause\":\"Missing\",\"offset\":2,\"kind\":\"invalid\",\"part\":\"Expired.protocol-version-num\",\"path\":\"Expired\",\"found\":\"the end of the element\",\"due\":[\"[UNIVERSAL 16] SEQUENCE\",\"[0] protocol-version-num\"]}}\n{\"number\":3,\"offset\":35,\"octets\":33,\"apdu\":\"Expired\",\"normal\":true}\n",
         ),
+        ..QUIET
+    },
+    // The numbers of what was read before a fault.
+    Row {
+        words: "check --summary --json --keep-going middle",
+        faults: Faults {
+            readable: Some(40),
+            ..NO_FAULTS
+        },
+        status: 3,
+        output: Text(
+            b"{\"number\":1,\"offset\":0,\"octets\":33,\"apdu\":\"Expired\",\"normal\":true}\n{\"number\":2,\"offset\":33,\"octets\":2,\"apdu\":\"Expired\",\"refused\":{\"cause\":\"Missing\",\"offset\":2,\"kind\":\"invalid\",\"part\":\"Expired.protocol-version-num\",\"path\":\"Expired\",\"found\":\"the end of the element\",\"due\":[\"[UNIVERSAL 16] SEQUENCE\",\"[0] protocol-version-num\"]}}\n{\"summary\":{\"files\":1,\"messages\":2,\"normal\":1,\"not_normal\":0,\"refused\":1,\"not_read\":0,\"invalid\":1,\"octets\":35,\"not_opened\":0,\"left\":1}}\n",
+        ),
+        errors: "illcanon: read fault\nillcanon: left at message 3, which begins at octet 35\n",
         ..QUIET
     },
     Row {
@@ -147,4 +161,58 @@ static ROWS: [Row; 18] = [
 #[test]
 fn results_are_lines_of_json(rt: HostRuntime) -> Result<(), Fail> {
     test_rows::<Illcanon>(&rt, &ROWS)
+}
+
+/// Tells whether a command ends with status 3 and a line where standard output has no room for its last octet.
+fn needs_its_last_octet(rt: &HostRuntime, words: &'static str) -> Result<bool, Fail> {
+    let whole = run_with_faults::<Illcanon>(rt, words, NO_FAULTS)?;
+    let faults = Faults {
+        room: Some(whole.output.len().saturating_sub(1)),
+        ..NO_FAULTS
+    };
+    let ended = run_with_faults::<Illcanon>(rt, words, faults)?;
+    Ok(
+        whole.status == 0
+            && ended.status == 3
+            && ended.errors.as_slice() == b"illcanon: flush fault\n".as_slice(),
+    )
+}
+
+#[test]
+fn the_end_of_the_output_is_not_lost_in_silence(rt: HostRuntime) -> Result<(), Fail> {
+    let folder = enter(&rt)?;
+    let html = needs_its_last_octet(&rt, "dump --html A")?;
+    let summary = needs_its_last_octet(&rt, "check --json --summary A")?;
+    leave(&rt, folder.as_str())?;
+    assert!(&rt; html && summary);
+    Ok(())
+}
+
+/// A check of twenty thousand refused messages, whose lines of JSON go to an output with no room, and whose file can't be read to its end.
+fn check_without_room(rt: &HostRuntime, once: bool, closed: bool) -> Result<Ended, Fail> {
+    let faults = Faults {
+        room: Some(0),
+        readable: Some(39_000),
+        once,
+        closed,
+        ..NO_FAULTS
+    };
+    run_with_faults::<Illcanon>(rt, "check --json --keep-going refusals", faults)
+}
+
+/// Tells whether a check ended at the write that failed, and not where its file can't be read.
+fn ended_at_the_write(ended: &Ended) -> bool {
+    ended.status == 3 && ended.errors.starts_with(b"illcanon: write fault after ")
+}
+
+#[test]
+fn a_line_that_is_not_written_ends_the_work(rt: HostRuntime) -> Result<(), Fail> {
+    let folder = enter(&rt)?;
+    let full = check_without_room(&rt, false, false)?;
+    let once = check_without_room(&rt, true, false)?;
+    let closed = check_without_room(&rt, false, true)?;
+    leave(&rt, folder.as_str())?;
+    assert!(&rt; ended_at_the_write(&full) && ended_at_the_write(&once));
+    assert!(&rt; closed.status == 3 && closed.errors.is_empty());
+    Ok(())
 }

@@ -8,6 +8,8 @@ use test_host::{INDEFINITE, QUIET, Row, test_rows};
 static ROWS: [Row; 15] = [
     Row {
         words: "check --files-from no-name",
+        status: 2,
+        errors: "illcanon: the list names no file\n",
         ..QUIET
     },
     Row {

@@ -3,10 +3,10 @@ use super::program::Illcanon;
 use ill_files::FileName;
 use std::alloc::{AllocError, Global};
 use std::test::Fail;
-use test_host::{NO_FAULTS, Start, run};
+use test_host::{NO_FAULTS, Start, Watch, run};
 
 /// Names, and their form in a fault's line, as bash reads it back.
-static NAMES: [(&[u8], &[u8]); 13] = [
+static NAMES: [(&[u8], &[u8]); 20] = [
     (b"messages.ber", b"messages.ber"),
     (b"K\xc3\xb6ln 1'2\"3\\4.ber", b"K\xc3\xb6ln 1'2\"3\\4.ber"),
     (b"", b""),
@@ -22,6 +22,15 @@ static NAMES: [(&[u8], &[u8]); 13] = [
     // RIGHT-TO-LEFT OVERRIDE, and LINE SEPARATOR.
     (b"gpj.\xe2\x80\xaereb", b"$'gpj.\\342\\200\\256reb'"),
     (b"a\xe2\x80\xa8b", b"$'a\\342\\200\\250b'"),
+    // PARAGRAPH SEPARATOR, COMBINING GRAPHEME JOINER, HANGUL CHOSEONG FILLER, MONGOLIAN FREE VARIATION SELECTOR THREE, HANGUL FILLER,
+    // VARIATION SELECTOR-16, and VARIATION SELECTOR-17.
+    (b"a\xe2\x80\xa9b", b"$'a\\342\\200\\251b'"),
+    (b"a\xcd\x8fb", b"$'a\\315\\217b'"),
+    (b"a\xe1\x85\x9fb", b"$'a\\341\\205\\237b'"),
+    (b"a\xe1\xa0\x8db", b"$'a\\341\\240\\215b'"),
+    (b"a\xe3\x85\xa4b", b"$'a\\343\\205\\244b'"),
+    (b"a\xef\xb8\x8fb", b"$'a\\357\\270\\217b'"),
+    (b"a\xf3\xa0\x84\x80b", b"$'a\\363\\240\\204\\200b'"),
 ];
 
 /// Tells whether a name is printed so.
@@ -50,6 +59,7 @@ fn check_absent(rt: &HostRuntime, name: &[u8]) -> (u8, usize) {
             standard: None,
             faults: NO_FAULTS,
             terminal: None,
+            watch: &Watch::new(),
         },
     );
     (ended.status, ended.errors.len())
@@ -76,6 +86,7 @@ fn ends_with(rt: &HostRuntime, words: &[&[u8]], status: u8, errors: &[u8]) -> bo
             standard: None,
             faults: NO_FAULTS,
             terminal: None,
+            watch: &Watch::new(),
         },
     );
     ended.status == status && ended.errors.as_slice() == errors
@@ -92,6 +103,10 @@ fn words_that_are_no_text_stop_no_other(rt: HostRuntime) -> Result<(), Fail> {
             b"illcanon: cannot open $'M\\374.ber': name is not UTF-8 text\n"
         )
     );
+    let words: [&[u8]; 3] = [b"check", b"--summary", b"M\xfc.ber"];
+    let wanted =
+        b"illcanon: cannot open $'M\\374.ber'\nillcanon: 0 files, 0 messages, 0 normal, 0 not normal, 0 refused, 0 octets, 1 not opened\n";
+    assert!(rt; ends_with(&rt, &words, 3, wanted));
     let words: [&[u8]; 3] = [b"canonicalise", b"/dev/null", b"M\xfc.der"];
     assert!(rt; ends_with(&rt, &words, 3, b"illcanon: cannot open $'M\\374.der'\n"));
     Ok(())

@@ -1,11 +1,12 @@
 //! Outputs of normal forms: each is whole, or as it was.
 use super::program::Illcanon;
+use std::io::ErrorKind;
 use std::test::Fail;
 use test_host::Octets::{Repeated, Text};
 use test_host::{BEFORE, EXPIRED, Faults, INDEFINITE, NO_FAULTS, QUIET, Row, test_rows};
 
 /// Commands with an output. O is absent, and `none` is no folder.
-static ROWS: [Row; 55] = [
+static ROWS: [Row; 64] = [
     Row {
         words: "canonicalise B OUT",
         out: Repeated(EXPIRED, 33),
@@ -115,13 +116,13 @@ static ROWS: [Row; 55] = [
     Row {
         words: "canonicalise --whole B /dev/null",
         status: 3,
-        errors: "illcanon: cannot replace /dev/null\n",
+        errors: "illcanon: cannot replace /dev/null: it is no regular file\n",
         ..QUIET
     },
     Row {
         words: "canonicalise --whole B /dev/stdout",
         status: 3,
-        errors: "illcanon: cannot replace /dev/stdout\n",
+        errors: "illcanon: cannot replace /dev/stdout: it is no regular file\n",
         ..QUIET
     },
     Row {
@@ -183,11 +184,11 @@ static ROWS: [Row; 55] = [
     Row {
         words: "canonicalise many OUT",
         faults: Faults {
-            rename: true,
+            rename: Some(ErrorKind::ResourceBusy),
             ..NO_FAULTS
         },
         status: 3,
-        errors: "illcanon: cannot replace OUT\n",
+        errors: "illcanon: cannot replace OUT: resource busy\n",
         ..QUIET
     },
     // Standard output has the first octets.
@@ -217,7 +218,7 @@ static ROWS: [Row; 55] = [
     Row {
         words: "canonicalise B OUT",
         faults: Faults {
-            create_new: true,
+            create_new: Some(ErrorKind::PermissionDenied),
             ..NO_FAULTS
         },
         errors: "illcanon: OUT is written directly: no new file can be made beside it\n",
@@ -227,11 +228,87 @@ static ROWS: [Row; 55] = [
     Row {
         words: "canonicalise --whole B OUT",
         faults: Faults {
-            create_new: true,
+            create_new: Some(ErrorKind::PermissionDenied),
             ..NO_FAULTS
         },
         status: 3,
-        errors: "illcanon: cannot replace OUT\n",
+        errors: "illcanon: cannot replace OUT: no new file can be made beside it\n",
+        ..QUIET
+    },
+    // Where the disk is full for now, it stays as it was.
+    Row {
+        words: "canonicalise B OUT",
+        faults: Faults {
+            create_new: Some(ErrorKind::StorageFull),
+            ..NO_FAULTS
+        },
+        status: 3,
+        errors: "illcanon: cannot replace OUT: no storage space\n",
+        ..QUIET
+    },
+    Row {
+        words: "canonicalise B new",
+        faults: Faults {
+            create_new: Some(ErrorKind::StorageFull),
+            ..NO_FAULTS
+        },
+        status: 3,
+        errors: "illcanon: cannot replace new: no storage space\n",
+        ..QUIET
+    },
+    // Nobody reads the output any more.
+    Row {
+        words: "canonicalise many -",
+        faults: Faults {
+            room: Some(10),
+            closed: true,
+            ..NO_FAULTS
+        },
+        status: 3,
+        output: Repeated(EXPIRED, 10),
+        ..QUIET
+    },
+    // OUT is no input that can't be opened.
+    Row {
+        words: "canonicalise --summary A none/OUT",
+        status: 3,
+        errors: "illcanon: cannot open none/OUT\nillcanon: 0 files, 0 messages, 0 normal, 0 not normal, 0 refused, 0 octets\n",
+        ..QUIET
+    },
+    // A list that names no file.
+    Row {
+        words: "canonicalise --files-from no-name -o OUT",
+        status: 2,
+        errors: "illcanon: the list names no file\n",
+        ..QUIET
+    },
+    // Standard output is a file that is read.
+    Row {
+        words: "canonicalise -o - A B",
+        standard: Some("B"),
+        status: 2,
+        errors: "illcanon: IN and OUT are the same file\n",
+        ..QUIET
+    },
+    Row {
+        words: "check A OUT",
+        standard: Some("OUT"),
+        status: 2,
+        errors: "illcanon: IN and OUT are the same file\n",
+        ..QUIET
+    },
+    Row {
+        words: "dump --keep-going OUT",
+        standard: Some("OUT"),
+        status: 2,
+        errors: "illcanon: IN and OUT are the same file\n",
+        ..QUIET
+    },
+    Row {
+        words: "check --json --keep-going --files-from list",
+        standard: Some("list"),
+        status: 2,
+        errors: "illcanon: IN and OUT are the same file\n",
         ..QUIET
     },
     // One file under two names is refused.
@@ -386,11 +463,11 @@ static ROWS: [Row; 55] = [
     Row {
         words: "canonicalise -o OUT A B A",
         faults: Faults {
-            rename: true,
+            rename: Some(ErrorKind::ResourceBusy),
             ..NO_FAULTS
         },
         status: 3,
-        errors: "illcanon: cannot replace OUT\n",
+        errors: "illcanon: cannot replace OUT: resource busy\n",
         ..QUIET
     },
 ];

@@ -1,9 +1,14 @@
 //! The file of refused messages.
 use super::program::Illcanon;
 use std::fs;
+use std::io::ErrorKind;
+use std::os::unix::fs::symlink;
 use std::test::Fail;
 use test_host::Octets::Text;
-use test_host::{BEFORE, EXPIRED, Octets, QUIET, Row, comes_true, enter, fail_with, holds, leave};
+use test_host::{
+    BEFORE, EXPIRED, Faults, NO_FAULTS, Octets, QUIET, Row, comes_true, enter, fail_with, holds,
+    leave, run_line,
+};
 
 /// The content of R before each run.
 const OLD: &[u8] = b"old";
@@ -17,7 +22,7 @@ struct Kept {
 /// An EXPIRED with nothing in it.
 const EMPTY: &[u8] = b"\x74\x00";
 
-static ROWS: [Kept; 12] = [
+static ROWS: [Kept; 27] = [
     Kept {
         row: Row {
             words: "check --keep-going --refused R middle",
@@ -122,6 +127,188 @@ static ROWS: [Kept; 12] = [
         },
         kept: OLD,
     },
+    // a message of more octets than a message may have isn't kept in part
+    Kept {
+        row: Row {
+            words: "check --keep-going --refused R long",
+            status: 1,
+            output: Text(
+                b"message 1: Expired, 33 octets, normal\nmessage 3: Expired, 33 octets, normal\n",
+            ),
+            errors: "illcanon: refused at 0 in message 2: TooLong\nillcanon: R is without 1 refused message: too long, or of an unknown end\n",
+            ..QUIET
+        },
+        kept: b"",
+    },
+    Kept {
+        row: Row {
+            words: "check --json --keep-going --refused R endless",
+            status: 1,
+            output: Octets::Begins(b"{\"number\":1,\"offset\":0,\"octets\":33,"),
+            errors: "illcanon: R is without 1 refused message: too long, or of an unknown end\n",
+            ..QUIET
+        },
+        kept: b"",
+    },
+    // R stays as it was where the input can't be read,
+    Kept {
+        row: Row {
+            words: "check --keep-going --refused R first",
+            faults: Faults {
+                readable: Some(20),
+                ..NO_FAULTS
+            },
+            status: 3,
+            errors: "illcanon: refused at 2 in message 1: Missing Expired.protocol-version-num\nillcanon: read fault\n",
+            ..QUIET
+        },
+        kept: OLD,
+    },
+    Kept {
+        row: Row {
+            words: "check --json --keep-going --refused R first middle",
+            faults: Faults {
+                readable: Some(40),
+                ..NO_FAULTS
+            },
+            status: 3,
+            output: Octets::Begins(b"{\"file\":\"first\",\"number\":1,\"offset\":0,\"octets\":2,"),
+            errors: "illcanon: first: read fault\nillcanon: middle: read fault\n",
+            ..QUIET
+        },
+        kept: OLD,
+    },
+    // an output can't be written or replaced,
+    Kept {
+        row: Row {
+            words: "canonicalise --keep-going --refused R middle OUT",
+            faults: Faults {
+                room: Some(40),
+                ..NO_FAULTS
+            },
+            status: 3,
+            errors: "illcanon: refused at 2 in message 2: Missing Expired.protocol-version-num\nillcanon: flush fault\n",
+            ..QUIET
+        },
+        kept: OLD,
+    },
+    Kept {
+        row: Row {
+            words: "digest --keep-going --refused R middle",
+            faults: Faults {
+                room: Some(0),
+                file_room: Some(1000),
+                ..NO_FAULTS
+            },
+            status: 3,
+            errors: "illcanon: refused at 2 in message 2: Missing Expired.protocol-version-num\nillcanon: flush fault\n",
+            ..QUIET
+        },
+        kept: OLD,
+    },
+    Kept {
+        row: Row {
+            words: "canonicalise --keep-going --refused R middle OUT",
+            faults: Faults {
+                rename: Some(ErrorKind::ResourceBusy),
+                ..NO_FAULTS
+            },
+            status: 3,
+            errors: "illcanon: refused at 2 in message 2: Missing Expired.protocol-version-num\nillcanon: cannot replace OUT: resource busy\n",
+            ..QUIET
+        },
+        kept: OLD,
+    },
+    // and R itself can't be written or replaced
+    Kept {
+        row: Row {
+            words: "check --keep-going --refused R middle",
+            faults: Faults {
+                rename: Some(ErrorKind::ResourceBusy),
+                ..NO_FAULTS
+            },
+            status: 3,
+            output: Text(
+                b"message 1: Expired, 33 octets, normal\nmessage 3: Expired, 33 octets, normal\n",
+            ),
+            errors: "illcanon: refused at 2 in message 2: Missing Expired.protocol-version-num\nillcanon: R: cannot replace R: resource busy\n",
+            ..QUIET
+        },
+        kept: OLD,
+    },
+    Kept {
+        row: Row {
+            words: "check --keep-going --refused R large",
+            faults: Faults {
+                file_room: Some(0),
+                once: true,
+                ..NO_FAULTS
+            },
+            status: 3,
+            errors: "illcanon: refused at 4 in message 1: UnexpectedTag\nillcanon: R: flush fault\n",
+            ..QUIET
+        },
+        kept: OLD,
+    },
+    // a list that names no file
+    Kept {
+        row: Row {
+            words: "check --keep-going --refused R --files-from no-name",
+            status: 2,
+            errors: "illcanon: the list names no file\n",
+            ..QUIET
+        },
+        kept: OLD,
+    },
+    // the work ends after a number of refused messages
+    Kept {
+        row: Row {
+            words: "check --keep-going --max-refused 2 --refused R first middle last",
+            status: 1,
+            output: Text(
+                b"first: message 2: Expired, 33 octets, normal\nfirst: message 3: Expired, 47 octets, not normal, normal form 33 octets\nmiddle: message 1: Expired, 33 octets, normal\n",
+            ),
+            errors: "illcanon: first: refused at 2 in message 1: Missing Expired.protocol-version-num\nillcanon: middle: refused at 2 in message 2: Missing Expired.protocol-version-num\nillcanon: middle: stopped after 2 refused messages\n",
+            ..QUIET
+        },
+        kept: b"\x74\x00\x74\x00",
+    },
+    Kept {
+        row: Row {
+            words: "canonicalise --summary --keep-going --max-refused 1 --refused R -o OUT A middle B",
+            status: 1,
+            errors: "illcanon: middle: refused at 2 in message 2: Missing Expired.protocol-version-num\nillcanon: middle: stopped after 1 refused message\nillcanon: middle: left at message 2, which begins at octet 33\nillcanon: 2 files, 3 messages, 2 normal, 0 not normal, 1 refused, 68 octets, 1 left before the end\n",
+            out: Octets::Repeated(EXPIRED, 66),
+            ..QUIET
+        },
+        kept: EMPTY,
+    },
+    Kept {
+        row: Row {
+            words: "check --max-refused 1 middle",
+            status: 2,
+            errors: "illcanon: --max-refused needs --keep-going\n",
+            ..QUIET
+        },
+        kept: OLD,
+    },
+    // the list under another name, and another folder's file of this name
+    Kept {
+        row: Row {
+            words: "check --keep-going --refused ./list --files-from list",
+            status: 2,
+            errors: "illcanon: --refused needs a file of its own\n",
+            ..QUIET
+        },
+        kept: OLD,
+    },
+    Kept {
+        row: Row {
+            words: "canonicalise --keep-going --refused folder/new A new",
+            ..QUIET
+        },
+        kept: OLD,
+    },
     // two words for one file
     Kept {
         row: Row {
@@ -164,4 +351,47 @@ fn refused_messages_go_to_their_file(rt: HostRuntime) -> Result<(), Fail> {
     let wrong = first_wrong_here(&rt)?;
     leave(&rt, folder.as_str())?;
     fail_with(wrong)
+}
+
+/// Tells whether a command is refused, since its file of refused messages is another of its files.
+fn is_shared(rt: &HostRuntime, words: &'static str) -> Result<bool, Fail> {
+    let ended = run_line::<Illcanon>(rt, words, b"")?;
+    Ok(
+        ended.status == 2
+            && ended.errors.as_slice()
+                == b"illcanon: --refused needs a file of its own\n".as_slice(),
+    )
+}
+
+/// Tells whether the file of refused messages is known under other names: another name of OUT, a link to an absent OUT, and the file
+/// that becomes the file of refused messages.
+fn other_names_are_known(rt: &HostRuntime) -> Result<bool, Fail> {
+    fs::write(rt, "OUT", BEFORE)?;
+    fs::hard_link(rt, "OUT", "HARD")?;
+    symlink(rt, "absent", "soft")?;
+    symlink(rt, "soft", "softer")?;
+    Ok(
+        is_shared(rt, "canonicalise --keep-going --refused HARD middle OUT")?
+            && is_shared(
+                rt,
+                "canonicalise --keep-going --refused softer middle absent",
+            )?
+            && is_shared(
+                rt,
+                "canonicalise --keep-going --refused absent middle ./softer",
+            )?
+            && is_shared(rt, "canonicalise --keep-going --refused R middle R.part")?
+            && holds(rt, "HARD", Text(BEFORE))?
+            && !fs::exists(rt, "absent")?
+            && !fs::exists(rt, "R.part")?,
+    )
+}
+
+#[test]
+fn the_file_of_refused_messages_is_no_other(rt: HostRuntime) -> Result<(), Fail> {
+    let folder = enter(&rt)?;
+    let are_known = other_names_are_known(&rt)?;
+    leave(&rt, folder.as_str())?;
+    assert!(&rt; are_known);
+    Ok(())
 }

@@ -1,12 +1,13 @@
 //! The lines that the program prints where a job fails, and its statuses.
 use ill_commands::RunFault;
-use ill_files::{ProgramError, RunLine, status_of};
+use ill_files::{OpenObstacle, ProgramError, RefusedCount, RunLine, print_error_of, status_of};
 use ill_normal::{Cause, NodeId, PartId, Refusal, Side};
 use std::alloc::{AllocError, Global};
 use std::test::Fail;
+use test_host::{Fake, NO_FAULTS, Start, Watch};
 
 /// Faults, their lines and their statuses.
-static FAULTS: [(RunFault, &str, u8); 13] = [
+static FAULTS: [(RunFault, &str, u8); 14] = [
     (
         RunFault::Refused {
             message: 1,
@@ -87,6 +88,7 @@ static FAULTS: [(RunFault, &str, u8); 13] = [
     (RunFault::BadHex(3), "hex: bad digit at 3", 1),
     (RunFault::HexTooLong, "hex: too long", 1),
     (RunFault::TooManyMessages, "more than 1000000 messages", 1),
+    (RunFault::NotReported, "stopped after a refused message", 1),
     (RunFault::OutOfMemory, "out of memory", 3),
     (RunFault::ReadFault, "read fault", 3),
     (RunFault::WriteFault(10), "write fault after 10 octets", 3),
@@ -103,5 +105,58 @@ fn each_fault_is_one_line(rt: HostRuntime) -> Result<(), Fail> {
     for (fault, line, status) in &FAULTS {
         assert!(rt; is_reported(rt.alloc(), *fault, line, *status)?, "{line}");
     }
+    Ok(())
+}
+
+/// Tells whether an error is printed as this line, and ends the program with this status.
+fn is_printed(
+    alloc: Global,
+    error: ProgramError,
+    line: &str,
+    status: u8,
+) -> Result<bool, AllocError> {
+    let text = format!(in alloc; "{error}")?;
+    Ok(text.as_str() == line && status_of(&Err(error)) == status)
+}
+
+#[test]
+fn each_error_of_the_words_is_one_line(rt: HostRuntime) -> Result<(), Fail> {
+    let alloc = rt.alloc();
+    let hidden = "the words are no command line, and have hidden characters";
+    assert!(rt; is_printed(alloc, ProgramError::HiddenCharacters, hidden, 2)?);
+    let empty = "the list names no file";
+    assert!(rt; is_printed(alloc, ProgramError::EmptyList, empty, 2)?);
+    let one = ProgramError::RefusedEnough(RefusedCount(1));
+    assert!(rt; is_printed(alloc, one, "stopped after 1 refused message", 1)?);
+    let two = ProgramError::RefusedEnough(RefusedCount(2));
+    assert!(rt; is_printed(alloc, two, "stopped after 2 refused messages", 1)?);
+    Ok(())
+}
+
+/// The line of a file among several that can't be opened for a reason that isn't known.
+fn line_of_unknown(rt: &HostRuntime) -> Result<Vec<u8>, Fail> {
+    let watch = Watch::new();
+    let fake = Fake::new(
+        rt,
+        Start {
+            words: &[],
+            input: b"",
+            standard: None,
+            faults: NO_FAULTS,
+            terminal: None,
+            watch: &watch,
+        },
+    );
+    let error = ProgramError::cannot_open(rt.alloc(), "A", OpenObstacle::Unknown);
+    let printed = print_error_of(&fake, b"A", &error);
+    let ended = fake.ended(0);
+    printed?;
+    Ok(ended.errors)
+}
+
+#[test]
+fn a_reason_that_is_not_known_is_not_named(rt: HostRuntime) -> Result<(), Fail> {
+    let line = line_of_unknown(&rt)?;
+    assert!(&rt; line.as_slice() == b"illcanon: cannot open A\n".as_slice());
     Ok(())
 }

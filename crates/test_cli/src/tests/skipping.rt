@@ -2,10 +2,10 @@
 use super::program::Illcanon;
 use std::test::Fail;
 use test_host::Octets::{Begins, Text};
-use test_host::{EXPIRED, QUIET, Row, test_rows};
+use test_host::{EXPIRED, Faults, NO_FAULTS, QUIET, Row, test_rows};
 
 /// Files with messages that are refused, and others.
-static ROWS: [Row; 23] = [
+static ROWS: [Row; 25] = [
     Row {
         words: "check --keep-going middle",
         status: 1,
@@ -38,6 +38,26 @@ static ROWS: [Row; 23] = [
         status: 1,
         output: Text(b"message 1: Expired, 33 octets, normal\n"),
         errors: "illcanon: refused at 7 in message 2: Missing Expired.transaction-id; its end is unknown\n",
+        ..QUIET
+    },
+    // The numbers of what was read before a fault.
+    Row {
+        words: "check --summary --keep-going middle",
+        faults: Faults {
+            readable: Some(40),
+            ..NO_FAULTS
+        },
+        status: 3,
+        output: Text(b"message 1: Expired, 33 octets, normal\n"),
+        errors: "illcanon: refused at 2 in message 2: Missing Expired.protocol-version-num\nillcanon: read fault\nillcanon: left at message 3, which begins at octet 35\nillcanon: 1 file, 2 messages, 1 normal, 0 not normal, 1 refused, 35 octets, 1 left before the end\n",
+        ..QUIET
+    },
+    // The work ends with the second refused message.
+    Row {
+        words: "dump --keep-going --max-refused 2 bad first A",
+        status: 1,
+        output: Begins(b"bad: message 1: refused\n"),
+        errors: "illcanon: bad: refused at 0 in message 1: UnexpectedTag; its end is unknown\nillcanon: first: refused at 2 in message 1: Missing Expired.protocol-version-num\nillcanon: first: stopped after 2 refused messages\n",
         ..QUIET
     },
     Row {
