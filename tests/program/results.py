@@ -1,7 +1,8 @@
 #!/usr/bin/env python3
 """The results of an archive as lines of JSON, the tables that GUIDE.md makes of them, and the file of refused messages.
 
-The archive has valid test vectors, and refused ones of vectors/causes.json whose ends are known, in an order that the seed says. What `check --json` and
+The archive has valid test vectors, and refused ones of vectors/causes.json whose ends are known, in an order that the seed says. Some of its
+files have names that look like options or formulas. What `check --json` and
 `digest --json` have to write is known from the vectors and the model, and each line is as docs/results.schema.json says. The commands of GUIDE.md
 (with jq and sqlite3, where they are installed) have to count the same. The messages in the file of `--refused` are refused again for the same
 causes. One process has to write what one for each file writes with `-H`. Files that can't be opened have their reasons, and are counted.
@@ -36,6 +37,8 @@ MESSAGES = int(sys.argv[2]) if len(sys.argv) > 2 else 20_000
 # causes that say that a limit of the program is passed
 LIMITS = {"TooLong", "TooDeep", "IntegerTooLong", "NormalTooLong"}
 NOBODY = 65534
+# Names like options and a formula. With the others they are in the order in which the shell expands `*`.
+NAMES_OF_FILES = sorted(["--files-from=l.ber", "--nope.ber", "=1+1.ber", *(f"{file:03}.ber" for file in range(FILES - 3))])
 
 
 def expect(condition, *what):
@@ -143,7 +146,7 @@ class Archive:
         expect(len(good) > 20 and len(bad) > 5, "the vectors have only", len(good), "valid and", len(bad), "refused messages")
         self.folder, self.names, self.checked, self.digested, self.refused = folder, [], [], [], []
         for file in range(FILES):
-            name = f"{file:03}.ber"
+            name = f"./{NAMES_OF_FILES[file]}"
             self.names.append(name)
             offset, octets = 0, []
             for number in range(1, MESSAGES // FILES + 1):
@@ -186,11 +189,17 @@ def check_lines(archive):
 
 
 def commands_of_guide():
-    """The commands that GUIDE.md makes tables by, which have `*.ber` for the files."""
+    """The commands that GUIDE.md makes tables by, which have `./*.ber` for the files."""
     blocks = re.findall(r"```sh no-run\n(.*?)```", (TOP / "docs/GUIDE.md").read_text(), re.S)
     found = [block.splitlines() for block in blocks if "@csv" in block]
     expect(len(found) == 1, "GUIDE.md has", len(found), "blocks with @csv")
     return found[0]
+
+
+def in_list(name):
+    """The cell of a file that a list names without its folder."""
+    name = name.removeprefix("./")
+    return f"'{name}" if name[0] in "=+-@" else name
 
 
 def check_tables(archive):
@@ -205,7 +214,7 @@ def check_tables(archive):
     path = f"{program.parent}:{os.environ['PATH']}"
 
     def shell(command):
-        done = subprocess.run(["bash", "-c", command], cwd=archive.folder, env={**os.environ, "PATH": path}, capture_output=True, text=True, check=False)
+        done = subprocess.run(["bash", "-c", command], cwd=archive.folder, env={**os.environ, "PATH": path, "LC_ALL": "C"}, capture_output=True, text=True, check=False)
         expect(done.returncode == 0 and not done.stderr, command, done.stderr[:300])
         return done.stdout
 
@@ -215,13 +224,18 @@ def check_tables(archive):
     for command, wanted in (causes, by_cause), (apdus, by_apdu):
         found = {name: int(count) for count, name in (line.split() for line in shell(command).splitlines())}
         expect(found == wanted, command, found, wanted)
-    shell(table)
-    rows = list(csv.reader(io.StringIO((archive.folder / "all.csv").read_text())))
-    wanted = [
-        [line["file"], str(line["number"]), str(line["offset"]), line.get("apdu", ""), line.get("digest", ""), line.get("refused", {}).get("cause", "")]
-        for line in archive.digested
-    ]
-    expect(rows == wanted, "the CSV differs")
+    expect("./*.ber" in table, "no ./*.ber in", table)
+    (archive.folder / "list").write_bytes(b"".join(name[2:].encode() + b"\0" for name in archive.names))
+    # Names of a list may begin like formulas. Those that do have a mark before them.
+    for command, cell in (table.replace("./*.ber", "--files-from list"), in_list), (table, str):
+        shell(command)
+        rows = list(csv.reader(io.StringIO((archive.folder / "all.csv").read_text())))
+        wanted = [
+            [cell(line["file"]), str(line["number"]), str(line["offset"]), line.get("apdu", ""), line.get("digest", ""), line.get("refused", {}).get("cause", "")]
+            for line in archive.digested
+        ]
+        expect(rows == wanted, "the CSV differs", command)
+        expect(not any(text[:1] in tuple("=+-@") for row in rows for text in row), "a cell is a formula", command)
     shell(load)
     found = shell("sqlite3 all.db \"select cause, count(*) from message where cause <> '' group by cause\"").splitlines()
     expect(dict(line.split("|") for line in found) == {name: str(count) for name, count in by_cause.items() if name != "good"}, "sqlite:", found)
