@@ -71,6 +71,7 @@ OPTIONS = {
     "profile": r"Reads the messages (of all inputs )?in (this|the) profile",
     "keep-going": r"goes on with the next one, where its end is known",
     "refused": r"rites the octets of (each )?refused messages? ",
+    "max-refused": r"[Ss]tops after N refused messages of all files",
     "summary": r"rites a line to standard error: how many|Writes a line to standard error at the end: how many",
     "lines": r"Each line of the input is a message in hexadecimal, and each line of the output its result",
     "whole": r"Replaces OUT only if every message of every input was good, and otherwise leaves it as it was",
