@@ -4,7 +4,7 @@
 A process is asked 10,000 times and must answer each line before it gets the next one; random lines, good and bad, have the results that
 each has by itself; the normal forms and digests of lines are those of the same messages as octets, and what `check` and the refusals say is
 what the program prints of a file that holds the message alone; and GNU parallel over four processes gives what one process gives, where it
-is installed. Needs the program built.
+is installed. With `--whole` one bad line leaves OUT as it was. Needs the program built.
 Usage: lines.py [SEED [COUNT [PROFILE]]], PROFILE being `2`, the default, or `module`. Prints the seed, with which a run is made again.
 """
 import random
@@ -89,6 +89,22 @@ def compare(chance, count):
     return text
 
 
+def whole(text):
+    """With `--whole` OUT is the lines of the normal forms, or stays as it was where one line is bad, and a line says so."""
+    with tempfile.TemporaryDirectory() as folder:
+        given, out = Path(folder) / "given", Path(folder) / "OUT"
+        out.write_bytes(b"before\n")
+        given.write_bytes(text)
+        words = ["canonicalise", "--lines", "--whole", given, out]
+        status, output, errors = run(words)
+        expect((status, output, errors) == (1, b"", f"illcanon: {out} stays as it was: not every line is a message\n".encode()), "--whole", status, errors)
+        expect(out.read_bytes() == b"before\n" and sorted(Path(folder).iterdir()) == [out, given], "--whole: OUT is not what it was, or a file is left")
+        _, answers, _ = run(JOBS["canonicalise"], text)
+        good = [line for line in answers.splitlines(keepends=True) if not line.startswith(b"refused")]
+        given.write_bytes(b"".join(good))
+        expect(run(words) == (0, b"", b"") and out.read_bytes() == b"".join(good), "--whole of normal forms")
+
+
 def ask(chance, count):
     """A process answers each line before it gets the next one."""
     lines = [spelled(chance).hex() for _ in range(50)] + ["", "7g", "74 1"]
@@ -124,6 +140,7 @@ def main():
     count = min(count, 500)
     chance = random.Random(seed)
     text = compare(chance, count)
+    whole(text)
     ask(chance, 10_000)
     in_parallel(text * 20)
     print(f"seed {seed}, profile {PROFILE}: {count} lines as files, and 10,000 questions, all right")

@@ -5,7 +5,7 @@ The archive has valid test vectors, and refused ones of vectors/causes.json whos
 files have names that look like options or formulas. What `check --json` and
 `digest --json` have to write is known from the vectors and the model, and each line is as docs/results.schema.json says. The commands of GUIDE.md
 (with jq and sqlite3, where they are installed) have to count the same. The messages in the file of `--refused` are refused again for the same
-causes. One process has to write what one for each file writes with `-H`. Files that can't be opened have their reasons, and are counted.
+causes. With `--max-refused` the work ends with the message of this number. One process has to write what one for each file writes with `-H`. Files that can't be opened have their reasons, and are counted.
 Needs the program built.
 Usage: results.py [SEED [COUNT [PROFILE]]], COUNT being the messages, and PROFILE `2`, the default, or `module`. Prints the seed, with which a run
 is made again.
@@ -251,6 +251,21 @@ def check_refused(archive):
     expect(found == [refused for _, refused in archive.refused], "--refused: the causes differ")
 
 
+def check_limit(archive, chance):
+    """The work ends with a refused message of a random number, of all files, and the lines before it are written."""
+    places = [place for place, line in enumerate(archive.checked) if "refused" in line]
+    number = chance.randrange(1, len(places) + 1)
+    wanted = archive.checked[: places[number - 1] + 1]
+    for command, known in ("check", archive.checked), ("digest", archive.digested):
+        output, errors = archive.run(command, "--json", "--keep-going", "--max-refused", str(number), "--refused", "refused", *archive.names)
+        expect(output.splitlines() == [json.dumps(line, separators=(",", ":")) for line in known[: len(wanted)]], command, "--max-refused", number, "has other lines")
+        expect(errors == f"illcanon: {wanted[-1]['file']}: stopped after {number} refused message{'s' if number > 1 else ''}\n", errors)
+        octets = b"".join(message for message, _ in archive.refused[:number])
+        expect((archive.folder / "refused").read_bytes() == octets, command, "--max-refused", number, "keeps other octets")
+    output, errors = archive.run("check", "--json", "--keep-going", "--max-refused", str(len(places) + 1), *archive.names)
+    expect(len(output.splitlines()) == len(archive.checked) and not errors, "--max-refused of one more than there are:", errors[:300])
+
+
 def check_one_by_one(archive):
     """One process writes what one for each file writes."""
     for words in ["check"], ["check", "--json"], ["digest"], ["show"], ["show", "--json"]:
@@ -292,10 +307,12 @@ def main():
     seed = int(sys.argv[1]) if len(sys.argv) > 1 else random.randrange(1_000_000)
     print(f"seed {seed}, profile {PROFILE}")
     with tempfile.TemporaryDirectory() as name:
-        archive = Archive(Path(name), random.Random(seed))
+        chance = random.Random(seed)
+        archive = Archive(Path(name), chance)
         check_lines(archive)
         check_tables(archive)
         check_refused(archive)
+        check_limit(archive, chance)
         check_one_by_one(archive)
         check_reasons(archive)
         print(f"{len(archive.checked)} messages, {len(archive.refused)} of them refused: as known")
