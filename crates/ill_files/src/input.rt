@@ -171,12 +171,14 @@ pub fn open_and_identify<'o, 'r: 'o, R: Print + Eprint + Input + Files + AllocGl
                 rt,
                 inner,
                 progress,
+                left: None,
             },
             output,
         )?;
         return Ok((Opened::Standard(source), file));
     }
     let inner = open_file(rt, name)?;
+    let left = most_octets_of(rt, &inner);
     let file = FileId::of(inner.metadata());
     let source = buffered(
         alloc,
@@ -184,10 +186,22 @@ pub fn open_and_identify<'o, 'r: 'o, R: Print + Eprint + Input + Files + AllocGl
             rt,
             inner,
             progress,
+            left,
         },
         output,
     )?;
     Ok((Opened::File(source), file))
+}
+
+/// The greatest number of octets that are read of a file: those that it has now, if it is a regular file and the system doesn't say which file
+/// standard output is. That may be the same file, which would have no end.
+fn most_octets_of<R: Files, F: OpenFile>(rt: &R, file: &F) -> Option<usize> {
+    match file.metadata() {
+        Ok(found) if found.is_file() && !FileId::knows_standard_output(rt) => {
+            usize::try_from(found.len()).ok()
+        }
+        _ => None,
+    }
 }
 
 /// A reader as a source, which has the output written before it reads.

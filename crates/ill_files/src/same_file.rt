@@ -48,6 +48,11 @@ impl FileId {
         metadata_of_first(rt, &STANDARD_INPUTS).is_ok()
     }
 
+    /// Tells whether the system says which file standard output goes to, as [`FileId::knows_standard_input`] does of standard input.
+    pub fn knows_standard_output<R: Files>(rt: &R) -> bool {
+        metadata_of_first(rt, &STANDARD_OUTPUTS).is_ok()
+    }
+
     /// The regular file that standard output goes to.
     pub fn of_standard_output<R: Files>(rt: &R) -> Option<FileId> {
         FileId::of(metadata_of_first(rt, &STANDARD_OUTPUTS))

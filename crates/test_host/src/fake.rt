@@ -1,6 +1,6 @@
 //! A runtime whose words and standard streams are values, and whose files are the host's, in a folder of their own. Calls on
 //! files can be made to fail.
-ghost use Rattle.std.specs.Prelude.{◌≤◌, length, IfOk};
+ghost use Rattle.std.specs.Prelude.{◌≡◌, ◌≤◌, length, IfOk};
 
 use ill_files::Host;
 use std::alloc::{Alloc, Allocator, Global};
@@ -13,6 +13,16 @@ use std::os::unix::fs::MetadataExt;
 use std::path::PathBuf;
 use std::rt::Env;
 use std::time::{Clock, Duration};
+
+/// The names by which systems know standard input and standard output.
+const STANDARD_STREAMS: [&str; 6] = [
+    "/dev/stdin",
+    "/proc/self/fd/0",
+    "/dev/fd/0",
+    "/dev/stdout",
+    "/proc/self/fd/1",
+    "/dev/fd/1",
+];
 
 /// The calls that fail.
 #[derive(Clone, Copy)]
@@ -27,6 +37,8 @@ pub struct Faults {
     pub closed: bool,
     /// A file that is read gives this many octets before a read fails.
     pub readable: Option<usize>,
+    /// A file that is read gives this many line ends more at its end.
+    pub grows: usize,
     pub sync: bool,
     /// No file can be renamed, for this reason.
     pub rename: Option<ErrorKind>,
@@ -34,6 +46,8 @@ pub struct Faults {
     pub create_new: Option<ErrorKind>,
     /// Another file takes the name of a new one before it is renamed.
     pub swapped: bool,
+    /// The system has no name for a standard stream that is no file.
+    pub nameless: bool,
 }
 
 /// No call fails.
@@ -43,10 +57,12 @@ pub const NO_FAULTS: Faults = Faults {
     once: false,
     closed: false,
     readable: None,
+    grows: 0,
     sync: false,
     rename: None,
     create_new: None,
     swapped: false,
+    nameless: false,
 };
 
 impl Faults {
@@ -283,10 +299,24 @@ pub struct FakeFile<'a> {
     watch: &'a Watch,
 }
 
+impl FakeFile<'_> {
+    /// Gives the octets that come after the end of a file that grows.
+    fn grow(&mut self, buf: &mut [u8]) -> usize
+        ensures bound { result ≤ length buf.new }
+        ensures same { length buf.new ≡ length buf.old }
+    {
+        let count = self.faults.grows.min(buf.len());
+        buf[..count].fill(b'\n');
+        self.faults.grows = self.faults.grows.saturating_sub(count);
+        count
+    }
+}
+
 impl Read for FakeFile<'_> {
     fn read(&mut self, buf: &mut [u8]) -> io::Result<usize> {
         let Some(most) = self.faults.readable else {
-            return self.inner.read(buf);
+            let count = self.inner.read(buf)?;
+            return Ok(if count > 0 { count } else { self.grow(buf) });
         };
         let count = most.saturating_sub(self.moved).min(buf.len());
         if count == 0 {
@@ -398,13 +428,16 @@ impl<'a> Fake<'a> {
 }
 
 impl Fake<'_> {
-    /// The host's path of what the program asks for.
+    /// The host's path of what the program asks for. A standard stream that is no file is a device.
     fn path<'p>(&'p self, path: &'p str) -> io::Result<&'p str> {
-        let file = match path {
-            "/dev/stdin" | "/dev/stdout" => self.start.standard,
-            _ => Some(path),
-        };
-        file.ok_or(io::Error::from(ErrorKind::NotFound))
+        if !STANDARD_STREAMS.contains(&path) {
+            return Ok(path);
+        }
+        match self.start.standard {
+            Some(file) => Ok(file),
+            None if self.start.faults.nameless => Err(io::Error::from(ErrorKind::NotFound)),
+            None => Ok("/dev/null"),
+        }
     }
 }
 

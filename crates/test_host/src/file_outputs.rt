@@ -1,7 +1,7 @@
 //! Outputs that are files with a mode, with more than one name, or with another file beside them.
 use crate::fake::{Ended, Faults, NO_FAULTS, Start, Watch};
 use crate::runs::Octets::Repeated;
-use crate::runs::{EXPIRED, INDEFINITE, Program, enter, holds, leave, run};
+use crate::runs::{EXPIRED, INDEFINITE, Program, enter, holds, leave, run, run_with_faults};
 use std::alloc::AllocError;
 use std::fs::{self, Permissions};
 use std::os::unix::fs::{MetadataExt, PermissionsExt, symlink};
@@ -93,6 +93,24 @@ fn keeps_its_names<P: Program>(rt: &HostRuntime) -> Result<bool, Fail> {
             && has_form(rt, "other")?
             && fs::metadata(rt, "one")?.nlink() == 2,
     )
+}
+
+/// Tells whether a file of two names is kept where it may be the file that standard input is read from, and where OUT of several files is.
+fn keeps_what_may_be_read<P: Program>(rt: &HostRuntime) -> Result<bool, Fail> {
+    fs::write(rt, "read", INDEFINITE)?;
+    fs::hard_link(rt, "read", "read-too")?;
+    let faults = Faults {
+        nameless: true,
+        ..NO_FAULTS
+    };
+    let line = b"illcanon: cannot replace read: it has several names\n".as_slice();
+    let one = run_with_faults::<P>(rt, "canonicalise - read", faults)?;
+    let several = run_with_faults::<P>(rt, "canonicalise -o read - A", faults)?;
+    let are_kept = one.status == 3
+        && several.status == 3
+        && one.errors.as_slice() == line
+        && several.errors.as_slice() == line;
+    Ok(are_kept && fs::read(rt, "read")?.as_slice() == INDEFINITE)
 }
 
 /// Tells whether a link stays, and the file is made that it leads to, or written if it is there, each with a line.
@@ -218,6 +236,8 @@ fn first_wrong_here<P: Program>(rt: &HostRuntime) -> Result<Option<&'static str>
         Some("a file in a folder")
     } else if !keeps_its_names::<P>(rt)? {
         Some("a file of two names")
+    } else if !keeps_what_may_be_read::<P>(rt)? {
+        Some("a file that may be standard input")
     } else if !keeps_the_link::<P>(rt)? {
         Some("a link")
     } else if !is_written_under_a_long_name::<P>(rt)? {

@@ -69,7 +69,7 @@ hex: odd number of digits\n\
 ";
 
 /// Runs with `--lines`.
-static ROWS: [Row; 10] = [
+static ROWS: [Row; 12] = [
     Row {
         words: "canonicalise --lines - -",
         input: LINES,
@@ -130,6 +130,28 @@ static ROWS: [Row; 10] = [
         },
         status: 3,
         errors: "illcanon: flush fault\n",
+        ..QUIET
+    },
+    // A file that grows is read to its end, but where it may be standard output, as far as it was.
+    Row {
+        words: "check --lines line",
+        faults: Faults {
+            grows: 2,
+            ..NO_FAULTS
+        },
+        status: 1,
+        output: Text(b"hex: bad digit at 1\nrefused at 0: Truncated\nrefused at 0: Truncated\n"),
+        ..QUIET
+    },
+    Row {
+        words: "check --lines line",
+        faults: Faults {
+            grows: 2,
+            nameless: true,
+            ..NO_FAULTS
+        },
+        status: 1,
+        output: Text(b"hex: bad digit at 1\n"),
         ..QUIET
     },
     Row {
