@@ -607,6 +607,21 @@ cp OLD b.part
 row out-is-no-new-file 1 '' "$refused" canonicalise --keep-going --refused b MIDDLE b.part
 { cmp -s TWO b.part && [ "$(od -An -tx1 b | tr -d ' ')" = 7400 ]; } || { failed=$((failed + 1)) && echo 'failed: out-is-no-new-file: other octets'; }
 rm b b.part KEPT LIST
+# The file of refused messages is no other file of the command, under any name; a file with the name of OUT in another folder is one of its own.
+cp OLD OUT && ln OUT HARD && printf GOOD >LIST && cp LIST SAVED
+row refused-is-a-hard-link 2 '' "$own" canonicalise --keep-going --refused HARD MIDDLE OUT
+kept refused-is-a-hard-link
+row refused-is-the-list 2 '' "$own" check --keep-going --refused ./LIST --files-from LIST
+cmp -s LIST SAVED || { failed=$((failed + 1)) && echo 'failed: refused-is-the-list: the list has changed'; }
+rm HARD && mkdir APART
+row refused-in-another-folder 1 '' "$refused" canonicalise --keep-going --refused APART/OUT MIDDLE OUT
+{ cmp -s TWO OUT && [ "$(od -An -tx1 APART/OUT | tr -d ' ')" = 7400 ]; } || { failed=$((failed + 1)) && echo 'failed: refused-in-another-folder: other octets'; }
+rm -r APART SAVED
+# Of what can't be opened inputs are counted, and not OUT, without which no input is read; a word that is no text is an input that can't be opened.
+row summary-of-no-out 3 '' 'illcanon: cannot open no/OUT\nillcanon: 0 files, 0 messages, 0 normal, 0 not normal, 0 refused, 0 octets\n' canonicalise --summary GOOD no/OUT
+row summary-of-no-text 3 '' "illcanon: cannot open \$'caf\\\\351': name is not UTF-8 text\nillcanon: 0 files, 0 messages, 0 normal, 0 not normal, 0 refused, 0 octets, 1 not opened\n" \
+    check -H --summary "$(printf 'caf\351')"
+rm LIST
 # Lines, all of them or OUT as it was.
 printf '%s\n7400\n' $EXPIRED >LINES
 cp OLD OUT
