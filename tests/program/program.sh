@@ -835,6 +835,18 @@ if [ "$(id -u)" = 0 ] && command -v chroot >/dev/null; then
         : >want-err
         compare 'no name for standard input, and OUT can be replaced' 0
         cmp -s G ROOT/OUT || { failed=$((failed + 1)) && echo 'failed: no name for standard input: OUT is not the normal form'; }
+        # Nor has it one for standard output, which may be the input: this is read as far as it was.
+        for words in 'check --lines SELF' 'check --hex SELF' 'check --json --keep-going SELF' 'dump --keep-going SELF'; do
+            case $words in *lines* | *hex*) echo 7400 >ROOT/SELF ;; *) octets ROOT/SELF $EMPTY$EXPIRED$EMPTY ;; esac
+            cp ROOT/SELF KEPT
+            chroot ROOT /illcanon $words <in >LATER 2>want-err
+            cat KEPT LATER >want-out
+            timeout 20 chroot ROOT /illcanon $words >>ROOT/SELF 2>err
+            status=$?
+            cp ROOT/SELF out
+            compare "no name for standard output: $words" 1
+        done
+        rm KEPT LATER
     else
         echo 'not tried: the program does not run in a folder of its own'
     fi
