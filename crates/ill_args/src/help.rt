@@ -67,7 +67,7 @@ Example: illcanon check messages.ber | grep 'not normal'
          find archive -name '*.ber' -print0 | illcanon check --files-from -
          illcanon check --lines messages.txt | grep -n refused
          illcanon check --keep-going --summary archive/*.ber > lines.txt
-         illcanon check --json --keep-going *.ber | jq -r '.refused.cause // empty'
+         illcanon check --json --keep-going ./*.ber | jq -r '.refused.cause // empty'
 
 Status: 0 all are normal; 1 one is not normal or is refused, or the hexadecimal text
 is invalid; 2 usage; 3 memory, files or pipes. Of several files: 3 if one gave 3,
@@ -93,7 +93,7 @@ On a terminal, a line says how far the work is, where it takes more than two sec
 
 With --json it is a line of JSON, the last one of the output.
 
-Example: illcanon digest *.ber | sort | uniq -w 64 -D    # copies
+Example: illcanon digest ./*.ber | sort | uniq -w 64 -D    # copies
          illcanon digest --keep-going archive/*.ber > digests.txt 2> refused.txt
          illcanon digest --lines messages.txt | paste - messages.txt
 
