@@ -334,6 +334,10 @@ pub fn print_error_of<R: Print + Eprint + Files>(
         }
         ProgramError::CannotOpen(name, why) => eprintln!(rt; "illcanon: cannot open {name}: {why}"),
         ProgramError::Closed => Ok(()),
+        // These name the file themselves.
+        ProgramError::CannotReplace(..) | ProgramError::NamesAreTaken(_) => {
+            eprintln!(rt; "illcanon: {error}")
+        }
         error if is_of_folder(rt, name, error) => {
             eprintln!(rt;
                 "illcanon: cannot open {}: {}",

@@ -5,7 +5,7 @@ use test_host::Octets::Text;
 use test_host::{Faults, INDEFINITE, NO_FAULTS, QUIET, Row, test_rows};
 
 /// Commands with no output of their own. O is absent.
-static ROWS: [Row; 35] = [
+static ROWS: [Row; 39] = [
     Row {
         words: "show A",
         output: Text(
@@ -63,6 +63,38 @@ static ROWS: [Row; 35] = [
         words: "check O",
         status: 3,
         errors: "illcanon: cannot open O\n",
+        ..QUIET
+    },
+    // A folder can be opened, but not read.
+    Row {
+        words: "check A folder",
+        status: 3,
+        output: Text(b"A: message 1: Expired, 33 octets, normal\n"),
+        errors: "illcanon: cannot open folder: is a directory\n",
+        ..QUIET
+    },
+    Row {
+        words: "check --summary folder A",
+        status: 3,
+        output: Text(b"A: message 1: Expired, 33 octets, normal\n"),
+        errors: "illcanon: cannot open folder: is a directory\nillcanon: 1 file, 1 message, 1 normal, 0 not normal, 0 refused, 33 octets, 1 not opened\n",
+        ..QUIET
+    },
+    Row {
+        words: "--version",
+        output: Text(b"illcanon 0.2.0\n"),
+        ..QUIET
+    },
+    // What is asked for can't be printed.
+    Row {
+        words: "--version",
+        faults: Faults {
+            room: Some(3),
+            ..NO_FAULTS
+        },
+        status: 3,
+        output: Text(b"ill"),
+        errors: "illcanon: flush fault\n",
         ..QUIET
     },
     // The answer would go to one of the files.

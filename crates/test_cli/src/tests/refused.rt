@@ -231,7 +231,7 @@ static ROWS: [Kept; 27] = [
             output: Text(
                 b"message 1: Expired, 33 octets, normal\nmessage 3: Expired, 33 octets, normal\n",
             ),
-            errors: "illcanon: refused at 2 in message 2: Missing Expired.protocol-version-num\nillcanon: R: cannot replace R: resource busy\n",
+            errors: "illcanon: refused at 2 in message 2: Missing Expired.protocol-version-num\nillcanon: cannot replace R: resource busy\n",
             ..QUIET
         },
         kept: OLD,
