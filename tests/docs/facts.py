@@ -44,7 +44,7 @@ SAYINGS = [
 OTHERS = {4_294_967_295, 18_446_744_073_709_551_615}
 # What says limits, and how often each at least. A text may say each number of seven digits and more only as a limit, or one of OTHERS.
 SAID = {
-    "README.md": {"octets": 1, "open": 1, "levels": 1, "integer": 2, "tag number": 1},
+    "README.md": {"octets": 1, "open": 1, "levels": 1, "integer": 1, "tag number": 1},
     DEFINITIONS: {"open": 2, "levels": 2, "integer": 1, "tag number": 1, "tag": 1},
     GUIDE: {"messages": 2, "hex": 1},
     MAN: {"messages": 2, "hex": 1},
