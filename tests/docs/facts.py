@@ -15,7 +15,7 @@ from model.tables import ALL_ROWS, NAMES, ROOTS, reached
 
 ROOT = Path(__file__).resolve().parents[2]
 HELP, TOPICS, COMMANDS = (f"crates/ill_args/src/{name}.rt" for name in ("help", "topics", "commands"))
-MAN, GUIDE, DEFINITIONS, SECURITY = "man/illcanon.1", "docs/GUIDE.md", "docs/DEFINITIONS.md", "SECURITY.md"
+MAN, GUIDE, DEFINITIONS, PERFORMANCE, SECURITY = "man/illcanon.1", "docs/GUIDE.md", "docs/DEFINITIONS.md", "docs/PERFORMANCE.md", "SECURITY.md"
 HEADER, RESULTS, REFUSAL, WALK = "bindings/c/illcanon.h", "docs/results.schema.json", "crates/ill_schema/src/refusal.rt", "crates/ill_walk/src/refusal.rt"
 WORDS = {"two": 2, "three": 3, "four": 4, "five": 5, "six": 6, "seven": 7, "eight": 8, "nine": 9, "ten": 10}
 
@@ -44,7 +44,7 @@ SAYINGS = [
 OTHERS = {4_294_967_295, 18_446_744_073_709_551_615}
 # What says limits, and how often each at least. A text may say each number of seven digits and more only as a limit, or one of OTHERS.
 SAID = {
-    "README.md": {"octets": 1, "open": 1, "levels": 1, "integer": 2, "tag number": 1},
+    "README.md": {"octets": 1, "open": 1, "levels": 1, "integer": 1, "tag number": 1},
     DEFINITIONS: {"open": 2, "levels": 2, "integer": 1, "tag number": 1, "tag": 1},
     GUIDE: {"messages": 2, "hex": 1},
     MAN: {"messages": 2, "hex": 1},
@@ -59,7 +59,9 @@ SAID = {
 # What says numbers, and is not of the documents that docs.py names.
 TEXTS = [HELP, TOPICS, COMMANDS, MAN, REFUSAL, WALK, HEADER]
 # What says what was measured or what was so once.
-NOT_COMPARED = {"docs/PERFORMANCE.md", "CHANGELOG.md", "vectors/README.md"}
+NOT_COMPARED = {PERFORMANCE, "CHANGELOG.md", "vectors/README.md"}
+# What names the kit or the gate, too, and is not of the documents that docs.py names.
+OTHER_DOCUMENTS = ["bindings/web/README.md"]
 
 # The commands, by the constant of the end of their help.
 ENDS = {"SHOW": "show", "CHECK": "check", "DIGEST": "digest", "DUMP": "dump", "SAME": "same", "CANONICALISE": "canonicalise"}
@@ -194,6 +196,29 @@ def check_counts():
     listed = [name for cell in re.findall(r"^([A-Z][\w, ]*) \|", table, re.M) for name in cell.split(", ") if name != "Cause"]
     if sorted(listed) != sorted(causes):
         fault(DEFINITIONS, f"the table of causes has {sorted(set(listed) ^ set(causes))} too much or too little")
+
+
+def check_gate(documents):
+    """PERFORMANCE says which kit the gate ran with and how many minutes it took; what else says it agrees."""
+    numbers = re.search(r"`rt ci` from nothing with `(rattle-kit-\w+)`[^.]* ([\d.]+) by the clock on four cores", read(PERFORMANCE))
+    if not numbers:
+        fault(PERFORMANCE, "doesn't say with which kit `rt ci` ran, and how long by the clock on four cores")
+        return
+    kit, minutes = numbers[1], round(float(numbers[2]))
+    said = {"kit": 0, "minutes": 0}
+    for path in [*documents, *OTHER_DOCUMENTS]:
+        text = " ".join(read(path).split())
+        for found in re.findall(r"rattle-kit-\w+", text):
+            said["kit"] += path == "README.md"
+            if found != kit:
+                fault(path, f"names {found}, and {PERFORMANCE} has {kit}")
+        for found in re.findall(r"`rt ci`[^.]* in (\d+) minutes", text):
+            said["minutes"] += path == "README.md"
+            if int(found) != minutes:
+                fault(path, f"says that `rt ci` takes {found} minutes, and by {PERFORMANCE} it takes {minutes}")
+    for what, count in said.items():
+        if count != 1:
+            fault("README.md", f"says the {what} of the gate {count} times, and not once")
 
 
 def constants(path):
@@ -406,6 +431,7 @@ def check(documents, program):
     """Compares all, and returns what is wrong, a line each."""
     known = check_limits(documents)
     check_counts()
+    check_gate(documents)
     check_statuses()
     check_examples()
     check_wiring()

@@ -1,8 +1,8 @@
 """What must be believed: follows contracts through specs/, and prints the files and definitions that they reach.
 
-With --check, fails where docs/TRUSTED.md is not what it prints, or README.md has other numbers. With --names, prints the definitions
-that are reached in each file. With --private, prints the files of specs/ that no public contract
-reaches, and those of specs/code/ that one does.
+With --check, fails where docs/TRUSTED.md is not what it prints, README.md has other numbers, or README.md and docs/PROVED.md name other
+functions. With --names, prints the definitions that are reached in each file. With --private, prints the files of specs/ that no public
+contract reaches, and those of specs/code/ that one does.
 """
 import os
 import re
@@ -131,18 +131,19 @@ def words_in(text, uses, own=None):
                 yield found
 
 
-def reached(seeds):
-    """The definitions that the seeds reach, by file."""
+def reached(seeds, of_laws=None):
+    """The definitions that the seeds reach, by file. In place of those that a law states (LAWS) are the words of the law."""
     todo, found, laws = list(seeds), {}, set()
+    of_laws = LAWS if of_laws is None else of_laws
     while todo:
         module, name = todo.pop()
         names = found.setdefault(module, set())
         if name in names:
             continue
         names.add(name)
-        if (module, name) in LAWS:
+        if (module, name) in of_laws:
             names.discard(name)
-            law = LAWS[module, name]
+            law = of_laws[module, name]
             if law not in laws:
                 laws.add(law)
                 todo += contracts_of(law[0], (law[1],))
@@ -175,7 +176,7 @@ def functions_of(lines):
             block = line
         elif line.startswith("}"):
             block = ""
-        at = re.match(r"\s*(pub )?(?:const |extern \"C\" )?fn (\w+)", line)
+        at = re.match(r"\s*(pub )?(?:final |const |unsafe |extern \"C\" )*fn (\w+)", line)
         if at:
             yield block, bool(at[1]), at[2], contract_at(lines, i)
 
@@ -207,20 +208,32 @@ def contract_at(lines, start):
     return " ".join(text)
 
 
+def names_in(block):
+    """The names that the first line of an `impl` or a trait has, without the trait that is implemented."""
+    return {*re.findall(r"\w+", block.partition(" for ")[2] or block)}
+
+
 def contracts_of(crate, wanted=None):
-    """The definitions that contracts cite: of what a library passes on, or of the functions of these names."""
-    names = exported(crate)
+    """The definitions that contracts cite: of what a library passes on, or of the functions of these names (`name`, or `Type::name`)."""
+    names, missing = exported(crate), {*(wanted or ())}
     for path, lines in rust_of(crate):
         uses = uses_of(lines, ghost=True)
         for block, is_public, name, contract in functions_of(lines):
-            is_ours = bool(names & {*re.findall(r"\w+", block.partition(" for ")[2] or block)})
-            is_wanted = name in wanted if wanted is not None else (is_ours and (is_public or " for " in block or "trait " in block) if block else name in names)
+            if wanted is None:
+                is_ours = bool(names & names_in(block))
+                is_wanted = is_ours and (is_public or " for " in block or "trait " in block) if block else name in names
+            else:
+                found = {f"{of}::{name}" for of in names_in(block)} if block else {name}
+                is_wanted = bool(found & {*wanted})
+                missing -= found
             if is_wanted:
                 yield from words_in(contract, uses)
         if wanted is None:
             for block, text in ghosts_of(lines):
-                if names & {*re.findall(r"\w+", block.partition(" for ")[2] or block)}:
+                if names & names_in(block):
                     yield from words_in(text, uses)
+    if missing:
+        sys.exit(f"trusted.py: {crate} has no function {', '.join(sorted(missing))}")
 
 
 def lines_of(module, names):
@@ -233,19 +246,32 @@ def size(found):
     return len(found), sum(lines_of(module, names) for module, names in found.items())
 
 
-# The claims of README.md, each with the functions that it names, and the crates that these are in.
-CLAIMS = [
-    ("Equal normal forms", [("ill_normal", "normal_forms_are_equal_exactly_if_apdus_are"), ("ill_normal", "same_message")]),
-    ("What is accepted", [("ill_refusals", "one_outcome"), ("ill_read", "decode"), ("ill_read", "read_message")]),
-    ("However the input is cut", [("ill_read", "feed"), ("ill_read", "read_message")]),
-    ("One cause at one offset", [("ill_refusals", "one_outcome"), ("ill_normal", "one_refusal_of_a_slice")]),
-]
-
-# The other columns: a mark, what it is of, the crate, and its functions (None for all that it passes on).
-OTHERS = [
-    ("J", "The program's jobs", "ill_commands", ("run_as", "run_same_as")),
-    ("L", "The program's lines", "ill_lines", ("run_lines_as",)),
-    ("C", "The calls for C", "ill_c", None),
+# The columns: a mark, what it is of, and the functions whose contracts say it (None for all that a library passes on). Those with a number are
+# the claims of README.md, which names the same functions; README.md or docs/PROVED.md names those of the others.
+COLUMNS = [
+    ("1", "Equal normal forms", [("ill_normal", "normal_forms_are_equal_exactly_if_apdus_are"), ("ill_normal", "same_message")]),
+    ("2", "What is accepted", [("ill_refusals", "one_outcome"), ("ill_read", "decode"), ("ill_read", "read_message")]),
+    ("3", "However the input is cut", [("ill_read", "Decoder::feed"), ("ill_read", "read_message")]),
+    ("4", "One cause at one offset", [("ill_refusals", "one_outcome"), ("ill_normal", "one_refusal_of_a_slice")]),
+    ("N", "Normal forms of streams", [("ill_normal", name) for name in ("normalise", "normalise_stream", "check_one", "is_normal")]),
+    ("T", "APDUs as structs", [("ill_apdu", None), *(("ill_parts", name) for name in ("Part::to_value", "Part::read", "Typed::from_value", "Typed::one_view"))]),
+    ("M", "The module profile beside profile 2", [("ill_schema", "the_module_reads_profile_two"), ("ill_schema", "no_octets_change_their_meaning")]),
+    ("J", "The program's jobs", [("ill_commands", "run_as"), ("ill_commands", "run_same_as")]),
+    ("S", "Refused messages skipped, results as JSON", [
+        ("ill_normal", "for_each_accepted_message"),
+        ("ill_commands", "run_skipping"),
+        ("ill_commands", "refused_json"),
+        ("ill_json", "result_line"),
+        ("ill_json", "refused_line"),
+    ]),
+    ("L", "The program's lines", [("ill_lines", "run_lines_as")]),
+    ("O", "From words to plan and exit status", [
+        ("ill_args", "order"),
+        ("ill_cli", "Plan::new"),
+        ("ill_cli", "InputAction::new"),
+        *(("ill_files", name) for name in ("status_of", "combined_status", "is_output_lost", "keeps_output", "keeps_refused")),
+    ]),
+    ("C", "The calls for C", [("ill_c", None)]),
 ]
 
 TEXT = """# What must be believed
@@ -258,34 +284,35 @@ Mark | Claim | Functions whose contracts say it | Files | Lines
 
 Claims 1 to 4 are those of the [README](../README.md#what-is-proved). Together they need {claim_lines} lines in {claim_files} files, without comments and blank lines.
 
-Not listed, but to be believed: the types that the Rust code declares, and the definitions of std, `jiff`, `json`, `hex` and `sha2` that are cited. The functions of `ber_core/specs/Reading.antt` are not listed and need not be believed: the law `ber_core::headers_are_read` says what they read, and the list has the words of that law.
+Not listed, but to be believed: types of the Rust code, and what is cited of std, `jiff`, `json`, `hex`, `sha2` and `clap`.
+
+Not listed, since a law has it in words that are listed: the functions of `ber_core/specs/Reading.antt` (`ber_core::headers_are_read`), and how a decoder's state is said in its fields (`ill_read::decoders_are_apart`).
 
 ## Files
 
-For each file of `crates/`: how many of its lines are needed, and for which claims. `python3 tests/docs/trusted.py --names` prints the definitions.
+The files of `crates/`, without their ending: for which claims they are needed, and how many lines of them. `python3 tests/docs/trusted.py --names` prints the definitions.
 
 ```text
 {files}
 ```
 """
 
-# How a function is named that is in a type.
-NAMES = {"feed": "Decoder::feed"}
+# The columns besides the claims whose numbers README.md gives.
+README_TOO = "TM"
 
 # Definitions that a law states in the words of others, so that nobody has to believe them: the law, and what they are.
 READING = "Rattle.ber_core.specs.Reading"
 LAWS = {(READING, name): ("ber_core", "headers_are_read") for name in ("class_of", "tagged", "read_digits", "read_number", "read_identifier", "read_length")}
+FEEDING = "Rattle.ill_read.specs.Feeding"
+LAWS.update({(FEEDING, name): ("ill_read", "decoders_are_apart") for name in ("IsOpenAt", "IsOpenAfter", "IsWholeWith", "HasFailedWith")})
 PRODUCT = "ber_tree ber_core ber_framing ber_leaf ill_tables ill_schema ill_refusals ill_inputs ill_read ill_write ill_normal ill_marks ill_text ill_json ill_commands ill_walk ill_dump ill_lines ill_args ill_files ill_batch ill_cli ill_c ill_parts ill_apdu".split()
 
 
 def columns():
     """Each column of the list: its mark, what it is of, the functions whose contracts it follows, and what they reach."""
-    for number, (title, functions) in enumerate(CLAIMS, 1):
-        calls = ", ".join(f"`{crate}::{NAMES.get(name, name)}`" for crate, name in functions)
-        yield str(number), title, calls, reached([seed for crate, name in functions for seed in contracts_of(crate, (name,))])
-    for mark, title, crate, names in OTHERS:
-        calls = ", ".join(f"`{crate}::{name}`" for name in names) if names else f"all of `{crate}`"
-        yield mark, title, calls, reached([*contracts_of(crate, names)])
+    for mark, title, functions in COLUMNS:
+        calls = ", ".join(f"`{crate}::{name}`" if name else f"all of `{crate}`" for crate, name in functions)
+        yield mark, title, calls, reached([seed for crate, name in functions for seed in contracts_of(crate, name and (name,))])
 
 
 def union(parts):
@@ -302,14 +329,17 @@ def document():
     claims = union(found for mark, _, _, found in of if mark.isdigit())
     everything = union(found for *_, found in of)
     rows = [f"{mark} | {title} | {calls} | {size(found)[0]} | {size(found)[1]:,}" for mark, title, calls, found in of]
-    files, folder = [], None
+    # the files of a folder that are for the same claims, in one line
+    folders = {}
     for module in sorted(everything, key=lambda module: file_of(module).path):
         at, name = os.path.split(file_of(module).path)
-        if at != folder:
-            files.append(f"{at}/")
-            folder = at
         marks = "".join(mark if module in found else "." for mark, _, _, found in of)
-        files.append(f"  {name:<18}{lines_of(module, everything[module]):>4}  {marks}")
+        group = folders.setdefault(at, {}).setdefault(marks, [[], 0])
+        group[0].append(name.removesuffix(".antt"))
+        group[1] += lines_of(module, everything[module])
+    files = []
+    for at, groups in folders.items():
+        files += [f"{at}/", *(f"  {marks} {lines:>4}  {' '.join(names)}" for marks, (names, lines) in groups.items())]
     values = {"rows": "\n".join(rows), "files": "\n".join(files), "claim_files": size(claims)[0], "claim_lines": f"{size(claims)[1]:,}"}
     return TEXT.format(**values)
 
@@ -321,20 +351,37 @@ def names():
 
 
 def readme_faults():
-    """The numbers of the claims that README.md doesn't give."""
-    with open(os.path.join(TOP, "README.md"), encoding="utf-8") as it:
-        text = " ".join(it.read().split())
-    of = [found for mark, _, _, found in columns() if mark.isdigit()]
-    for found in [*of, union(of)]:
-        files, lines = size(found)
-        if not re.search(rf"{lines:,} (lines )?in {files}\b", text):
-            yield f"README.md doesn't say: {lines:,} lines in {files} files"
+    """The numbers that README.md doesn't give, and the functions that it and docs/PROVED.md don't name as COLUMNS has them."""
+    texts = []
+    for name in ("README.md", os.path.join("docs", "PROVED.md")):
+        with open(os.path.join(TOP, name), encoding="utf-8") as it:
+            texts.append(it.read())
+    # the claims in their order, and the other columns that README.md has numbers of
+    found = {mark: found for mark, _, _, found in columns()}
+    claims = [found[mark] for mark in found if mark.isdigit()]
+    bullet = re.search(r"^- The definitions that these contracts use\..*", texts[0], re.M)
+    said = [(int(lines.replace(",", "")), int(files)) for lines, files in re.findall(r"([\d,]+) (?:lines )?in (\d+)\b", bullet[0] if bullet else "")]
+    wanted = [(lines, files) for files, lines in map(size, [*claims, union(claims), *(found[mark] for mark in README_TOO)])]
+    if said != wanted:
+        yield f"README.md has other lines and files than {wanted}: {said}"
+    table = texts[0].partition("\nClaim | ")[2].partition("\n\n")[0].split("\n")[2:]
+    rows = [{call.rpartition("::")[2] for call in re.findall(r"`([\w:]+)`", row.split(" | ")[1])} for row in table]
+    wanted = [{name.rpartition("::")[2] for _, name in functions} for mark, _, functions in COLUMNS if mark.isdigit()]
+    if rows != wanted:
+        yield f"README.md names other functions for its claims than COLUMNS has: {rows}"
+    words = {word for text in texts for word in re.findall(r"`([\w:]+)`", text)}
+    for mark, _, functions in COLUMNS:
+        for crate, name in functions:
+            if name and not any(f"::{word}".endswith((f"::{name}", "::" + name.removesuffix("_as"))) or word == name.rpartition("::")[2] for word in words):
+                yield f"neither README.md nor docs/PROVED.md names {crate}::{name}, of column {mark}"
+            if not name and not re.search(rf"\b{crate}\b", texts[1]):
+                yield f"docs/PROVED.md doesn't name {crate}, of column {mark}"
 
 
 def private():
     found = {}
     for crate in PRODUCT:
-        for module, names in reached(contracts_of(crate)).items():
+        for module, names in reached(contracts_of(crate), of_laws={}).items():
             found.setdefault(module, set()).update(names)
     for crate in PRODUCT:
         specs = os.path.join(CRATES, crate, "specs")
