@@ -330,6 +330,24 @@ def check_option(place, name, text):
         fault(place, f"--{name} has the words of {sorted(found)}: {text!r}")
 
 
+def check_max_refused():
+    """The man page has the greatest N of `--max-refused`, as the command line has it, and the status of work that it ended."""
+    text = " ".join(man_options().get("max-refused", "").split())
+    number = re.search(r'\.long\("max-refused"\)[^;}]*ValueParser::unsigned\(1, ([\d_]+)\)', read(COMMANDS), re.S)
+    status = re.search(r"ProgramError::RefusedEnough\(_\)\) => (\d)", read("crates/ill_files/src/error.rt"))
+    found = re.search(r"at most ([\d,]+) messages, with a line on standard error and status (\d)\.", text)
+    if not (number and status and found and found.groups() == (f"{int(number[1].replace('_', '')):,}", status[1])):
+        fault(MAN, f"--max-refused has another number or status than the sources: {text!r}")
+
+
+def check_names_of_options():
+    """Each option that a document names is one of the program, but for those of other commands."""
+    for path, others in {"README.md": set(), SECURITY: set(), GUIDE: {"pipe"}, "docs/TESTING.md": {"minutes"}, "docs/DECISIONS.md": set(), "docs/PROVED.md": set()}.items():
+        for name in re.findall(r"`(?:illcanon )?(?:[a-z]+ )*--([a-z][a-z-]*)", read(path)):
+            if name not in OPTIONS and name not in others:
+                fault(path, f"names --{name}, which is no option")
+
+
 def check_options(help_of, commands):
     """Each option has its own words in the man page, and in the help of each command."""
     man = man_options()
@@ -435,6 +453,8 @@ def check(documents, program):
     check_statuses()
     check_examples()
     check_wiring()
+    check_max_refused()
+    check_names_of_options()
     check_results_schema(known)
     if program.exists():
         check_program(program)
