@@ -55,7 +55,7 @@ element_of marks deep form x id y i (then.indefinite {rest = z} inner f d c e) j
   joined = j ∙ ap (λ w. id ++ w) e ∙ ap (λ w. id ++ (128 ∷ w)) c.4 ∙ sym (marked id c.0 c.1);
 }
 
-element_then : (marks deep : ℕ) (x : List ℕ) → IsElementThen marks deep x ↔ IsIdentifierThen marks deep x
+pub element_then : (marks deep : ℕ) (x : List ℕ) → IsElementThen marks deep x ↔ IsIdentifierThen marks deep x
 element_then marks deep x = (
   (λ h. element_parts marks deep x h.element h.rest h.framed h.closes h.joined),
   (λ h. element_of marks deep h.form x h.id h.rest h.is_id h.length_then h.joined),

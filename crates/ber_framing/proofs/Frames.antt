@@ -23,7 +23,7 @@ number_unique a b x y (last h) (framed.more k _) e = let c = cells e in absurd (
 number_unique a b x y (framed.more h _) (last k) e = let c = cells e in absurd (omega (arith, c.0, h, k))
 number_unique a b x y (framed.more {rest = m} _ h) (framed.more {rest = n} _ k) e = number_unique m n x y h k ((cells e).1)
 
-id_unique : (f g : Bool) (a b x y : List ℕ) → IsIdentifier f a → IsIdentifier g b → a ++ x ≡ b ++ y → x ≡ y
+pub id_unique : (f g : Bool) (a b x y : List ℕ) → IsIdentifier f a → IsIdentifier g b → a ++ x ≡ b ++ y → x ≡ y
 id_unique f g a b x y (low _ _ _) (low _ _ _) e = (cells e).1
 id_unique f g a b x y (low _ n _) (high m _ _) e = absurd (n (ap (λ (k : ℕ). k % 32) ((cells e).0) ∙ m))
 id_unique f g a b x y (high m _ _) (low _ n _) e = absurd (n (ap (λ (k : ℕ). k % 32) (sym ((cells e).0)) ∙ m))
@@ -36,7 +36,7 @@ marked : (a i c x : List ℕ) → a ≡ i ++ (128 ∷ (c ++ 0 ∷ 0 ∷ [])) →
 marked a i c x e = ap (λ z. z ++ x) e ∙ simp append_assoc
 
 mutual
-  unique : (d e : ℕ) (a b x y : List ℕ) → IsFramed d a → IsFramed e b → a ++ x ≡ b ++ y → x ≡ y
+  pub unique : (d e : ℕ) (a b x y : List ℕ) → IsFramed d a → IsFramed e b → a ++ x ≡ b ++ y → x ≡ y
   unique d e a b x y (definite {form = f} {id = i} {octets = os} c h l _ p) (definite {form = g} {id = j} {octets = ps} k m n _ q) z =
       let r = id_unique f g i j _ _ h m (sym (three_parts a i os c x p) ∙ z ∙ three_parts b j ps k y q) in
       let s = length_unique (length c) (length k) os ps _ _ l n r in
@@ -123,7 +123,7 @@ is_id tag f a h (id.low k) =
 is_id tag f a h (id.high {octets = os} k d) =
     let p = form_is tag.class f 31 (lit< tt) in high p.1 p.0 (digits_are_number tag.number os d)
 
-identifier_is : (tag : Tag) (f : Bool) → HasIdentifier tag f → IsIdentifier f (identifier tag f)
+pub identifier_is : (tag : Tag) (f : Bool) → HasIdentifier tag f → IsIdentifier f (identifier tag f)
 identifier_is tag f h = is_id tag f (identifier tag f) h (identified tag f h)
 
 definite_framed : (deep : ℕ) (tag : Tag) (f : Bool) (contents b : List ℕ) → IsDefinite tag f contents b → length b ≤ 4_294_967_294 → IsFramed deep b

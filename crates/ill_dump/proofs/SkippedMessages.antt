@@ -8,7 +8,7 @@ use Rattle.ill_schema.specs.Profiles.{profile_of}
 use Rattle.ill_schema.specs.declared.refusal.Refusal.{Refusal}
 use Rattle.ill_schema.proofs.Streams.{accepts_some}
 use Rattle.ill_normal.specs.Calls.{taking, putting}
-use Rattle.ill_normal.specs.Items.{Item, Adds, IsRefusedFor, report, reports_from}
+use Rattle.ill_normal.specs.Items.{Item, Adds, IsRefusedFor, IsCutAtEnd, report, reports_from}
 use Rattle.ill_normal.specs.Messages.{MakesIn, Spelling, counted, first, position}
 use Rattle.ill_normal.specs.Next.{IsNextRefused, TakesPart}
 use Rattle.ill_normal.specs.Skipping.{Skips, HasNoEnd, HasNothingLeft, Reporting, reporting}
@@ -78,9 +78,9 @@ module _ (dump : DumpOptions) (left left' left'' held held' held'' : Option (Lis
 
   -- a message was refused whose end can't be known
   pub over_lost : (b : List ℕ) (refusal : Refusal) → counts.messages < 1_000_000
-      → Consumes left' left'' b → IsRefusedFor (profile_of dump.profile) b refusal → HasNoEnd b left'' → BeginsIf (is_chosen dump.only (counts.messages + 1)) held' held'' (head dump (counts.messages + 1))
+      → Consumes left' left'' b → IsRefusedFor (profile_of dump.profile) b refusal → HasNoEnd b left'' → IsCutAtEnd refusal left'' → BeginsIf (is_chosen dump.only (counts.messages + 1)) held' held'' (head dump (counts.messages + 1))
       → Adds new next (report (position (counts.messages + 1) counts.octets) refusal None ∷ []) → DumpsOn dump left left'' held held'' (reporting old next) (dump_counts (with_last counts))
-  over_lost b refusal lt c is no_end begins a =
+  over_lost b refusal lt c is no_end cut begins a =
       let number : counts.messages + 1 ≡ length r.skipped.items + 1 = omega (arith, r.skipped.count) in
       record {
         items = r.skipped.items;
@@ -88,7 +88,7 @@ module _ (dump : DumpOptions) (left left' left'' held held' held'' : Option (Lis
         reported = new;
         goes = goes_over dump left left' (reporting old new) r.skipped.items r.skipped.goes;
         ends = inr (
-          record { octets = b; refusal = refusal; taken = c; no_end = no_end; refused = is; reported = subst (λ (p : MessagePlace). Adds new next (report p refusal None ∷ [])) (sym r.skipped.next) a },
+          record { octets = b; refusal = refusal; taken = c; no_end = no_end; refused = is; cut = cut; reported = subst (λ (p : MessagePlace). Adds new next (report p refusal None ∷ [])) (sym r.skipped.next) a },
           (number, omega (arith, r.skipped.bad_ones)),
         );
         few = omega (arith, lt);
@@ -111,7 +111,7 @@ module _ (dump : DumpOptions) (left left' left'' held held' held'' : Option (Lis
     };
     dumps = subst (λ (k : ℕ). WritesDump dump k held held') r.skipped.count r.dumps;
     stops = subst (λ (k : ℕ). DumpStopsFor (profile_of dump.profile) (taking left' left'' x) (putting held' grown y) k RunFault.NotReported) r.skipped.count
-        (lt, record { octets = refused.0; refusal = refusal; taken = refused.1; end = end_known refused.0 left'' end refused.3; refused = refused.2 });
+        (lt, record { octets = refused.0; refusal = refusal; taken = refused.1; end = end_known refused.0 left'' end refused.3; refused = refused.2; cut = refused.5 });
   }
 
   pub over_stops : (grown : Option (List ℕ)) (fault : RunFault) → DumpStopsFor (profile_of dump.profile) (taking left' left'' x) (putting held' grown y) counts.messages fault

@@ -19,7 +19,7 @@ use Rattle.ill_normal.specs.declared.messages.RenderedMessage.{RenderedMessage}
 use Rattle.ill_normal.specs.declared.report.RefusalReport.{RefusalReport}
 use Rattle.ill_normal.specs.declared.skipping.SkippingError.{SkippingError}
 use Rattle.ill_normal.specs.declared.skipping.SkippingErrorKind.{SkippingErrorKind}
-use Rattle.ill_normal.specs.Items.{Item, good, bad, IsRefusedFor, AreItems, item_octets, position_past, written_of, written_from, report, reports_from, good_in, all_good, Adds, ComesWith}
+use Rattle.ill_normal.specs.Items.{Item, good, bad, IsRefusedFor, IsCutAtEnd, AreItems, item_octets, position_past, written_of, written_from, report, reports_from, good_in, all_good, Adds, ComesWith}
 use Rattle.ill_normal.specs.Skipping.{Reporting, reporting, Skips, HasNoEnd, SkipsToEnd, part_written, StopsFor, SkipsAndStops}
 use Rattle.ill_normal.specs.Next.{IsNextRefused, TakesPart}
 use Rattle.ill_inputs.specs.InputEnds.{GoesOn}
@@ -239,10 +239,10 @@ module _ (q : Named) where
     }
 
     -- a message was refused whose end can't be known
-    pub through_lost : (b : List ℕ) (refusal : Refusal) → counts.messages < 1_000_000 → Consumes left' left'' b → IsRefusedFor (profile_of q) b refusal → HasNoEnd b left''
+    pub through_lost : (b : List ℕ) (refusal : Refusal) → counts.messages < 1_000_000 → Consumes left' left'' b → IsRefusedFor (profile_of q) b refusal → HasNoEnd b left'' → IsCutAtEnd refusal left''
         → Adds new next (report (position (counts.messages + 1) counts.octets) refusal None ∷ [])
         → SkipsToEnd (profile_of q) text is_good (taking left left'' u) (putting held held' v) (reporting old next) (skipping_counts (with_last counts))
-    through_lost b refusal lt c is no_end a =
+    through_lost b refusal lt c is no_end cut a =
         let number : counts.messages + 1 ≡ length r.items + 1 = omega (arith, r.count) in
         record {
           items = r.items;
@@ -250,7 +250,7 @@ module _ (q : Named) where
           reported = new;
           goes = r.goes;
           ends = inr (
-            record { octets = b; refusal = refusal; taken = c; no_end = no_end; refused = is; reported = subst (λ (p : MessagePlace). Adds new next (report p refusal None ∷ [])) (sym r.next) a },
+            record { octets = b; refusal = refusal; taken = c; no_end = no_end; refused = is; cut = cut; reported = subst (λ (p : MessagePlace). Adds new next (report p refusal None ∷ [])) (sym r.next) a },
             number,
             omega (arith, r.bad_ones),
           );
@@ -304,7 +304,7 @@ module _ (q : Named) where
       good = r.good_are;
       octets = r.input;
       written = omega (arith, r.size);
-      stops = (lt, record { octets = refused.0; refusal = refusal; taken = refused.1; end = end_known refused.0 left'' end refused.3; refused = refused.2 }, Keeps-refl held');
+      stops = (lt, record { octets = refused.0; refusal = refusal; taken = refused.1; end = end_known refused.0 left'' end refused.3; refused = refused.2; cut = refused.5 }, Keeps-refl held');
     }
 
     pub stops_writing : {T : Type 0} (is : T → List ℕ → Type 0) (piece : RenderedMessage T) (n : ℕ) → counts.messages < 1_000_000 → (p : Made is text is_good (position (counts.messages + 1) counts.octets) left' left'' piece)

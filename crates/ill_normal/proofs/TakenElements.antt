@@ -1,8 +1,8 @@
 -- Octets of an element that are taken, fed to a framer and recorded.
-use Rattle.std.proofs.Common.{◌≡◌, ℕ, zero, suc, ◌+◌, ◌-◌, ◌<◌, ◌≤◌, Bool, List, [], ◌∷◌, ◌++◌, length, take, drop, Option, Some, refl, sym, ap, ap₂, subst, ◌∙◌, arith, inl, inr, append_assoc, append-nil, length-append, lit≤}
+use Rattle.std.proofs.Common.{◌≡◌, ℕ, zero, suc, ◌+◌, ◌-◌, ◌<◌, ◌≤◌, Bool, false, List, [], ◌∷◌, ◌++◌, length, take, drop, Option, Some, refl, sym, ap, ap₂, subst, ◌∙◌, arith, inl, inr, append_assoc, append-nil, length-append, lit≤}
 use Rattle.std.specs.Prelude.{MatchOption}
 use Rattle.std.proofs.lemmas.Bool.{cases_lt}
-use Rattle.std.proofs.lemmas.List.{length-take-le, take-take, take_all, take-append-le, take-append-drop}
+use Rattle.std.proofs.lemmas.List.{length-take, length-take-le, take-take, take_all, take-append-le, take-append-drop}
 use Rattle.std.proofs.Math.Seq.{take-append-add}
 use Rattle.std.specs.Io.KnownBytes.{Consumes, Keeps, IsAtEnd}
 use Rattle.std.proofs.KnownBytes.{Consumes-nil, Consumes-trans, Consumes-kept}
@@ -20,7 +20,9 @@ use Rattle.ber_framing.proofs.Frames.{part_and_whole, tree_framed}
 use Rattle.ill_schema.specs.declared.refusal.Refusal.{Refusal}
 use Rattle.ill_schema.specs.Apdu.{Apdu, SpellsApdu}
 use Rattle.ill_schema.proofs.Streams.{take_front}
-use Rattle.ill_refusals.specs.Fault.{fault_of}
+use Rattle.ill_refusals.specs.Fault.{fault_of, Refuses}
+use Rattle.ill_normal.proofs.FramedRefusals.{frame_not_truncated, truncated_short}
+use Rattle.ill_schema.specs.declared.refusal.Cause.{Cause}
 use Rattle.ill_refusals.specs.Outcome.{OnlyRefuses}
 use Rattle.ill_read.specs.Answers.{IsUnfinishedIn}
 use Rattle.ill_normal.specs.Messages.{Spelling, counted, MakesIn}
@@ -28,8 +30,9 @@ use Rattle.ill_normal.proofs.WrittenMessages.{counted_left}
 use Rattle.ill_normal.specs.declared.messages.RenderedMessage.{RenderedMessage}
 use Rattle.ill_normal.specs.declared.next_message.NextMessage.{NextMessage}
 use Rattle.ill_normal.specs.Skipping.{HasNoEnd}
+use Rattle.ill_normal.specs.Items.{IsCutAtEnd}
 use Rattle.ill_normal.specs.Next.{IsNext, TakesPart}
-use Rattle.ill_normal.specs.code.Taking.{IsFraming, Takes, TakesElement, TakesRest, TakesUnframed, Took, end_of}
+use Rattle.ill_normal.specs.code.Taking.{IsFraming, Takes, TakesElement, TakesUnframed, TakesWhereCut, Took, end_of}
 
 -- all octets of a slice of which no fewer leave more to be needed
 pub feeds_all : (f : Framer) (b xs : List ℕ) (m need : ℕ) → m ≤ length xs → length xs ≤ need → ((w : List ℕ) → length w < need → IsPartOfFrame (b ++ w))
@@ -230,40 +233,56 @@ module _ (left left' : Option (List ℕ)) (recorded : List ℕ) (size : ℕ) (fr
   end_is framed.Unframed j = inl (record { front = t.octets; more = []; joined = sym (append-nil t.octets); unframed = j; within = t.within })
   end_is framed.Part j = inr (j, t.part j)
 
+  -- it is refused as ending too early only where the input ends
+  cut_at_end : (q : Named) (refusal : Refusal) → (frame ≡ framed.Unframed → ⊥) → Refuses (profile_of q) recorded (fault_of refusal) → IsCutAtEnd refusal left'
+  cut_at_end q refusal known h cut = go frame known t.judged
+    where
+      short : length recorded < 1_048_576
+      short = truncated_short (profile_of q) recorded (fault_of refusal) h cut
+
+      all : recorded ≡ t.octets
+      all = t.keeps ∙ take_all 1_048_576 t.octets (omega (arith, short, ap length t.keeps, length-take 1_048_576 t.octets))
+
+      go : (f : Framing) → (f ≡ framed.Unframed → ⊥) → HasFraming t.octets f → IsAtEnd left'
+      go framed.Whole _ j = absurd (frame_not_truncated (profile_of q) (lit≤ tt) recorded (fault_of refusal) (subst IsFrame (sym all) j) h cut)
+      go framed.Unframed n j = absurd (n refl)
+      go framed.Part _ j = elim (t.part j) [ inl e ↦ e | inr le ↦ absurd (omega (arith, le, short, ap length all)) ]
+
   pub refused_next : {T : Type 0} (q : Named) (is : T → List ℕ → Type 0) (text : Spelling → List ℕ) (is_good : Spelling → Bool) (refusal : Refusal) (end : Option ℕ) → end ≡ end_of frame size
-      → OnlyRefuses (profile_of q) recorded (fault_of refusal) → IsNext (profile_of q) {T = T} is text is_good left left' recorded (NextMessage.Refused refusal end)
-  refused_next q is text is_good refusal end e h = (
+      → (frame ≡ framed.Unframed → ⊥) → OnlyRefuses (profile_of q) recorded (fault_of refusal) → IsNext (profile_of q) {T = T} is text is_good left left' recorded (NextMessage.Refused refusal end)
+  refused_next q is text is_good refusal end e known h = (
     t.octets,
     t.taken,
     subst (λ z. OnlyRefuses (profile_of q) z (fault_of refusal)) t.keeps h,
     subst (λ (o : Option ℕ). MatchOption o (HasNoEnd t.octets left') (λ n. IsFrame t.octets × (n ≡ counted (length t.octets)))) (sym e) (end_is frame t.judged),
     t.keeps,
+    cut_at_end q refusal known h.0,
   )
 
--- ---- the rest of a length that is too great
+-- ---- octets whose end can't be known, and then more
 
-pub rest_none : (left : Option (List ℕ)) (recorded : List ℕ) → TakesRest left left recorded recorded
-rest_none left recorded = record { more = []; taken = Consumes-nil left; keeps = λ octets e. e ∙ ap (λ z. take 1_048_576 z) (sym (append-nil octets)) }
-
-pub rest_more : (left left' left'' : Option (List ℕ)) (recorded recorded' recorded'' x : List ℕ) → TakesRest left left' recorded recorded' → Consumes left' left'' x
-    → recorded'' ≡ recorded' ++ take (1_048_576 - length recorded') x → TakesRest left left'' recorded recorded''
-rest_more left left' left'' recorded recorded' recorded'' x r c k = record {
-  more = r.more ++ x;
-  taken = Consumes-trans left left' left'' r.more x r.taken c;
-  keeps = λ octets e.
-      k ∙ ap (λ z. z ++ take (1_048_576 - length z) x) (r.keeps octets e) ∙ recorded_more 1_048_576 (octets ++ r.more) x
-      ∙ ap (λ z. take 1_048_576 z) (append_assoc octets r.more x);
-}
-
-pub took_unframed : (left left' left'' : Option (List ℕ)) (recorded recorded' : List ℕ) (size : ℕ) → TakesElement left left' recorded size framed.Unframed → TakesRest left' left'' recorded recorded' → TakesUnframed left left'' recorded'
-took_unframed left left' left'' recorded recorded' size t r = record {
+pub took_some : (left left' : Option (List ℕ)) (recorded : List ℕ) (size : ℕ) (frame : Framing) → TakesElement left left' recorded size frame → Took left left' recorded size frame
+took_some left left' recorded size framed.Whole t = t
+took_some left left' recorded size framed.Part t = t
+took_some left left' recorded size framed.Unframed t = record {
   octets = t.octets;
-  more = r.more;
-  taken = Consumes-trans left left' left'' t.octets r.more t.taken r.taken;
+  more = [];
+  taken = subst (Consumes left left') (sym (append-nil t.octets)) t.taken;
   unframed = t.judged;
   within = t.within;
-  keeps = r.keeps t.octets t.keeps;
+  keeps = t.keeps ∙ ap (λ z. take 1_048_576 z) (sym (append-nil t.octets));
 }
+
+module _ (left left' left'' : Option (List ℕ)) (recorded recorded' : List ℕ) (t : TakesUnframed left left' recorded) where
+  pub unframed_more : (x : List ℕ) → Consumes left' left'' x → recorded' ≡ recorded ++ take (1_048_576 - length recorded) x → TakesUnframed left left'' recorded'
+  unframed_more x c k = record {
+    octets = t.octets;
+    more = t.more ++ x;
+    taken = subst (Consumes left left'') (append_assoc t.octets t.more x) (Consumes-trans left left' left'' (t.octets ++ t.more) x t.taken c);
+    unframed = t.unframed;
+    within = t.within;
+    keeps = k ∙ ap (λ z. z ++ take (1_048_576 - length z) x) t.keeps ∙ recorded_more 1_048_576 (t.octets ++ t.more) x ∙ ap (λ z. take 1_048_576 z) (append_assoc t.octets t.more x);
+  }
 
 -- no message is at the front of octets with which no element begins
 pub none_begins : (octets more : List ℕ) → IsUnframed octets → ((n : ℕ) → n < length octets → IsPartOfFrame (take n octets)) → (m rest : List ℕ) → IsFrame m → octets ++ more ≡ m ++ rest → ⊥
@@ -278,12 +297,20 @@ unframed_unfinished : (q : Named) (octets more : List ℕ) → IsUnframed octets
 unframed_unfinished q octets more unframed within a n h =
     none_begins octets more unframed within (take n (octets ++ more)) (drop n (octets ++ more)) (spelling_framed q a (take n (octets ++ more)) h.1) (sym (take-append-drop n (octets ++ more)))
 
-pub unframed_broken : (left left' left'' : Option (List ℕ)) (recorded recorded' : List ℕ) (size : ℕ) → TakesElement left left' recorded size framed.Unframed → TakesRest left' left'' recorded recorded' → TakesPart left left''
-unframed_broken left left' left'' recorded recorded' size t r = record {
-  octets = t.octets ++ r.more;
-  taken = Consumes-trans left left' left'' t.octets r.more t.taken r.taken;
-  unfinished = λ q. unframed_unfinished q t.octets r.more t.judged t.within;
+pub unframed_broken : (left left' left'' : Option (List ℕ)) (recorded : List ℕ) → TakesUnframed left left' recorded → Keeps left' left'' → TakesPart left left''
+unframed_broken left left' left'' recorded t keeps = record {
+  octets = t.octets ++ t.more;
+  taken = Consumes-kept left left' left'' (t.octets ++ t.more) t.taken keeps;
+  unfinished = λ q. unframed_unfinished q t.octets t.more t.unframed t.within;
 }
+
+-- where an octet more was taken, fewer are missing to the greatest message
+pub fewer_missing : (q : Named) (recorded recorded' : List ℕ) (refusal : Refusal) (octet : ℕ) → Refuses (profile_of q) recorded (fault_of refusal) → refusal.cause ≡ Cause.Truncated
+    → recorded' ≡ recorded ++ take (1_048_576 - length recorded) (octet ∷ []) → 1_048_576 - length recorded' < 1_048_576 - length recorded
+fewer_missing q recorded recorded' refusal octet h cut k =
+    let short : length recorded < 1_048_576 = truncated_short (profile_of q) recorded (fault_of refusal) h cut in
+    let one : length (take (1_048_576 - length recorded) (octet ∷ [])) ≡ 1 = ap length (take_all (1_048_576 - length recorded) (octet ∷ []) (omega (arith, short))) in
+    omega (arith, short, one, ap length k, length-append recorded (take (1_048_576 - length recorded) (octet ∷ [])))
 
 module _ (left left' : Option (List ℕ)) (recorded : List ℕ) (size : ℕ) where
   -- what the reader made of what was recorded
@@ -308,14 +335,30 @@ module _ (left left' : Option (List ℕ)) (recorded : List ℕ) (size : ℕ) whe
       absurd (t.unframed none_is_part.0 (subst (λ z. IsFrame (z ++ none_is_part.0)) (sym none) none_is_part.2))
 
   pub refused_took : {T : Type 0} (q : Named) (is : T → List ℕ → Type 0) (text : Spelling → List ℕ) (is_good : Spelling → Bool) (frame : Framing) → Took left left' recorded size frame → (refusal : Refusal) (end : Option ℕ)
-      → end ≡ end_of frame size → OnlyRefuses (profile_of q) recorded (fault_of refusal) → IsNext (profile_of q) {T = T} is text is_good left left' recorded (NextMessage.Refused refusal end)
-  refused_took q is text is_good framed.Whole t refusal end e h = refused_next left left' recorded size framed.Whole t q is text is_good refusal end e h
-  refused_took q is text is_good framed.Part t refusal end e h = refused_next left left' recorded size framed.Part t q is text is_good refusal end e h
-  refused_took q is text is_good framed.Unframed t refusal end e h = (
+      → end ≡ end_of frame size → (frame ≡ framed.Unframed → IsCutAtEnd refusal left') → OnlyRefuses (profile_of q) recorded (fault_of refusal) → IsNext (profile_of q) {T = T} is text is_good left left' recorded (NextMessage.Refused refusal end)
+  refused_took q is text is_good framed.Whole t refusal end e cut h = refused_next left left' recorded size framed.Whole t q is text is_good refusal end e (λ k. cc) h
+  refused_took q is text is_good framed.Part t refusal end e cut h = refused_next left left' recorded size framed.Part t q is text is_good refusal end e (λ k. cc) h
+  refused_took q is text is_good framed.Unframed t refusal end e cut h = (
     t.octets ++ t.more,
     t.taken,
     subst (λ z. OnlyRefuses (profile_of q) z (fault_of refusal)) t.keeps h,
     subst (λ (o : Option ℕ). MatchOption o (HasNoEnd (t.octets ++ t.more) left') (λ n. IsFrame (t.octets ++ t.more) × (n ≡ counted (length (t.octets ++ t.more))))) (sym e)
         (inl (record { front = t.octets; more = t.more; joined = refl; unframed = t.unframed; within = t.within })),
     t.keeps,
+    cut refl,
   )
+
+-- where no octet more was taken
+pub refused_last : (left left' left'' : Option (List ℕ)) (recorded recorded' : List ℕ) (size : ℕ) {T : Type 0} (q : Named) (is : T → List ℕ → Type 0) (text : Spelling → List ℕ) (is_good : Spelling → Bool) (frame : Framing) (refusal : Refusal) (end : Option ℕ)
+    → Took left left' recorded size frame → TakesWhereCut left' left'' recorded recorded' frame refusal.cause false → end ≡ end_of frame size → OnlyRefuses (profile_of q) recorded (fault_of refusal)
+    → IsNext (profile_of q) {T = T} is text is_good left left'' recorded' (NextMessage.Refused refusal end)
+refused_last left left' left'' recorded recorded' size {T = T} q is text is_good frame refusal end t last e h =
+    subst (λ w. IsNext (profile_of q) {T = T} is text is_good left left'' w (NextMessage.Refused refusal end)) (sym last.0) (elim last.1 [
+      | inl n ↦ subst (λ l. IsNext (profile_of q) {T = T} is text is_good left l recorded (NextMessage.Refused refusal end)) (sym n.0)
+          (refused_took left left' recorded size q is text is_good frame t refusal end e (λ f c. absurd (n.1 f c)) h)
+      | inr n ↦
+          let unframed : TakesUnframed left left' recorded = subst (λ f. Took left left' recorded size f) n.0 t in
+          let none : recorded ≡ recorded ++ take (1_048_576 - length recorded) [] = sym (append-nil recorded) ∙ ap (λ z. recorded ++ z) (sym (take_all (1_048_576 - length recorded) [] (omega arith))) in
+          refused_took left left'' recorded size q is text is_good frame
+          (subst (λ f. Took left left'' recorded size f) (sym n.0) (unframed_more left left' left'' recorded recorded unframed [] n.1 none)) refusal end e (λ _ _. n.2) h
+    ])

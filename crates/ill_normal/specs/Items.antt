@@ -1,7 +1,9 @@
 -- An input that isn't given up at a message that is refused: what it is, what is written of it, and what is reported.
 use Rattle.std.specs.Prelude.{◌≡◌, ℕ, ◌+◌, Bool, true, ◌&&◌, List, [], ◌∷◌, ◌++◌, length, take, Option, Some, None, MatchOption}
+use Rattle.std.specs.Io.KnownBytes.{IsAtEnd}
 use Rattle.ber_leaf.specs.Profile.{Profile}
 use Rattle.ber_framing.specs.Framed.{IsFrame}
+use Rattle.ill_schema.specs.declared.refusal.Cause.{Cause}
 use Rattle.ill_schema.specs.declared.refusal.Refusal.{Refusal}
 use Rattle.ill_schema.specs.Apdu.{SpellsApdu}
 use Rattle.ill_refusals.specs.Fault.{fault_of}
@@ -20,6 +22,10 @@ pub data Item : Type 0 where
 -- the refusal says the one fault of the octets; of more than a message may have, that of the first 1,048,576
 abbrev pub IsRefusedFor : Profile → List ℕ → Refusal → Type 0
 IsRefusedFor q octets refusal = OnlyRefuses q (take 1_048_576 octets) (fault_of refusal)
+
+-- the refusal says that octets are missing only where the input ends, of which this is left
+abbrev pub IsCutAtEnd : Refusal → Option (List ℕ) → Type 0
+IsCutAtEnd refusal left = refusal.cause ≡ Cause.Truncated → IsAtEnd left
 
 -- s is these messages, one after another, and then the rest; those that are refused are framed elements
 abbrev pub AreItems : Profile → List ℕ → List Item → List ℕ → Type 0

@@ -8,7 +8,7 @@ use Rattle.ill_schema.specs.Profiles.{profile_of}
 use Rattle.ill_schema.specs.declared.refusal.Refusal.{Refusal}
 use Rattle.ill_tables.specs.declared.profile.Profile.{Profile as Named}
 use Rattle.ill_normal.specs.Messages.{Spelling, counted, MakesIn}
-use Rattle.ill_normal.specs.Items.{IsRefusedFor}
+use Rattle.ill_normal.specs.Items.{IsRefusedFor, IsCutAtEnd}
 use Rattle.ill_normal.specs.Skipping.{HasNoEnd}
 use Rattle.ill_normal.specs.declared.next_message.NextMessage.{NextMessage}
 use Rattle.ill_normal.specs.declared.next_message.NextMessage.TheVariants.{Read, Refused}
@@ -22,7 +22,7 @@ pub record TakesPart (left left' : Option (List ℕ)) : Type 0 where
 -- the next message was refused, and its first 1,048,576 octets were recorded
 abbrev pub IsNextRefused : Profile → Option (List ℕ) → Option (List ℕ) → List ℕ → Refusal → Option ℕ → Type 0
 IsNextRefused q left left' recorded refusal end =
-    (b : List ℕ) × Consumes left left' b × IsRefusedFor q b refusal × MatchOption end (HasNoEnd b left') (λ n. IsFrame b × (n ≡ counted (length b))) × (recorded ≡ take 1_048_576 b)
+    (b : List ℕ) × Consumes left left' b × IsRefusedFor q b refusal × MatchOption end (HasNoEnd b left') (λ n. IsFrame b × (n ≡ counted (length b))) × (recorded ≡ take 1_048_576 b) × IsCutAtEnd refusal left'
 
 -- the next message was read, or refused
 abbrev pub IsNext : Profile → {T : Type 0} → (T → List ℕ → Type 0) → (Spelling → List ℕ) → (Spelling → Bool) → Option (List ℕ) → Option (List ℕ) → List ℕ → NextMessage T → Type 0

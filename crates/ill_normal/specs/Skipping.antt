@@ -7,7 +7,7 @@ use Rattle.ill_schema.specs.declared.refusal.Refusal.{Refusal}
 use Rattle.ill_normal.specs.Calls.{Taking, taking, Putting, putting}
 use Rattle.ill_normal.specs.Messages.{Spelling, counted, first, BreaksWithinIn, TakesNoFurtherIn}
 use Rattle.ill_normal.specs.declared.messages.MessagePlace.{MessagePlace}
-use Rattle.ill_normal.specs.Items.{Item, AreItems, IsRefusedFor, position_past, written_from, report, reports_from, good_in, all_good, Adds}
+use Rattle.ill_normal.specs.Items.{Item, AreItems, IsRefusedFor, IsCutAtEnd, position_past, written_from, report, reports_from, good_in, all_good, Adds}
 use Rattle.ill_normal.specs.declared.report.RefusalReport.{RefusalReport}
 use Rattle.ill_inputs.specs.declared.run_fault.RunFault.{RunFault}
 use Rattle.ill_normal.specs.declared.skipping.SkippingCounts.{SkippingCounts}
@@ -50,6 +50,7 @@ pub record LosesEnd (q : Profile) (left left' : Option (List ℕ)) (reports : Re
   pub taken : Consumes left left' octets
   pub no_end : HasNoEnd octets left'
   pub refused : IsRefusedFor q octets refusal
+  pub cut : IsCutAtEnd refusal left'
   pub reported : Adds reports.old reports.new (report p refusal None ∷ [])
 
 -- the octets of the next message were taken, as far as its end can be known, and it is refused
@@ -59,6 +60,7 @@ pub record TakesRefused (q : Profile) (left left' : Option (List ℕ)) : Type 0 
   pub taken : Consumes left left' octets
   pub end : IsFrame octets ⊎ HasNoEnd octets left'
   pub refused : IsRefusedFor q octets refusal
+  pub cut : IsCutAtEnd refusal left'
 
 -- nothing was left
 pub record HasNothingLeft (left left' : Option (List ℕ)) (reports : Reporting) : Type 0 where

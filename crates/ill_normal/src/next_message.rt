@@ -4,15 +4,16 @@ ghost use Rattle.std.specs.Io.KnownBytes.{Consumes, IsAtEnd, Keeps};
 ghost use Rattle.ber_framing.specs.Framed.{IsPartOfFrame};
 ghost use Rattle.ill_schema.specs.Profiles.{profile_of};
 ghost use Rattle.ber_framing.specs.Framer.{IsFed, HasFraming};
+ghost use Rattle.ber_framing.specs.declared.framer.Framing.{Framing};
 ghost use Rattle.ill_normal.specs.Next.{IsNext, TakesPart};
-ghost use Rattle.ill_normal.specs.code.Taking.{end_of, Takes, TakesElement, TakesRest, Took};
+ghost use Rattle.ill_normal.specs.code.Taking.{end_of, Takes, TakesElement, TakesWhereCut, Took};
 
-use crate::messages::{MessagePlace, Render, RenderedMessage};
+use crate::messages::{MessagePlace, Render, Rendered, RenderedMessage};
 use crate::skipping::SkippingErrorKind;
 use ber_core::{Buffered, FromSlice, Lookahead, Source};
 use ber_framing::{Framer, Framing};
 use ill_read::ReadFailure;
-use ill_schema::{LIMIT, Refusal};
+use ill_schema::{Cause, LIMIT, Refusal};
 use std::alloc::{AllocError, Global};
 
 /// The number of octets that are asked of a source at once.
@@ -81,16 +82,24 @@ pub fn take_message<M: Render, R: Source, L: Lookahead<R>>(
         Ok(taken) => taken,
         Err(unread) => return Err(unread),
     };
-    let mut octets = FromSlice::new(recorded.as_slice());
-    match maker.next::<FromSlice<'_>, Buffered>(alloc, reader, position, &mut octets, buffer) {
-        Ok(Some(piece)) => Ok(Some(NextMessage::Read(piece))),
-        Ok(None) => Ok(None),
-        Err(ReadFailure::Refused(refusal)) => {
-            let end = end_of(taken);
-            Ok(Some(NextMessage::Refused { refusal, end }))
+    let mut buffer = buffer;
+    'judged: loop {
+        let mut octets = FromSlice::new(recorded.as_slice());
+        let refusal = match maker.next::<FromSlice<'_>, Buffered>(alloc, reader, position, &mut octets, buffer) {
+            Ok(Some(piece)) => return Ok(Some(NextMessage::Read(piece))),
+            Ok(None) => return Ok(None),
+            Err(ReadFailure::Refused(refusal)) => refusal,
+            Err(ReadFailure::OutOfMemory) => return Err(TakeError::OutOfMemory),
+            Err(ReadFailure::ReadFault) => unreachable!(),
+        };
+        match take_where_cut(source, recorded, taken.framing, refusal.cause) {
+            Ok(true) => buffer = M::Out::empty(alloc),
+            Ok(false) => {
+                let end = end_of(taken);
+                return Ok(Some(NextMessage::Refused { refusal, end }));
+            }
+            Err(unread) => return Err(unread),
         }
-        Err(ReadFailure::OutOfMemory) => Err(TakeError::OutOfMemory),
-        Err(ReadFailure::ReadFault) => unreachable!(),
     }
 }
 
@@ -111,8 +120,8 @@ fn end_of(taken: TakenElement) -> Option<u64>
     }
 }
 
-/// Takes the next element, up to where its end can't be known or the input ends, and records its first 1,048,576 octets.
-/// Of a length that is too great it takes the rest, so that the reader sees it whole.
+/// Takes the octets of the next element, up to where it ends, where its end can't be known or where the input ends, and records the first
+/// 1,048,576 of them.
 fn take_element<R: Source, L: Lookahead<R>>(
     source: &mut R,
     recorded: &mut Vec<u8>,
@@ -123,26 +132,12 @@ fn take_element<R: Source, L: Lookahead<R>>(
         × TakesPart (R.left source.old) (R.left source.new)) }
     ensures stays { IsTrue (R.is_broken source.old) → IsTrue (R.is_broken source.new) }
 {
-    let (framer, octets) = match take_framed::<R, L>(source, recorded) {
-        Ok(taken) => taken,
-        Err(unread) => return Err(unread),
-    };
-    match framer.framing() {
-        Framing::Unframed => match take_rest(source, recorded, framer.oversized_length_rest()) {
-            Ok(()) => Ok(TakenElement {
-                framing: Framing::Unframed,
-                octets,
-            }),
-            Err(unread) => Err(unread),
-        },
-        Framing::Whole => Ok(TakenElement {
-            framing: Framing::Whole,
+    match take_framed::<R, L>(source, recorded) {
+        Ok((framer, octets)) => Ok(TakenElement {
+            framing: framer.framing(),
             octets,
         }),
-        Framing::Part => Ok(TakenElement {
-            framing: Framing::Part,
-            octets,
-        }),
+        Err(unread) => Err(unread),
     }
 }
 
@@ -173,26 +168,32 @@ fn take_framed<R: Source, L: Lookahead<R>>(
     Ok((framer, octets))
 }
 
-/// Takes `count` octets more, or fewer where the input ends, and records them.
-fn take_rest<R: Source>(source: &mut R, recorded: &mut Vec<u8>, count: u8) -> Result<(), TakeError>
-    ensures rest { OnOk result (TakesRest (R.left source.old) (R.left source.new) recorded.old.items
-        recorded.new.items) }
-    ensures broken { IfErr result (λ e. e ≡ TakeError.Broken → IsTrue (R.is_broken source.new)
-        × TakesRest (R.left source.old) (R.left source.new) recorded.old.items recorded.new.items) }
+/// Takes one octet more where an element's end can't be known and its octets are refused as ending too early: a length that is too great
+/// is refused for that only when it is whole. Returns false where it takes none.
+fn take_where_cut<R: Source>(
+    source: &mut R,
+    recorded: &mut Vec<u8>,
+    framing: Framing,
+    cause: Cause,
+) -> Result<bool, TakeError>
+    ensures takes { IfOk result (TakesWhereCut (R.left source.old) (R.left source.new)
+        recorded.old.items recorded.new.items framing cause) }
+    ensures broken { IfErr result (λ e. e ≡ TakeError.Broken → (framing ≡ Framing.Unframed)
+        × IsTrue (R.is_broken source.new) × Keeps (R.left source.old) (R.left source.new)) }
     ensures stays { IsTrue (R.is_broken source.old) → IsTrue (R.is_broken source.new) }
 {
+    let (Framing::Unframed, Cause::Truncated) = (framing, cause) else {
+        return Ok(false);
+    };
     let mut octet = [0];
-    'rest: for _ in 0..count {
-        match source.take(&mut octet) {
-            Ok(0) => return Ok(()),
-            Ok(_) => match record_octets(recorded, &octet) {
-                Ok(()) => {}
-                Err(AllocError) => return Err(TakeError::OutOfMemory),
-            },
-            Err(_) => return Err(TakeError::Broken),
-        }
+    match source.take(&mut octet) {
+        Ok(0) => Ok(false),
+        Ok(_) => match record_octets(recorded, &octet) {
+            Ok(()) => Ok(true),
+            Err(AllocError) => Err(TakeError::OutOfMemory),
+        },
+        Err(_) => Err(TakeError::Broken),
     }
-    Ok(())
 }
 
 /// Takes some octets of an element, feeds a framer with them, and returns how many they are; 0 where the element or the input ends, or

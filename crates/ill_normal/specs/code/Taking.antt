@@ -1,6 +1,7 @@
 -- The octets of an element that are taken from a source and recorded.
-use Rattle.std.specs.Prelude.{◌≡◌, ◌⊎◌, ℕ, ◌-◌, ◌<◌, ◌≤◌, List, ◌++◌, length, take, Option, Some, None}
+use Rattle.std.specs.Prelude.{◌≡◌, ◌⊎◌, ℕ, ◌-◌, ◌<◌, ◌≤◌, Bool, true, false, List, [], ◌∷◌, ◌++◌, length, take, Option, Some, None}
 use Rattle.std.specs.Io.KnownBytes.{Consumes, IsAtEnd}
+use Rattle.ill_schema.specs.declared.refusal.Cause.{Cause}
 use Rattle.ill_normal.specs.Messages.{counted}
 use Rattle.ber_framing.specs.declared.framer.Framing.{Framing}
 use Rattle.ber_framing.specs.declared.framer.Framing.TheVariants as frame
@@ -53,11 +54,13 @@ Took left left' recorded size frame.Unframed = TakesUnframed left left' recorded
 Took left left' recorded size frame.Whole = TakesElement left left' recorded size frame.Whole
 Took left left' recorded size frame.Part = TakesElement left left' recorded size frame.Part
 
--- some octets more were taken, and those of the first 1,048,576 were recorded
-pub record TakesRest (left left' : Option (List ℕ)) (recorded recorded' : List ℕ) : Type 0 where
-  pub more : List ℕ
-  pub taken : Consumes left left' more
-  pub keeps : (octets : List ℕ) → recorded ≡ take 1_048_576 octets → recorded' ≡ take 1_048_576 (octets ++ more)
+-- an octet more was taken and recorded, since an element's end can't be known and its octets are refused as ending too early; or none was, since
+-- they aren't, or since the input ends there
+abbrev pub TakesWhereCut : Option (List ℕ) → Option (List ℕ) → List ℕ → List ℕ → Framing → Cause → Bool → Type 0
+TakesWhereCut left left' recorded recorded' framing cause true =
+    (framing ≡ frame.Unframed) × (cause ≡ Cause.Truncated) × ((octet : ℕ) × Consumes left left' (octet ∷ []) × (recorded' ≡ recorded ++ take (1_048_576 - length recorded) (octet ∷ [])))
+TakesWhereCut left left' recorded recorded' framing cause false =
+    (recorded' ≡ recorded) × (((left' ≡ left) × (framing ≡ frame.Unframed → cause ≡ Cause.Truncated → ⊥)) ⊎ ((framing ≡ frame.Unframed) × Consumes left left' [] × IsAtEnd left'))
 
 -- how many octets an element has whose end was found
 abbrev pub end_of : Framing → ℕ → Option ℕ

@@ -51,7 +51,7 @@ returns-in-Ok-clause-visits g c = λ start.
       next = λ from h. on_next (Next from) c.args.counts _ _ c.in-Refused.end bad.3
           (λ n e end. (h.0, over_bad _ from.left _ _ from.held _ _ from.reported _ _ _ _ _ _ c.args.counts h.1 bad.0 c.in-Refused.refusal n c.requires.few end.1 bad.1 bad.2 end.0 begins (rw e at adds)));
       last = λ from h. on_last (Last from) c.args.counts _ _ c.in-Refused.end bad.3
-          (λ e end. rw (sym h.0) (over_lost _ from.left _ _ from.held _ _ from.reported _ _ _ _ false false c.args.counts h.1 bad.0 c.in-Refused.refusal c.requires.few bad.1 bad.2 end begins (rw e at adds)));
+          (λ e end. rw (sym h.0) (over_lost _ from.left _ _ from.held _ _ from.reported _ _ _ _ false false c.args.counts h.1 bad.0 c.in-Refused.refusal c.requires.few bad.1 bad.2 end bad.5 begins (rw e at adds)));
       stops = λ from h. tt;
     }
 

@@ -70,7 +70,7 @@ returns-in-Ok-report-clause-visits g c = λ start.
       next = λ from h. on_next (Next from) c.args.counts _ _ c.in-Refused.end bad.3
           (λ n e end. (h.0, skipped_bad _ _ _ from.left _ _ from.held _ None from.reported _ _ _ _ _ _ _ _ h.1 bad.0 c.in-Refused.refusal n c.requires.few end.1 bad.1 bad.2 end.0 (rw e at adds)));
       last = λ from h. on_last (Last from) c.args.counts _ _ c.in-Refused.end bad.3
-          (λ e end. rw (sym h.0) (through_lost _ _ _ from.left _ _ from.held _ None from.reported _ _ _ _ _ _ _ _ h.1 bad.0 c.in-Refused.refusal c.requires.few bad.1 bad.2 end (rw e at adds)));
+          (λ e end. rw (sym h.0) (through_lost _ _ _ from.left _ _ from.held _ None from.reported _ _ _ _ _ _ _ _ h.1 bad.0 c.in-Refused.refusal c.requires.few bad.1 bad.2 end bad.5 (rw e at adds)));
       stops = λ from h. tt;
     }
 
