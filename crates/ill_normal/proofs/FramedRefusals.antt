@@ -1,10 +1,10 @@
 -- A framed element isn't refused as Truncated.
-use Rattle.std.proofs.Common.{◌≡◌, ◌≢◌, ◌⊎◌, ℕ, zero, suc, ◌+◌, ◌*◌, ◌-◌, ◌%◌, ◌<◌, ◌≤◌, Bool, true, false, ◌||◌, List, [], ◌∷◌, ◌++◌, length, take, drop, Option, Some, None, refl, sym, ap, subst, ◌∙◌, inl, inr, arith, append_assoc, length-append, length-drop, if◌then◌else◌, lit≤}
+use Rattle.std.proofs.Common.{◌≡◌, ◌⊎◌, ℕ, zero, suc, ◌+◌, ◌*◌, ◌-◌, ◌%◌, ◌<◌, ◌≤◌, Bool, true, false, ◌||◌, List, [], ◌∷◌, ◌++◌, length, take, drop, Some, refl, sym, ap, subst, ◌∙◌, inl, inr, arith, append_assoc, length-append, length-drop, if◌then◌else◌}
 use Rattle.std.specs.Prelude.{nat_eq, nat_lt}
 use Rattle.std.proofs.lemmas.List.{length-take-le, take-append-drop}
 use Rattle.ber_tree.specs.Identifier.{identifier}
 use Rattle.ber_tree.specs.Length.{IsLength}
-use Rattle.ber_tree.specs.Tree.{Tree, Trees, none, more, Spells, SpellsAll, depth}
+use Rattle.ber_tree.specs.Tree.{Trees, none, more, SpellsAll, depth}
 use Rattle.ber_tree.proofs.Lists.{cells}
 use Rattle.ber_leaf.specs.Profile.{Profile}
 use Rattle.ber_core.specs.Reading.{IdentifierRead, identified, part_identifier, no_identifier, tagged, read_digits, read_number, read_identifier, LengthRead, read_length, part_length}
@@ -14,13 +14,13 @@ use Rattle.ber_core.proofs.Lengths.{length_unique}
 use Rattle.ber_core.proofs.Trees.{no_length_128}
 use Rattle.ber_framing.specs.Framed.{IsTagNumber, last, IsIdentifier, low, high, IsFramed, AreFramed, IsFrame}
 use Rattle.ber_framing.specs.Framed as framed
-use Rattle.ber_framing.specs.Framer.{Closes, IsElementThen, IsContentsThen, IsLengthThen, definite, indefinite}
-use Rattle.ber_framing.proofs.FrameSteps.{IsIdentifierThen, element_then, begins, next_element, mark_first}
+use Rattle.ber_framing.specs.Framer.{Closes, IsElementThen, IsLengthThen, definite, indefinite}
+use Rattle.ber_framing.proofs.FrameSteps.{IsIdentifierThen, element_then, begins}
 use Rattle.ber_framing.proofs.FrameEnds.{first_element}
 use Rattle.ber_framing.proofs.Frames.{unique, id_unique, identifier_is, tree_framed}
 use Rattle.ill_schema.specs.declared.refusal.Cause.{Cause}
-use Rattle.ill_refusals.specs.Place.{Open, bound, IsOpening, IsOpen, IsPlace}
-use Rattle.ill_refusals.specs.Fault.{Fault, fault, fault_at, is_indefinite, Refuses}
+use Rattle.ill_refusals.specs.Place.{Open, bound, IsOpening, IsPlace}
+use Rattle.ill_refusals.specs.Fault.{Fault, Refuses}
 use Rattle.ill_refusals.proofs.FirstFault.{is_judged}
 use Rattle.ill_refusals.proofs.Judgements.{bound_some}
 use Rattle.ill_refusals.proofs.Truncation.{IsLengthCut, IsCutShort, in_mark, in_identifier, in_element, truncated_at, truncated_in}

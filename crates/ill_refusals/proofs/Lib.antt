@@ -15,3 +15,5 @@ pub mod PlaceOrder
 pub mod Truncation
 pub mod Bounds
 pub mod Refusals
+pub mod CausesByProfile
+pub mod OpenCounts

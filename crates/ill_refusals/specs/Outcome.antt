@@ -1,11 +1,16 @@
 -- The one outcome of an input, and what stays of it as the input grows or is cut short.
-use Rattle.std.specs.Prelude.{◌≡◌, ◌≢◌, ◌⊎◌, ℕ, ◌<◌, ◌≤◌, List, ◌++◌, length, take, drop, IsTrue, Some}
+use Rattle.std.specs.Prelude.{◌≡◌, ◌≢◌, ◌⊎◌, ℕ, ◌-◌, ◌<◌, ◌≤◌, Bool, List, ◌∷◌, ◌++◌, length, take, drop, IsTrue, Some}
 use Rattle.ill_schema.specs.declared.refusal.Cause.{Cause}
 use Rattle.ill_schema.specs.Apdu.{Apdu, Accepts}
 use Rattle.ill_refusals.specs.Fault.{Fault, fault, fault_at, Refuses}
 use Rattle.ber_tree.specs.Octets.{are_octets}
-use Rattle.ill_refusals.specs.Place.{Open, IsDue}
+use Rattle.ill_refusals.specs.Element.{leaf}
+use Rattle.ill_refusals.specs.Next.{Due, element_of, due}
+use Rattle.ill_refusals.specs.Place.{Open, next_in, bound, IsDue}
+use Rattle.ber_leaf.specs.Leaf.{Leaf}
 use Rattle.ber_leaf.specs.Profile.{Profile}
+use Rattle.ber_tree.specs.Identifier.{Tag}
+use Rattle.ber_core.specs.Reading.{read_identifier, identified}
 
 -- one APDU is accepted, and nothing refused
 abbrev pub OnlyAccepts : Profile → List ℕ → Apdu → ℕ → Type 0
@@ -43,3 +48,18 @@ PlacesAreApart p = (s : List ℕ) (a b : List Open) (k : ℕ) → IsTrue (are_oc
 abbrev pub FaultsAreLast : Profile → Type 0
 FaultsAreLast p = (s : List ℕ) (a b : List Open) (k l : ℕ) (f : Fault) → IsTrue (are_octets s) → IsDue p s k a → fault_at p a k (drop k s) ≡ Some f → IsDue p s l b
     → (l < k) ⊎ ((l ≡ k) × (length a ≤ length b))
+
+-- the innermost open element is this leaf, in segments; or the element is that begins here
+abbrev pub HasLeaf : Profile → List Open → List ℕ → Leaf → Type 0
+HasLeaf p path here l =
+    ((o : Open) × (outer : List Open) × (path ≡ o ∷ outer) × (o.element ≡ leaf l))
+    ⊎ ((tag : Tag) × (form : Bool) × (w : List ℕ) × (d : Due) × (read_identifier here ≡ identified tag form w) × (due p tag (next_in p path) ≡ Some d) × (element_of d ≡ leaf l))
+
+-- the cause is only of faults of this leaf
+abbrev pub IsOfLeaf : Profile → Cause → Leaf → Type 0
+IsOfLeaf p c l = (s : List ℕ) (f : Fault) → f.cause ≡ c → Refuses p s f
+    → (path : List Open) × (k : ℕ) × IsDue p s k path × HasLeaf p path (take (bound p path - k) (drop k s)) l
+
+-- at each place at most 32 elements are open
+abbrev pub FewAreOpen : Profile → Type 0
+FewAreOpen p = (s : List ℕ) (k : ℕ) (path : List Open) → IsDue p s k path → length path ≤ 32

@@ -1,17 +1,21 @@
 //! Laws of each input. Each is the contract of a function that does nothing.
-ghost use Rattle.std.specs.Prelude.{◌≡◌};
+ghost use Rattle.std.specs.Prelude.{◌≡◌, ◌≢◌, ℕ, ◌≤◌, List};
 ghost use Rattle.ber_tree.specs.Identifier.{Tag};
 ghost use Rattle.ber_tree.specs.Tree.{Trees};
-ghost use Rattle.ber_leaf.specs.Profile.{Profile, profile_two};
+ghost use Rattle.ber_leaf.specs.Profile.{Profile, profile_two, profile_three};
+ghost use Rattle.ber_leaf.specs.Leaf.{null_type, object_identifier, bit_string};
 ghost use Rattle.ill_tables.specs.declared.node.NodeId.{NodeId};
 ghost use Rattle.ill_tables.specs.declared.part.Row.{Row};
 ghost use Rattle.ill_tables.specs.declared.profile.Profile.{Profile as Named};
+ghost use Rattle.ill_schema.specs.Causes.{cause_number};
+ghost use Rattle.ill_schema.specs.declared.refusal.Cause.{Cause};
 ghost use Rattle.ill_schema.specs.Profiles.{profile_of};
 ghost use Rattle.ill_schema.specs.Tagging.{tagging};
 ghost use Rattle.ill_refusals.specs.Element.{Component, Element, components, starts};
 ghost use Rattle.ill_refusals.specs.Next.{Next, due, missing, opening, next_after};
 ghost use Rattle.ill_refusals.specs.Bounds.{ValuesAreSmall};
-ghost use Rattle.ill_refusals.specs.Outcome.{OutcomesAreExact, RefusalsStay, PrefixesAreTruncated, TruncatedIsAtTheEnd, PlacesAreApart, FaultsAreLast};
+ghost use Rattle.ill_refusals.specs.Outcome.{OutcomesAreExact, RefusalsStay, PrefixesAreTruncated, TruncatedIsAtTheEnd, PlacesAreApart, FaultsAreLast, FewAreOpen, IsOfLeaf};
+ghost use Rattle.ill_refusals.specs.Fault.{Fault, Refuses};
 
 /// Each input is accepted as one APDU of one size, or refused with one fault.
 pub fn one_outcome()
@@ -33,6 +37,22 @@ pub fn truncated_at_the_end()
 pub fn one_place()
     ensures apart { (p : Profile) → PlacesAreApart p }
     ensures last { (p : Profile) → FaultsAreLast p }
+{}
+
+/// At each place of an input at most 32 elements are open.
+pub fn few_elements_are_open()
+    ensures { (p : Profile) → FewAreOpen p }
+{}
+
+/// The causes of refusals: in profile 2 those with the numbers 1 to 19; in the module profile all but LeftOut. BadNull, BadOid and BadBits
+/// are only of elements of their types.
+pub fn causes_of_profiles()
+    ensures two { (s : List ℕ) (f : Fault) → Refuses profile_two s f → cause_number f.cause ≤ 19 }
+    ensures module { (s : List ℕ) (f : Fault) → Refuses profile_three s f
+        → cause_number f.cause ≢ 8 }
+    ensures null { (p : Profile) → IsOfLeaf p Cause.BadNull null_type }
+    ensures identifier { (p : Profile) → IsOfLeaf p Cause.BadOid object_identifier }
+    ensures bits { (p : Profile) → IsOfLeaf p Cause.BadBits bit_string }
 {}
 
 /// The texts of an APDU have at most as many octets as its encoding, and its lists and foreign trees together at most half as many

@@ -5,5 +5,5 @@
 mod laws;
 
 pub use laws::{
-    due_by_bare_tags, one_outcome, one_place, refusals_stay, truncated_at_the_end, values_are_small,
+    causes_of_profiles, due_by_bare_tags, few_elements_are_open, one_outcome, one_place, refusals_stay, truncated_at_the_end, values_are_small,
 };
