@@ -1,315 +1,23 @@
--- Which causes a profile's refusals have: a place has only rows and leaves of the profile.
-use Rattle.std.proofs.Common.{◌≡◌, ◌≢◌, ◌⊎◌, ℕ, zero, suc, ◌+◌, ◌-◌, ◌≤◌, Bool, true, false, ◌&&◌, ◌||◌, List, [], ◌∷◌, ◌++◌, length, take, drop, Option, Some, None, IsTrue, refl, sym, ap, subst, ◌∙◌, inl, inr, arith, lit≤, if◌then◌else◌}
-use Rattle.std.specs.Prelude.{flat_map, find, not, nat_eq, nat_lt, nat_le, is_some}
-use Rattle.std.specs.List.{list_all}
-use Rattle.std.proofs.lemmas.Bool.{and_parts}
+-- Which causes a profile's refusals have.
+use Rattle.std.proofs.Common.{◌≡◌, ◌≢◌, ℕ, ◌+◌, ◌-◌, ◌≤◌, Bool, true, false, ◌&&◌, List, [], ◌∷◌, length, take, drop, Option, Some, None, IsTrue, refl, sym, ap, subst, ◌∙◌, inl, inr, arith, lit≤, if◌then◌else◌}
+use Rattle.std.specs.Prelude.{not, nat_eq, nat_lt, nat_le, is_some}
 use Rattle.ber_tree.specs.Identifier.{Tag}
-use Rattle.ber_tree.specs.Tree.{Tree, Trees, none, more, tag_of}
-use Rattle.ber_tree.proofs.Lists.{two_cases}
+use Rattle.ber_tree.specs.Tree.{Trees}
 use Rattle.ber_leaf.specs.declared.fault.LeafFault.{LeafFault}
 use Rattle.ber_leaf.specs.Leaf.{Leaf, boolean, integer, enumerated, general_string, visible_string, printable_string, iso_date, iso_time, null_type, object_identifier, octet_string, bit_string, object_descriptor, content_fault}
 use Rattle.ber_leaf.specs.Profile.{Profile, profile_two, profile_three}
-use Rattle.ber_core.specs.Foreign.{foreign_levels}
 use Rattle.ber_core.specs.Reading.{IdentifierRead, identified, part_identifier, no_identifier, read_identifier, LengthRead, definite, indefinite, part_length, no_length, read_length}
-use Rattle.ill_tables.specs.declared.node.Kind.{Kind}
-use Rattle.ill_tables.specs.declared.node.LeafKind.{LeafKind}
-use Rattle.ill_tables.specs.declared.node.NodeId.{NodeId}
-use Rattle.ill_tables.specs.declared.node.NodeId.TheVariants.{Boolean, LeftOut, DeliveryService, ShippedVia, ItemId, UnitsPerMedium, UnitsPerMediumList, SupplyDetails, IllRequest, Shipped, Conditional, WillSupply, Results, IllAnswer, ConditionalReply, Cancel, CancelReply, Received, Recall, Returned, CheckedIn, Overdue, Renew, RenewAnswer, Lost, Damaged, MessageApdu, StatusQuery, Expired, IllApdu}
 use Rattle.ill_tables.specs.declared.part.PartId.{PartId}
-use Rattle.ill_tables.specs.declared.part.Presence.{Presence}
-use Rattle.ill_tables.specs.declared.part.Row.{Row}
-use Rattle.ill_tables.specs.Table.{kind_of, rows_of}
 use Rattle.ill_schema.specs.declared.refusal.Cause.{Cause}
-use Rattle.ill_schema.specs.Apdu.{root_of}
 use Rattle.ill_schema.specs.Causes.{cause_of, cause_number}
-use Rattle.ill_schema.specs.TableFacts.{is_of_two}
-use Rattle.ill_schema.specs.Tagging.{Tagging, untagged, implicit, explicit, explicit_or_bare, same_tag, sequence_tag, row_tagging}
-use Rattle.ill_refusals.specs.Element.{Component, components_by, node_components, Element, leaf, sequence, list, wrapper, loose_wrapper, segment, foreign, left_out, Start, start, own_starts, retag, tagged_starts, leave_out, component_starts, starts_by}
-use Rattle.ill_refusals.specs.Fault.{Fault, fault, ends_at, is_indefinite, past_end, cut_fault, element_fault, string_fault, is_deep, fault_at, Refuses}
-use Rattle.ill_refusals.specs.Next.{Next, rows, items, either, segments, anything, foreigns, Due, element_of, next_of, start_by, due_by, next_due, due, missing, opening_by, opening, after_by, next_after}
-use Rattle.ill_refusals.specs.Next as next
-use Rattle.ill_refusals.specs.Place.{Open, message, next_in, innermost_end, bound, allows, IsPlace, IsDue}
+use Rattle.ill_refusals.specs.Element.{Element, leaf, sequence, list, wrapper, loose_wrapper, segment, foreign, left_out}
+use Rattle.ill_refusals.specs.Fault.{Fault, fault, ends_at, is_indefinite, past_end, cut_fault, element_fault, string_fault, is_deep, Refuses}
+use Rattle.ill_refusals.specs.Next.{Due, element_of, due, missing}
+use Rattle.ill_refusals.specs.Place.{Open, next_in, innermost_end, bound, allows, IsPlace}
 use Rattle.ill_refusals.specs.Outcome.{HasLeaf, IsOfLeaf}
 use Rattle.ill_refusals.specs.code.Judge.{Judgement, faulty, closes, opens, reads, or_faulty, judge_end, judge_content, judge_size, judge_length, judge_form, judge_tag, judge_element, judge_mark, judge_octets, judge}
 use Rattle.ill_refusals.proofs.FirstFault.{is_judged}
-
--- ---- nodes, kinds and presences of profile 2, or of the module profile
-
--- a node of the module's tables
-abbrev is_of_module : NodeId → Bool
-is_of_module LeftOut = false
-is_of_module DeliveryService = false
-is_of_module ShippedVia = false
-is_of_module ItemId = false
-is_of_module UnitsPerMedium = false
-is_of_module UnitsPerMediumList = false
-is_of_module SupplyDetails = false
-is_of_module IllRequest = false
-is_of_module Shipped = false
-is_of_module Conditional = false
-is_of_module WillSupply = false
-is_of_module Results = false
-is_of_module IllAnswer = false
-is_of_module ConditionalReply = false
-is_of_module Cancel = false
-is_of_module CancelReply = false
-is_of_module Received = false
-is_of_module Recall = false
-is_of_module Returned = false
-is_of_module CheckedIn = false
-is_of_module Overdue = false
-is_of_module Renew = false
-is_of_module RenewAnswer = false
-is_of_module Lost = false
-is_of_module Damaged = false
-is_of_module MessageApdu = false
-is_of_module StatusQuery = false
-is_of_module Expired = false
-is_of_module IllApdu = false
-is_of_module node = true
-
-abbrev is_of : Bool → NodeId → Bool
-is_of false node = is_of_two node
-is_of true node = is_of_module node
-
-abbrev has_leaf : Bool → Leaf → Bool
-has_leaf full null_type = full
-has_leaf full object_identifier = full
-has_leaf full bit_string = full
-has_leaf full l = true
-
-abbrev has_kind : Bool → Kind → Bool
-has_kind full (Kind.Leaf LeafKind.Null) = full
-has_kind full (Kind.Leaf LeafKind.ObjectIdentifier) = full
-has_kind full (Kind.Leaf LeafKind.BitString) = full
-has_kind full kind = true
-
-abbrev has_presence : Bool → Presence → Bool
-has_presence full Presence.LeftOut = not full
-has_presence full presence = true
-
-abbrev has_row : Bool → Row → Bool
-has_row full row = has_presence full row.presence && is_of full row.node
-
--- the tables are closed: rows of such nodes name such nodes
-closed : (full : Bool) (node : NodeId) → IsTrue (not (is_of full node) || (has_kind full (kind_of node) && list_all (has_row full) (rows_of node)))
-closed false Boolean = refl
-closed false _ = refl
-closed true Boolean = refl
-closed true _ = refl
-
-node_has : (full : Bool) (node : NodeId) → IsTrue (is_of full node) → IsTrue (has_kind full (kind_of node) && list_all (has_row full) (rows_of node))
-node_has full node h = subst (λ (b : Bool). IsTrue (not b || (has_kind full (kind_of node) && list_all (has_row full) (rows_of node)))) h (closed full node)
-
-module _ (full bare : Bool) where
-  -- ---- what is due has only these
-
-  abbrev Has : Component → Type 0
-  Has c = IsTrue (has_presence full c.presence) × IsTrue (is_of full c.node)
-
-  abbrev AllHave : List Component → Type 0
-  AllHave [] = Unit {0}
-  AllHave (c ∷ cs) = Has c × AllHave cs
-
-  abbrev pub IsElementOf : Element → Type 0
-  IsElementOf (leaf l) = IsTrue (has_leaf full l)
-  IsElementOf (sequence node) = IsTrue (is_of full node)
-  IsElementOf (list node) = IsTrue (is_of full node)
-  IsElementOf (wrapper c) = Has c
-  IsElementOf (loose_wrapper c) = Has c
-  IsElementOf (segment tag) = Unit {0}
-  IsElementOf (foreign n) = Unit {0}
-  IsElementOf (left_out part) = IsTrue (not full)
-
-  abbrev IsNextOf : Next → Type 0
-  IsNextOf (rows cs) = AllHave cs
-  IsNextOf (items c) = Has c
-  IsNextOf (either c) = Has c
-  IsNextOf _ = Unit {0}
-
-  abbrev IsDueOf : Option Due → Type 0
-  IsDueOf None = Unit {0}
-  IsDueOf (Some d) = IsElementOf (element_of d) × IsNextOf (next_of d)
-
-  rows_have : (node : NodeId) (n : ℕ) (rs : List Row) → IsTrue (list_all (has_row full) rs) → AllHave (components_by bare node n rs)
-  rows_have node n [] h = tt
-  rows_have node n (row ∷ rs) h = let a = and_parts (has_row full row) (list_all (has_row full) rs) h in (and_parts (has_presence full row.presence) (is_of full row.node) a.0, rows_have node (n + 1) rs a.1)
-
-  node_rows : (node : NodeId) → IsTrue (is_of full node) → AllHave (node_components bare node)
-  node_rows node h = rows_have node 0 (rows_of node) ((and_parts (has_kind full (kind_of node)) (list_all (has_row full) (rows_of node)) (node_has full node h)).1)
-
-  abbrev AllStarts : List Start → Type 0
-  AllStarts [] = Unit {0}
-  AllStarts (s ∷ ss) = IsElementOf s.element × AllStarts ss
-
-  joined_starts : (ss ts : List Start) → AllStarts ss → AllStarts ts → AllStarts (ss ++ ts)
-  joined_starts [] ts h k = k
-  joined_starts (s ∷ ss) ts h k = (h.0, joined_starts ss ts h.1 k)
-
-  own_have : (kind : Kind) (node : NodeId) → IsTrue (has_kind full kind) → IsTrue (is_of full node) → AllStarts (own_starts kind node)
-  own_have Kind.Seq node k h = (h, tt)
-  own_have Kind.SeqOf node k h = (h, tt)
-  own_have Kind.Choice node k h = tt
-  own_have Kind.Any node k h = tt
-  own_have Kind.IllString node k h = (refl, (refl, tt))
-  own_have (Kind.Leaf LeafKind.Boolean) node k h = (refl, tt)
-  own_have (Kind.Leaf LeafKind.Integer) node k h = (refl, tt)
-  own_have (Kind.Leaf LeafKind.Enumerated) node k h = (refl, tt)
-  own_have (Kind.Leaf LeafKind.Date) node k h = (refl, tt)
-  own_have (Kind.Leaf LeafKind.Time) node k h = (refl, tt)
-  own_have (Kind.Leaf LeafKind.Printable) node k h = (refl, tt)
-  own_have (Kind.Leaf LeafKind.Null) node k h = (k, tt)
-  own_have (Kind.Leaf LeafKind.ObjectIdentifier) node k h = (k, tt)
-  own_have (Kind.Leaf LeafKind.OctetString) node k h = (refl, tt)
-  own_have (Kind.Leaf LeafKind.BitString) node k h = (k, tt)
-  own_have (Kind.Leaf LeafKind.ObjectDescriptor) node k h = (refl, tt)
-
-  retagged : (tag : Tag) (ss : List Start) → AllStarts ss → AllStarts (retag tag ss)
-  retagged tag [] h = tt
-  retagged tag (s ∷ ss) h = (h.0, retagged tag ss h.1)
-
-  left : (part : PartId) (ss : List Start) → IsTrue (not full) → AllStarts (leave_out part ss)
-  left part [] h = tt
-  left part (s ∷ ss) h = (h, left part ss h)
-
-  tagged_have : (g : Tagging) (c : Component) → IsTrue (is_of full c.node) → AllStarts (tagged_starts g c)
-  tagged_have untagged c h = own_have (kind_of c.node) c.node ((and_parts (has_kind full (kind_of c.node)) _ (node_has full c.node h)).0) h
-  tagged_have (implicit tag) c h = retagged tag (own_starts (kind_of c.node) c.node) (own_have (kind_of c.node) c.node ((and_parts (has_kind full (kind_of c.node)) _ (node_has full c.node h)).0) h)
-  tagged_have (explicit tag) c h = ((refl, h), tt)
-  tagged_have (explicit_or_bare tag) c h = ((refl, h), tt)
-
-  component_have : (c : Component) → Has c → AllStarts (component_starts c)
-  component_have c h = go c.presence h.0
-    where
-      go : (presence : Presence) → IsTrue (has_presence full presence)
-          → AllStarts (elim presence as (λ _. List Start) [ Presence.LeftOut ↦ leave_out c.part (tagged_starts c.tagging c) | _ ↦ tagged_starts c.tagging c ])
-      go Presence.LeftOut k = left c.part (tagged_starts c.tagging c) k
-      go Presence.Must k = tagged_have c.tagging c h.1
-      go Presence.May k = tagged_have c.tagging c h.1
-      go (Presence.Default d) k = tagged_have c.tagging c h.1
-
-  all_have : (cs : List Component) → AllHave cs → AllStarts (flat_map component_starts cs)
-  all_have [] h = tt
-  all_have (c ∷ cs) h = joined_starts (component_starts c) (flat_map component_starts cs) (component_have c h.0) (all_have cs h.1)
-
-  starts_have : (c : Component) → Has c → AllStarts (starts_by bare c)
-  starts_have c h = go c.tagging
-    where
-      kinds : (kind : Kind) → AllStarts (elim kind as (λ _. List Start) [ Kind.Choice ↦ flat_map component_starts (node_components bare c.node) | _ ↦ [] ])
-      kinds Kind.Choice = all_have (node_components bare c.node) (node_rows c.node h.1)
-      kinds Kind.Seq = tt
-      kinds Kind.SeqOf = tt
-      kinds Kind.Any = tt
-      kinds Kind.IllString = tt
-      kinds (Kind.Leaf l) = tt
-
-      go : (g : Tagging) → AllStarts (elim g as (λ _. List Start) [
-        | untagged ↦ component_starts c ++ elim (kind_of c.node) as (λ _. List Start) [ Kind.Choice ↦ flat_map component_starts (node_components bare c.node) | _ ↦ [] ]
-        | _ ↦ component_starts c
-      ])
-      go untagged = joined_starts (component_starts c) _ (component_have c h) (kinds (kind_of c.node))
-      go (implicit tag) = component_have c h
-      go (explicit tag) = component_have c h
-      go (explicit_or_bare tag) = component_have c h
-
-  abbrev IsStartOf : Option Start → Type 0
-  IsStartOf None = Unit {0}
-  IsStartOf (Some s) = IsElementOf s.element
-
-  found : (tag : Tag) (ss : List Start) → AllStarts ss → IsStartOf (find (λ s. same_tag s.tag tag) ss)
-  found tag [] h = tt
-  found tag (s ∷ ss) h = go (found tag ss h.1) (same_tag s.tag tag)
-    where
-      go : IsStartOf (find (λ s. same_tag s.tag tag) ss) → (b : Bool) → IsStartOf (if b then Some s else find (λ s. same_tag s.tag tag) ss)
-      go later true = h.0
-      go later false = later
-
-  due_have : (tag : Tag) (cs : List Component) → AllHave cs → IsDueOf (due_by bare tag cs)
-  due_have tag [] h = tt
-  due_have tag (c ∷ cs) h = go (due_have tag cs h.1) (start_by bare tag c) (found tag (starts_by bare c) (starts_have c h.0))
-    where
-      passed : IsDueOf (due_by bare tag cs) → (presence : Presence) → IsDueOf (elim presence as (λ _. Option Due) [ Presence.Must ↦ None | _ ↦ due_by bare tag cs ])
-      passed later Presence.Must = tt
-      passed later Presence.May = later
-      passed later (Presence.Default d) = later
-      passed later Presence.LeftOut = later
-
-      go : IsDueOf (due_by bare tag cs) → (o : Option Start) → IsStartOf o → IsDueOf (elim o as (λ _. Option Due) [
-        | Some s ↦ Some (next.part c s.element (rows cs))
-        | None ↦ elim c.presence as (λ _. Option Due) [ Presence.Must ↦ None | _ ↦ due_by bare tag cs ]
-      ])
-      go later (Some s) k = (k, h.1)
-      go later None k = passed later c.presence
-
-  next_have : (tag : Tag) (n : Next) → IsNextOf n → IsDueOf (next_due bare tag n)
-  next_have tag (rows cs) h = due_have tag cs h
-  next_have tag (items c) h = go (start_by bare tag c) (found tag (starts_by bare c) (starts_have c h))
-    where
-      go : (o : Option Start) → IsStartOf o → IsDueOf (elim o as (λ _. Option Due) [ Some s ↦ Some (next.part c s.element (items c)) | None ↦ None ])
-      go (Some s) k = (k, h)
-      go None k = tt
-  next_have tag (either c) h = go (same_tag tag sequence_tag)
-    where
-      go : (b : Bool) → IsDueOf (elim b as (λ _. Option Due) [ true ↦ due_by bare tag (c ∷ []) | false ↦ due_by bare tag (node_components bare c.node) ])
-      go true = due_have tag (c ∷ []) (h, tt)
-      go false = due_have tag (node_components bare c.node) (node_rows c.node h.1)
-  next_have tag (segments t) h = go (same_tag tag t)
-    where
-      go : (b : Bool) → IsDueOf (if b then Some (next.octets t) else None)
-      go true = (tt, tt)
-      go false = tt
-  next_have tag (anything c) h = (tt, tt)
-  next_have tag (foreigns zero) h = tt
-  next_have tag (foreigns (suc n)) h = (tt, tt)
-
-  opening_have : (e : Element) → IsElementOf e → IsNextOf (opening_by bare e)
-  opening_have (leaf l) h = tt
-  opening_have (sequence node) h = node_rows node h
-  opening_have (list node) h = go (node_components bare node) (node_rows node h)
-    where
-      go : (cs : List Component) → AllHave cs → IsNextOf (elim cs as (λ _. Next) [ [] ↦ rows [] | c ∷ _ ↦ items c ])
-      go [] k = tt
-      go (c ∷ cs) k = k.0
-  opening_have (wrapper c) h = go (kind_of c.node)
-    where
-      go : (kind : Kind) → IsNextOf (elim kind as (λ _. Next) [ Kind.Any ↦ anything c | _ ↦ rows (c ∷ []) ])
-      go Kind.Any = tt
-      go Kind.Seq = (h, tt)
-      go Kind.SeqOf = (h, tt)
-      go Kind.Choice = (h, tt)
-      go Kind.IllString = (h, tt)
-      go (Kind.Leaf l) = (h, tt)
-  opening_have (loose_wrapper c) h = h
-  opening_have (segment tag) h = tt
-  opening_have (foreign n) h = tt
-  opening_have (left_out part) h = tt
-
-  after_have : (n : Next) (ts : Trees) → IsNextOf n → IsNextOf (after_by bare n ts)
-  after_have n none h = h
-  after_have n (more T ts) h = go (λ d k. after_have (next_of d) ts k) (next_due bare (tag_of T) n) (next_have (tag_of T) n h)
-    where
-      go : ((d : Due) → IsNextOf (next_of d) → IsNextOf (after_by bare (next_of d) ts)) → (o : Option Due) → IsDueOf o
-          → IsNextOf (elim o as (λ _. Next) [ Some d ↦ after_by bare (next_of d) ts | None ↦ n ])
-      go later (Some d) k = later d k.1
-      go later None k = h
-
-root_is : (full : Bool) → IsTrue (is_of full (root_of full))
-root_is false = refl
-root_is true = refl
-
--- what is due at a place, and the elements that are open there, are of the profile
-pub next_of_profile : (p : Profile) (path : List Open) (u : List ℕ) → IsPlace p u path → IsNextOf p.full p.bare (next_in p path)
-next_of_profile p [] u h = ((refl, root_is p.full), tt)
-next_of_profile p (o ∷ path) u h =
-    let d = h.4.is_due in
-    let e = subst (IsDueOf p.full p.bare) d.1 (next_have p.full p.bare o.tag (next_in p path) (next_of_profile p path h.0 h.3)) in
-    after_have p.full p.bare (opening p o.element) o.trees (opening_have p.full p.bare o.element (subst (IsElementOf p.full p.bare) d.2 e.0))
-
-pub open_of_profile : (p : Profile) (o : Open) (path : List Open) (u : List ℕ) → IsPlace p u (o ∷ path) → IsElementOf p.full p.bare o.element
-open_of_profile p o path u h =
-    let d = h.4.is_due in
-    let e = subst (IsDueOf p.full p.bare) d.1 (next_have p.full p.bare o.tag (next_in p path) (next_of_profile p path h.0 h.3)) in
-    subst (IsElementOf p.full p.bare) d.2 e.0
+use Rattle.ill_refusals.proofs.DueOfProfile.{has_leaf, IsElementOf, due_of_profile, open_of_profile}
 
 -- ---- the causes of a place
 
@@ -594,21 +302,21 @@ causes_are p s f (inr n) = subst (λ (x : Fault). IsCauseOf p.full x.cause) (sym
 causes_are p s f (inl r) =
     subst (OkIn p (IsCauseOf p.full) (plain_cause p.full)) (is_judged p r.0 r.1 (drop r.1 s) f r.3)
         (judge_ok p (IsCauseOf p.full) (plain_cause p.full) r.0 r.1 (drop r.1 s) (opened r.0 r.2.1)
-        (λ tag form w _ d e. element (element_of d) ((subst (IsDueOf p.full p.bare) e (next_have p.full p.bare tag (next_in p r.0) (next_of_profile p r.0 (take r.1 s) r.2.1))).0)))
+        (λ tag form w _ d e. element (length r.0) (element_of d) (due_of_profile p r.0 (take r.1 s) tag d r.2.1 e)))
   where
-    element : (e : Element) → IsElementOf p.full p.bare e → OkElement p (IsCauseOf p.full) (plain_cause p.full) e
-    element (leaf l) h = λ octets c e. of_content (λ x. IsCauseOf p.full (cause_of x)) p l octets c (leaf_causes p.full l h) e
-    element (left_out part) h = left_cause p.full part h
-    element (sequence node) h = tt
-    element (list node) h = tt
-    element (wrapper c) h = tt
-    element (loose_wrapper c) h = tt
-    element (segment tag) h = tt
-    element (foreign n) h = tt
+    element : (n : ℕ) (e : Element) → IsElementOf p.full p.bare n e → OkElement p (IsCauseOf p.full) (plain_cause p.full) e
+    element n (leaf l) h = λ octets c e. of_content (λ x. IsCauseOf p.full (cause_of x)) p l octets c (leaf_causes p.full l h.0) e
+    element n (left_out part) h = left_cause p.full part h.0
+    element n (sequence node) h = tt
+    element n (list node) h = tt
+    element n (wrapper c) h = tt
+    element n (loose_wrapper c) h = tt
+    element n (segment tag) h = tt
+    element n (foreign m) h = tt
 
     opened : (path : List Open) → IsPlace p (take r.1 s) path → OkOpen p (IsCauseOf p.full) (plain_cause p.full) path
     opened [] h = tt
-    opened (o ∷ path) h = element o.element (open_of_profile p o path (take r.1 s) h)
+    opened (o ∷ path) h = element (length path) o.element (open_of_profile p o path (take r.1 s) h)
 
 pub causes_of_two : (s : List ℕ) (f : Fault) → Refuses profile_two s f → cause_number f.cause ≤ 19
 causes_of_two s f h = causes_are profile_two s f h

@@ -15,5 +15,6 @@ pub mod PlaceOrder
 pub mod Truncation
 pub mod Bounds
 pub mod Refusals
+pub mod DueOfProfile
 pub mod CausesByProfile
 pub mod OpenCounts

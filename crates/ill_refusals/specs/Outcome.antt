@@ -1,10 +1,10 @@
 -- The one outcome of an input, and what stays of it as the input grows or is cut short.
-use Rattle.std.specs.Prelude.{◌≡◌, ◌≢◌, ◌⊎◌, ℕ, ◌-◌, ◌<◌, ◌≤◌, Bool, List, ◌∷◌, ◌++◌, length, take, drop, IsTrue, Some}
+use Rattle.std.specs.Prelude.{◌≡◌, ◌≢◌, ◌⊎◌, ℕ, ◌+◌, ◌-◌, ◌<◌, ◌≤◌, Bool, true, false, List, ◌∷◌, ◌++◌, length, take, drop, IsTrue, Some}
 use Rattle.ill_schema.specs.declared.refusal.Cause.{Cause}
 use Rattle.ill_schema.specs.Apdu.{Apdu, Accepts}
 use Rattle.ill_refusals.specs.Fault.{Fault, fault, fault_at, Refuses}
 use Rattle.ber_tree.specs.Octets.{are_octets}
-use Rattle.ill_refusals.specs.Element.{leaf}
+use Rattle.ill_refusals.specs.Element.{Element, leaf, segment, foreign}
 use Rattle.ill_refusals.specs.Next.{Due, element_of, due}
 use Rattle.ill_refusals.specs.Place.{Open, next_in, bound, IsDue}
 use Rattle.ber_leaf.specs.Leaf.{Leaf}
@@ -63,3 +63,18 @@ IsOfLeaf p c l = (s : List ℕ) (f : Fault) → f.cause ≡ c → Refuses p s f
 -- at each place at most 32 elements are open
 abbrev pub FewAreOpen : Profile → Type 0
 FewAreOpen p = (s : List ℕ) (k : ℕ) (path : List Open) → IsDue p s k path → length path ≤ 32
+
+-- an element of a type of the tables: not a segment, and not in a foreign tree
+abbrev pub is_component : Element → Bool
+is_component (segment tag) = false
+is_component (foreign n) = false
+is_component e = true
+
+-- such an element is due only where at most 11 elements are open, so that these have at most 12 levels
+abbrev pub ComponentsAreShallow : Profile → Type 0
+ComponentsAreShallow p = (s : List ℕ) (k : ℕ) (path : List Open) (tag : Tag) (d : Due)
+    → IsDue p s k path → due p tag (next_in p path) ≡ Some d → IsTrue (is_component (element_of d)) → length path ≤ 11
+
+-- where an element of a foreign tree is open in which n levels more may stand, there are at most 29 with these: 32 is never reached there
+abbrev pub ForeignTreesFit : Profile → Type 0
+ForeignTreesFit p = (s : List ℕ) (k n : ℕ) (o : Open) (path : List Open) → IsDue p s k (o ∷ path) → o.element ≡ foreign n → length (o ∷ path) + n ≤ 29

@@ -14,7 +14,7 @@ ghost use Rattle.ill_schema.specs.Tagging.{tagging};
 ghost use Rattle.ill_refusals.specs.Element.{Component, Element, components, starts};
 ghost use Rattle.ill_refusals.specs.Next.{Next, due, missing, opening, next_after};
 ghost use Rattle.ill_refusals.specs.Bounds.{ValuesAreSmall};
-ghost use Rattle.ill_refusals.specs.Outcome.{OutcomesAreExact, RefusalsStay, PrefixesAreTruncated, TruncatedIsAtTheEnd, PlacesAreApart, FaultsAreLast, FewAreOpen, IsOfLeaf};
+ghost use Rattle.ill_refusals.specs.Outcome.{OutcomesAreExact, RefusalsStay, PrefixesAreTruncated, TruncatedIsAtTheEnd, PlacesAreApart, FaultsAreLast, FewAreOpen, ComponentsAreShallow, ForeignTreesFit, IsOfLeaf};
 ghost use Rattle.ill_refusals.specs.Fault.{Fault, Refuses};
 
 /// Each input is accepted as one APDU of one size, or refused with one fault.
@@ -39,9 +39,12 @@ pub fn one_place()
     ensures last { (p : Profile) → FaultsAreLast p }
 {}
 
-/// At each place of an input at most 32 elements are open.
+/// At each place of an input at most 32 elements are open. An element of a type of the tables is at most the twelfth. In a foreign tree the
+/// bound of 32 is never reached: its levels and those around it are at most 29.
 pub fn few_elements_are_open()
-    ensures { (p : Profile) → FewAreOpen p }
+    ensures all { (p : Profile) → FewAreOpen p }
+    ensures outside { (p : Profile) → ComponentsAreShallow p }
+    ensures foreign { (p : Profile) → ForeignTreesFit p }
 {}
 
 /// The causes of refusals: in profile 2 those with the numbers 1 to 19; in the module profile all but LeftOut. BadNull, BadOid and BadBits
