@@ -16,7 +16,6 @@ pub mod MessageEnds
 pub mod DecoderSteps
 pub mod NeededOctets
 pub mod FedPieces
-pub mod OpenElements
 pub mod SourceReads
 pub mod NextRead
 pub mod LookedOctets

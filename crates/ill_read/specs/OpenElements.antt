@@ -1,7 +1,5 @@
 -- How many elements are open.
-use Rattle.std.specs.Prelude.{ℕ, ◌≤◌, List, length}
-use Rattle.ber_leaf.specs.Profile.{Profile, profile_two}
-use Rattle.ill_refusals.specs.Place.{Open, IsDue}
+use Rattle.std.specs.Prelude.{ℕ, length}
 use Rattle.ill_read.specs.declared.decoder.Decoder.{Decoder}
 use Rattle.ill_read.specs.declared.reader.Reader.{Reader}
 
@@ -12,10 +10,3 @@ open_count reader = length reader.path.frames.open.items
 -- of the message that a decoder is fed
 abbrev pub open_in : Decoder → ℕ
 open_in d = open_count d.reader
-
--- at each place of the octets at most 32 elements are open
-abbrev pub HasFewOpenIn : Profile → List ℕ → Type 0
-HasFewOpenIn p s = (k : ℕ) (opens : List Open) → IsDue p s k opens → length opens ≤ 32
-
-abbrev pub HasFewOpen : List ℕ → Type 0
-HasFewOpen s = HasFewOpenIn profile_two s

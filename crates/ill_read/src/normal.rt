@@ -1,8 +1,7 @@
 //! Messages as their normal forms.
-ghost use Rattle.std.specs.Prelude.{◌≡◌, ◌≤◌, ℕ, List, ◌++◌, length, IfSome};
+ghost use Rattle.std.specs.Prelude.{◌≡◌, ◌≤◌, ℕ, List, ◌++◌, length};
 ghost use Rattle.std.specs.Io.KnownBytes.{Appends};
 ghost use Rattle.ill_schema.specs.Profiles.{profile_of};
-ghost use Rattle.ill_read.specs.OpenElements.{HasFewOpen, HasFewOpenIn};
 ghost use Rattle.ill_read.specs.Answers.{IsNormalIn, IsNormalOf, NormalAnswers, NormalAnswersIn, ReadsNext, ReadsNextIn};
 
 use crate::failure::{Failure, ReadFailure};
@@ -226,9 +225,8 @@ pub fn read_normal_peeking<R: Source, L: Lookahead<R>>(
     alloc: Global,
     source: &mut R,
 ) -> Result<Option<NormalForm>, ReadFailure>
-    ensures next { ReadsNext (R.left source.old) (R.left source.new) (R.is_broken source.old)
+    ensures { ReadsNext (R.left source.old) (R.left source.new) (R.is_broken source.old)
         (R.is_broken source.new) IsNormalOf result }
-    ensures few { IfSome (R.left source.old) HasFewOpen }
 {
     read_normal_in::<R, L>(alloc, source, Vec::new(alloc))
 }
@@ -247,10 +245,9 @@ pub fn read_normal_as<R: Source, L: Lookahead<R>>(
     profile: Profile,
     source: &mut R,
 ) -> Result<Option<NormalForm>, ReadFailure>
-    ensures next { ReadsNextIn (profile_of profile) (R.left source.old) (R.left source.new)
+    ensures { ReadsNextIn (profile_of profile) (R.left source.old) (R.left source.new)
         (R.is_broken source.old) (R.is_broken source.new)
         (IsNormalIn (profile_of profile)) result }
-    ensures few { IfSome (R.left source.old) (HasFewOpenIn (profile_of profile)) }
 {
     NormalReader::new(alloc).read_as::<R, L>(profile, source, Vec::new(alloc))
 }
@@ -265,9 +262,8 @@ pub fn read_normal_in<R: Source, L: Lookahead<R>>(
     source: &mut R,
     buffer: Vec<u8>,
 ) -> Result<Option<NormalForm>, ReadFailure>
-    ensures next { ReadsNext (R.left source.old) (R.left source.new) (R.is_broken source.old)
+    ensures { ReadsNext (R.left source.old) (R.left source.new) (R.is_broken source.old)
         (R.is_broken source.new) IsNormalOf result }
-    ensures few { IfSome (R.left source.old) HasFewOpen }
 {
     NormalReader::new(alloc).read::<R, L>(source, buffer)
 }
@@ -282,11 +278,10 @@ pub fn read_normal_recording_peeking<R: Source, L: Lookahead<R>>(
     source: &mut R,
     recorded: &mut Vec<u8>,
 ) -> Result<Option<NormalForm>, ReadFailure>
-    ensures next { ReadsNext (R.left source.old) (R.left source.new) (R.is_broken source.old)
+    ensures { ReadsNext (R.left source.old) (R.left source.new) (R.is_broken source.old)
         (R.is_broken source.new)
         (λ n octets. IsNormalOf n octets
         × (recorded.new.items ≡ recorded.old.items ++ octets)) result }
-    ensures few { IfSome (R.left source.old) HasFewOpen }
 {
     NormalReader::new(alloc).read_recording::<R, L>(source, Vec::new(alloc), recorded)
 }
@@ -302,8 +297,7 @@ pub fn read_normal_recording_peeking<R: Source, L: Lookahead<R>>(
 ///
 /// Those of [`decode`](crate::decode).
 pub fn decode_normal(alloc: Global, octets: &[u8]) -> Result<NormalForm, Failure>
-    ensures answers { NormalAnswers octets.now result }
-    ensures few { HasFewOpen octets.now }
+    ensures { NormalAnswers octets.now result }
 {
     NormalReader::new(alloc).decode(octets, Vec::new(alloc))
 }
@@ -322,8 +316,7 @@ pub fn decode_normal_as(
     profile: Profile,
     octets: &[u8],
 ) -> Result<NormalForm, Failure>
-    ensures answers { NormalAnswersIn (profile_of profile) octets.now result }
-    ensures few { HasFewOpenIn (profile_of profile) octets.now }
+    ensures { NormalAnswersIn (profile_of profile) octets.now result }
 {
     NormalReader::new(alloc).decode_as(profile, octets, Vec::new(alloc))
 }

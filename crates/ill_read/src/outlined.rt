@@ -1,7 +1,6 @@
 //! Messages as their outlines.
-ghost use Rattle.std.specs.Prelude.{◌≡◌, ◌≤◌, IfSome};
+ghost use Rattle.std.specs.Prelude.{◌≡◌, ◌≤◌};
 ghost use Rattle.ill_schema.specs.Profiles.{profile_of};
-ghost use Rattle.ill_read.specs.OpenElements.{HasFewOpen, HasFewOpenIn};
 ghost use Rattle.ill_read.specs.Answers.{ReadsNext, ReadsNextIn};
 ghost use Rattle.ill_read.specs.Outlined.{IsOutlined, IsOutlinedIn};
 
@@ -129,9 +128,8 @@ pub fn read_outline_in<R: Source, L: Lookahead<R>>(
     source: &mut R,
     buffer: Outline,
 ) -> Result<Option<OutlinedMessage>, ReadFailure>
-    ensures next { ReadsNext (R.left source.old) (R.left source.new) (R.is_broken source.old)
+    ensures { ReadsNext (R.left source.old) (R.left source.new) (R.is_broken source.old)
         (R.is_broken source.new) IsOutlined result }
-    ensures few { IfSome (R.left source.old) HasFewOpen }
 {
     OutlineReader::new(alloc).read::<R, L>(source, buffer)
 }
@@ -151,10 +149,9 @@ pub fn read_outline_as<R: Source, L: Lookahead<R>>(
     source: &mut R,
     buffer: Outline,
 ) -> Result<Option<OutlinedMessage>, ReadFailure>
-    ensures next { ReadsNextIn (profile_of profile) (R.left source.old) (R.left source.new)
+    ensures { ReadsNextIn (profile_of profile) (R.left source.old) (R.left source.new)
         (R.is_broken source.old) (R.is_broken source.new)
         (IsOutlinedIn (profile_of profile)) result }
-    ensures few { IfSome (R.left source.old) (HasFewOpenIn (profile_of profile)) }
 {
     OutlineReader::new(alloc).read_as::<R, L>(profile, source, buffer)
 }

@@ -1,12 +1,11 @@
 //! Messages out of sources and slices.
-ghost use Rattle.std.specs.Prelude.{◌≡◌, ℕ, ◌<◌, ◌≤◌, List, [], ◌++◌, length, take, IfOk, IfErr, IfSome, IsErr, IsErrOf, IsTrue};
+ghost use Rattle.std.specs.Prelude.{◌≡◌, ℕ, ◌<◌, ◌≤◌, List, [], ◌++◌, length, take, IfOk, IfErr, IsErr, IsErrOf, IsTrue};
 ghost use Rattle.std.specs.Io.KnownBytes.{Appends, Consumes, Keeps};
 ghost use Rattle.ill_schema.specs.Profiles.{profile_of};
 ghost use Rattle.ill_tables.specs.declared.profile.Profile.{Profile as Named};
 ghost use Rattle.ill_read.specs.Answers.{DecodeAnswers, IsRead, IsSpelled, IsUnfinishedIn, ReadsNext, ReadsNextIn, TakesFront, TakesNoMessageIn};
 ghost use Rattle.ill_read.specs.code.Filling.{HasKept, HasPulled, HasTaken, NoneEndsWithin};
 ghost use Rattle.ill_read.specs.Feeding.{IsOpenAt};
-ghost use Rattle.ill_read.specs.OpenElements.{HasFewOpen};
 ghost use Rattle.ill_read.specs.code.ReaderCode.{HasBegun, IsFed, IsReadOf};
 
 use crate::draft::Draft;
@@ -30,9 +29,8 @@ pub fn read_message<R: Source>(
     alloc: Global,
     source: &mut R,
 ) -> Result<Option<Message>, ReadFailure>
-    ensures next { ReadsNext (R.left source.old) (R.left source.new) (R.is_broken source.old)
+    ensures { ReadsNext (R.left source.old) (R.left source.new) (R.is_broken source.old)
         (R.is_broken source.new) IsSpelled result }
-    ensures few { IfSome (R.left source.old) HasFewOpen }
 {
     read_message_peeking::<R, Unbuffered>(alloc, source)
 }
@@ -47,9 +45,8 @@ pub fn read_message_peeking<R: Source, L: Lookahead<R>>(
     alloc: Global,
     source: &mut R,
 ) -> Result<Option<Message>, ReadFailure>
-    ensures next { ReadsNext (R.left source.old) (R.left source.new) (R.is_broken source.old)
+    ensures { ReadsNext (R.left source.old) (R.left source.new) (R.is_broken source.old)
         (R.is_broken source.new) IsSpelled result }
-    ensures few { IfSome (R.left source.old) HasFewOpen }
 {
     read_into::<R, L, NoRecorder>(alloc, source, &mut NoRecorder)
 }
@@ -64,11 +61,10 @@ pub fn read_recording<R: Source>(
     source: &mut R,
     recorded: &mut Vec<u8>,
 ) -> Result<Option<Message>, ReadFailure>
-    ensures next { ReadsNext (R.left source.old) (R.left source.new) (R.is_broken source.old)
+    ensures { ReadsNext (R.left source.old) (R.left source.new) (R.is_broken source.old)
         (R.is_broken source.new)
         (λ m octets. IsSpelled m octets
         × (recorded.new.items ≡ recorded.old.items ++ octets)) result }
-    ensures few { IfSome (R.left source.old) HasFewOpen }
 {
     read_recording_peeking::<R, Unbuffered>(alloc, source, recorded)
 }
@@ -83,11 +79,10 @@ pub fn read_recording_peeking<R: Source, L: Lookahead<R>>(
     source: &mut R,
     recorded: &mut Vec<u8>,
 ) -> Result<Option<Message>, ReadFailure>
-    ensures next { ReadsNext (R.left source.old) (R.left source.new) (R.is_broken source.old)
+    ensures { ReadsNext (R.left source.old) (R.left source.new) (R.is_broken source.old)
         (R.is_broken source.new)
         (λ m octets. IsSpelled m octets
         × (recorded.new.items ≡ recorded.old.items ++ octets)) result }
-    ensures few { IfSome (R.left source.old) HasFewOpen }
 {
     read_into::<R, L, Vec<u8>>(alloc, source, recorded)
 }
@@ -262,8 +257,7 @@ fn take_octets<D: Draft, R: Source>(
 ///
 /// The one fault of the octets, TrailingBytes at the end of a message that they only begin with, or out of memory.
 pub fn decode(alloc: Global, octets: &[u8]) -> Result<Message, Failure>
-    ensures answers { DecodeAnswers octets.now result }
-    ensures few { HasFewOpen octets.now }
+    ensures { DecodeAnswers octets.now result }
 {
     match message_of_piece(alloc, octets) {
         Ok(Some(message)) => message_of_slice(message, octets.len()),

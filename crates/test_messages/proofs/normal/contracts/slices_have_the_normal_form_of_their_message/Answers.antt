@@ -10,24 +10,24 @@ use Rattle.test_messages.proofs.normal.contracts.slices_have_the_normal_form_of_
 pub returns-clause-form : goal.returns-clause-form
 returns-clause-form c m n p q =
     let s = c.args.octets.now in
-    let normal = subst (NormalAnswers s) q c.decode_normal.ensures.answers in
-    normal.2 ∙ ap normal_form (spells_once normal.0 (apdu_of m) s normal.1 (subst (DecodeAnswers s) p c.decode.ensures.answers).spells)
+    let normal = subst (NormalAnswers s) q c.decode_normal.ensures in
+    normal.2 ∙ ap normal_form (spells_once normal.0 (apdu_of m) s normal.1 (subst (DecodeAnswers s) p c.decode.ensures).spells)
 
 pub returns-clause-read : goal.returns-clause-read
-returns-clause-read c n q = (subst (NormalAnswers c.args.octets.now) q c.decode_normal.ensures.answers).3
+returns-clause-read c n q = (subst (NormalAnswers c.args.octets.now) q c.decode_normal.ensures).3
 
 pub returns-clause-refusal : goal.returns-clause-refusal
 returns-clause-refusal c x y p q =
     let s = c.args.octets.now in
-    same_refusal x y (refuses_once s (fault_of x) (fault_of y) (subst (DecodeAnswers s) p c.decode.ensures.answers) (subst (NormalAnswers s) q c.decode_normal.ensures.answers))
+    same_refusal x y (refuses_once s (fault_of x) (fault_of y) (subst (DecodeAnswers s) p c.decode.ensures) (subst (NormalAnswers s) q c.decode_normal.ensures))
 
 pub returns-clause-message : goal.returns-clause-message
 returns-clause-message c m y p q =
     let s = c.args.octets.now in
-    refuses_whole s (fault_of y) (apdu_of m) (subst (NormalAnswers s) q c.decode_normal.ensures.answers) (subst (DecodeAnswers s) p c.decode.ensures.answers).spells
+    refuses_whole s (fault_of y) (apdu_of m) (subst (NormalAnswers s) q c.decode_normal.ensures) (subst (DecodeAnswers s) p c.decode.ensures).spells
 
 pub returns-clause-normal : goal.returns-clause-normal
 returns-clause-normal c x n p q =
     let s = c.args.octets.now in
-    let normal = subst (NormalAnswers s) q c.decode_normal.ensures.answers in
-    refuses_whole s (fault_of x) normal.0 (subst (DecodeAnswers s) p c.decode.ensures.answers) normal.1
+    let normal = subst (NormalAnswers s) q c.decode_normal.ensures in
+    refuses_whole s (fault_of x) normal.0 (subst (DecodeAnswers s) p c.decode.ensures) normal.1
