@@ -1,5 +1,7 @@
 -- What was found is one command, with one list of rows; so are its files, its flags and whether they are the same word.
-use Rattle.std.proofs.Common.{◌≡◌, ℕ, IfOk, List, [], ◌∷◌, Option, Some, None, Result, Ok, Err, IfErr, unwrap_or, option_map, codes, length, slice_index, slice_index_or, ◌≢◌, ◌<◌, ◌^◌, arith, refl, sym, ap, ap₂, subst, ◌∙◌}
+use Rattle.std.proofs.Common.{◌≡◌, ℕ, IfOk, List, [], ◌∷◌, Option, Some, None, Result, Ok, Err, IfErr, unwrap_or, option_map, codes, length, slice_index_or, ◌≢◌, ◌<◌, ◌^◌, arith, refl, sym, ap, ap₂, subst, ◌∙◌}
+use Rattle.std.specs.Prelude.{if◌then◌else◌}
+use Rattle.std.specs.Str.{bytes_eq}
 use Rattle.std.specs.Str.Parse.{IsNumeral, digits_value, without_leading_plus}
 use Rattle.clap.specs.Walk.{Row, Text, first_of, one_of}
 use Rattle.ill_args.specs.Orders.{files_in, is_set, profile_name, HasFiles, HasSameWord, IsOptionNumber, IsOrderOf, NamesProfile, verb, verb_name}
@@ -12,43 +14,22 @@ use Rattle.ill_args.specs.declared.orders.Task.{Task}
 use Rattle.ill_args.specs.declared.orders.Verb.{Verb}
 use Rattle.test_cli.specs.Tasks.{HasSameFlags, IsSameTask, named}
 
+-- the command of a name
+abbrev verb_of : Text → Verb
+verb_of name =
+    if bytes_eq name (verb_name Verb.Show) then Verb.Show
+    else if bytes_eq name (verb_name Verb.Check) then Verb.Check
+    else if bytes_eq name (verb_name Verb.Digest) then Verb.Digest
+    else if bytes_eq name (verb_name Verb.Dump) then Verb.Dump
+    else if bytes_eq name (verb_name Verb.Same) then Verb.Same
+    else Verb.Canonicalise
+
+verb_again : (v : Verb) → verb_of (verb_name v) ≡ v
+verb_again Verb.Show = refl
+verb_again _ = refl
+
 verb_is : (v w : Verb) → verb_name v ≡ verb_name w → v ≡ w
-verb_is Verb.Show Verb.Show e = refl
-verb_is Verb.Show Verb.Check e = absurd (let q : 4 ≡ 5 = ap length e in omega (arith, q))
-verb_is Verb.Show Verb.Digest e = absurd (let q : 4 ≡ 6 = ap length e in omega (arith, q))
-verb_is Verb.Show Verb.Dump e = absurd (let q : 115 ≡ 100 = ap (λ (l : List ℕ). slice_index l 0) e in omega (arith, q))
-verb_is Verb.Show Verb.Same e = absurd (let q : 104 ≡ 97 = ap (λ (l : List ℕ). slice_index l 1) e in omega (arith, q))
-verb_is Verb.Show Verb.Canonicalise e = absurd (let q : 4 ≡ 12 = ap length e in omega (arith, q))
-verb_is Verb.Check Verb.Show e = absurd (let q : 5 ≡ 4 = ap length e in omega (arith, q))
-verb_is Verb.Check Verb.Check e = refl
-verb_is Verb.Check Verb.Digest e = absurd (let q : 5 ≡ 6 = ap length e in omega (arith, q))
-verb_is Verb.Check Verb.Dump e = absurd (let q : 5 ≡ 4 = ap length e in omega (arith, q))
-verb_is Verb.Check Verb.Same e = absurd (let q : 5 ≡ 4 = ap length e in omega (arith, q))
-verb_is Verb.Check Verb.Canonicalise e = absurd (let q : 5 ≡ 12 = ap length e in omega (arith, q))
-verb_is Verb.Digest Verb.Show e = absurd (let q : 6 ≡ 4 = ap length e in omega (arith, q))
-verb_is Verb.Digest Verb.Check e = absurd (let q : 6 ≡ 5 = ap length e in omega (arith, q))
-verb_is Verb.Digest Verb.Digest e = refl
-verb_is Verb.Digest Verb.Dump e = absurd (let q : 6 ≡ 4 = ap length e in omega (arith, q))
-verb_is Verb.Digest Verb.Same e = absurd (let q : 6 ≡ 4 = ap length e in omega (arith, q))
-verb_is Verb.Digest Verb.Canonicalise e = absurd (let q : 6 ≡ 12 = ap length e in omega (arith, q))
-verb_is Verb.Dump Verb.Show e = absurd (let q : 100 ≡ 115 = ap (λ (l : List ℕ). slice_index l 0) e in omega (arith, q))
-verb_is Verb.Dump Verb.Check e = absurd (let q : 4 ≡ 5 = ap length e in omega (arith, q))
-verb_is Verb.Dump Verb.Digest e = absurd (let q : 4 ≡ 6 = ap length e in omega (arith, q))
-verb_is Verb.Dump Verb.Dump e = refl
-verb_is Verb.Dump Verb.Same e = absurd (let q : 100 ≡ 115 = ap (λ (l : List ℕ). slice_index l 0) e in omega (arith, q))
-verb_is Verb.Dump Verb.Canonicalise e = absurd (let q : 4 ≡ 12 = ap length e in omega (arith, q))
-verb_is Verb.Same Verb.Show e = absurd (let q : 97 ≡ 104 = ap (λ (l : List ℕ). slice_index l 1) e in omega (arith, q))
-verb_is Verb.Same Verb.Check e = absurd (let q : 4 ≡ 5 = ap length e in omega (arith, q))
-verb_is Verb.Same Verb.Digest e = absurd (let q : 4 ≡ 6 = ap length e in omega (arith, q))
-verb_is Verb.Same Verb.Dump e = absurd (let q : 115 ≡ 100 = ap (λ (l : List ℕ). slice_index l 0) e in omega (arith, q))
-verb_is Verb.Same Verb.Same e = refl
-verb_is Verb.Same Verb.Canonicalise e = absurd (let q : 4 ≡ 12 = ap length e in omega (arith, q))
-verb_is Verb.Canonicalise Verb.Show e = absurd (let q : 12 ≡ 4 = ap length e in omega (arith, q))
-verb_is Verb.Canonicalise Verb.Check e = absurd (let q : 12 ≡ 5 = ap length e in omega (arith, q))
-verb_is Verb.Canonicalise Verb.Digest e = absurd (let q : 12 ≡ 6 = ap length e in omega (arith, q))
-verb_is Verb.Canonicalise Verb.Dump e = absurd (let q : 12 ≡ 4 = ap length e in omega (arith, q))
-verb_is Verb.Canonicalise Verb.Same e = absurd (let q : 12 ≡ 4 = ap length e in omega (arith, q))
-verb_is Verb.Canonicalise Verb.Canonicalise e = refl
+verb_is v w e = sym (verb_again v) ∙ ap verb_of e ∙ verb_again w
 
 profile_is : (p q : Profile) → profile_name p ≡ profile_name q → p ≡ q
 profile_is Profile.Two Profile.Two e = refl
