@@ -14,4 +14,5 @@ pub mod Continuations
 pub mod PlaceOrder
 pub mod Truncation
 pub mod Bounds
+pub mod Mirrors
 pub mod Refusals
