@@ -15,4 +15,5 @@ pub mod PlaceOrder
 pub mod Truncation
 pub mod Bounds
 pub mod Mirrors
+pub mod MirrorRuns
 pub mod Refusals

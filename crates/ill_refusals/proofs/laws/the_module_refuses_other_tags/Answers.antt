@@ -1,5 +1,5 @@
 use Rattle.ill_refusals.proofs.laws.the_module_refuses_other_tags.Goals as goal
-use Rattle.ill_refusals.proofs.Mirrors.{next_due}
+use Rattle.ill_refusals.proofs.MirrorRuns.{other_tags}
 
 pub returns : goal.returns
-returns c = next_due
+returns c = λ a octets ok h plain. other_tags octets a ok h.encodes plain
