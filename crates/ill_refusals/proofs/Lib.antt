@@ -14,6 +14,7 @@ pub mod Continuations
 pub mod PlaceOrder
 pub mod Truncation
 pub mod Bounds
+pub mod SpelledOctets
 pub mod Mirrors
 pub mod MirrorRuns
 pub mod Refusals

@@ -1,7 +1,6 @@
 //! Laws of each input. Each is the contract of a function that does nothing.
 ghost use Rattle.std.specs.Prelude.{◌≡◌, ℕ, List, IsTrue};
 ghost use Rattle.ber_tree.specs.Identifier.{Tag};
-ghost use Rattle.ber_tree.specs.Octets.{are_octets};
 ghost use Rattle.ber_tree.specs.Tree.{Trees};
 ghost use Rattle.ber_leaf.specs.Profile.{Profile, profile_two, profile_three};
 ghost use Rattle.ill_tables.specs.declared.node.NodeId.{NodeId};
@@ -70,8 +69,8 @@ pub fn due_by_bare_tags()
 /// Octets that spell an APDU of profile 2 with a Units-Per-Medium or a Will-Supply are refused in the module profile as WrongForm, where
 /// the first component of the first of them begins: its tag is implicit in profile 2, and explicit in the module.
 pub fn the_module_refuses_other_tags()
-    ensures { (a : Apdu) (octets : List ℕ) → IsTrue (are_octets octets)
-        → SpellsApdu profile_two a octets → (IsTrue (is_plain_apdu a) → ⊥)
+    ensures { (a : Apdu) (octets : List ℕ) → SpellsApdu profile_two a octets
+        → (IsTrue (is_plain_apdu a) → ⊥)
         → (k : ℕ) × IsFirstRetagged octets k
         × OnlyRefuses profile_three octets (fault Cause.WrongForm k) }
 {}
