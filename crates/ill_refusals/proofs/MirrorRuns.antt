@@ -1,13 +1,13 @@
 -- The machine of the module profile follows that of profile 2, up to the first component of a type whose tags are explicit in the module
 -- alone.
-use Rattle.std.proofs.Common.{◌≡◌, ◌⊎◌, ℕ, zero, suc, ◌+◌, ◌-◌, Bool, true, false, ◌&&◌, ◌||◌, List, [], ◌∷◌, ◌++◌, length, take, drop, Option, Some, None, IsTrue, refl, sym, ap, ap₂, subst, ◌∙◌, inl, inr, if◌then◌else◌, slice_get, append-nil, arith}
+use Rattle.std.proofs.Common.{◌≡◌, ◌⊎◌, ℕ, zero, suc, ◌+◌, ◌-◌, ◌<◌, ◌≤◌, Bool, true, false, ◌&&◌, ◌||◌, List, [], ◌∷◌, ◌++◌, length, take, drop, Option, Some, None, IsTrue, refl, sym, ap, ap₂, subst, ◌∙◌, inl, inr, if◌then◌else◌, slice_get, append-nil, arith}
 use Rattle.std.specs.Prelude.{nat_eq, nat_lt, nat_le, unwrap_or}
 use Rattle.std.specs.List.{list_all}
 use Rattle.std.proofs.lemmas.List.{take-append-drop}
-use Rattle.ber_tree.specs.Identifier.{Tag}
+use Rattle.ber_tree.specs.Identifier.{Tag, identifier, HasIdentifier}
 use Rattle.ber_tree.specs.Octets.{are_octets}
 use Rattle.ber_tree.specs.Tree.{Tree, Trees, primitive, constructed, none, tag_of}
-use Rattle.ber_core.proofs.ReadOctets.{read_is_identifier, octets_left, octets_right, take-all}
+use Rattle.ber_core.proofs.ReadOctets.{identifier_read, read_is_identifier, octets_left, octets_right, take-all, drop-all}
 use Rattle.ber_core.specs.Reading.{IdentifierRead, identified, part_identifier, no_identifier, read_identifier, LengthRead, definite, indefinite, part_length, no_length, read_length}
 use Rattle.ber_leaf.specs.declared.fault.LeafFault.{LeafFault}
 use Rattle.ber_leaf.specs.Leaf.{Leaf, boolean, integer, enumerated, general_string, visible_string, printable_string, iso_date, iso_time, null_type, object_identifier, octet_string, bit_string, object_descriptor, content_fault}
@@ -23,22 +23,24 @@ use Rattle.ill_schema.specs.Lift.{is_plain_apdu, is_retagged}
 use Rattle.ill_schema.proofs.BothProfiles.{both_encode}
 use Rattle.ill_refusals.specs.Element.{Component, Element, leaf, sequence, list, wrapper, loose_wrapper, segment, foreign, left_out}
 use Rattle.ill_refusals.specs.Next.{Next, Due, element_of, next_of, due, missing, opening, next_after, is_last, AreWhole}
-use Rattle.ill_refusals.specs.Fault.{Fault, fault, ends_at, is_indefinite, past_end, cut_fault, element_fault, string_fault, is_deep}
+use Rattle.ill_refusals.specs.Fault.{Fault, fault, fault_at, ends_at, is_indefinite, past_end, cut_fault, element_fault, string_fault, is_deep}
 use Rattle.ill_refusals.specs.code.Judge.{Judgement, faulty, closes, opens, reads, or_faulty, judge_end, judge_content, judge_size, judge_length, judge_form, judge_tag, judge_element, judge_mark, judge_octets, judge}
 use Rattle.ill_refusals.specs.code.Step.{Step, refused, goes, whole, stuck, snoc, with_tree, opened, step_after}
 use Rattle.ill_refusals.specs.Outcome.{OnlyRefuses}
 use Rattle.ill_refusals.specs.Place.{Open, next_in, innermost_end, bound, allows, message, IsOpen, IsPlace, IsDue}
-use Rattle.ill_refusals.specs.Retagged.{is_strict, holds_strict, IsFirstRetagged}
+use Rattle.ill_refusals.specs.Retagged.{holds_retagged, IsRetaggedAt, IsFirstRetagged}
 use Rattle.ill_refusals.proofs.WholeElements.{IsProper}
 use Rattle.ill_refusals.proofs.OpenElements.{IsProperNext, due_proper}
 use Rattle.ill_refusals.proofs.PlaceRuns.{place_proper}
 use Rattle.ill_refusals.proofs.TreeRuns.{next-snoc}
 use Rattle.ill_refusals.proofs.Machine.{step, after}
 use Rattle.ill_refusals.proofs.DueSteps.{IsMessage, Placed, step_placed}
-use Rattle.ill_refusals.proofs.PlaceOrder.{final_stays}
-use Rattle.ill_refusals.proofs.OneOutcome.{message_encodes, encodes_run}
+use Rattle.ill_refusals.proofs.FirstFault.{has_fault}
+use Rattle.ill_refusals.proofs.Judgements.{Judged, judged}
+use Rattle.ill_refusals.proofs.PlaceOrder.{final_stays, last_place, Later, steps_later}
+use Rattle.ill_refusals.proofs.OneOutcome.{message_encodes, encodes_run, due_run}
 use Rattle.ill_refusals.proofs.Continuations.{due_at, refused_at}
-use Rattle.ill_refusals.proofs.Mirrors.{mirror, is_left_out, Mirrored, IsDueToo, next_due, none_missing, same_last, is_fresh, first_tag, IsRetaggedDue, fresh_due, fresh_missing, fresh_last, opening_mirrored, inner_beside}
+use Rattle.ill_refusals.proofs.Mirrors.{mirror, is_left_out, Mirrored, IsDueToo, next_due, none_missing, same_last, first_tag, IsRetaggedDue, fresh_due, fresh_missing, fresh_last, opened_due, opened_missing, opening_mirrored, inner_beside}
 
 -- ---- places
 
@@ -53,11 +55,11 @@ mirror_path (o ∷ path) = mirror_open o ∷ mirror_path path
 abbrev PathMirrored : List Open → Type 0
 PathMirrored [] = Unit {0}
 PathMirrored (o ∷ path) =
-    (Mirrored (next_in profile_two (o ∷ path)) (next_in profile_three (mirror_path (o ∷ path))) ⊎ (IsTrue (is_fresh o.element) × (o.trees ≡ none)))
+    (Mirrored (next_in profile_two (o ∷ path)) (next_in profile_three (mirror_path (o ∷ path))) ⊎ (IsTrue (holds_retagged o.element) × (o.trees ≡ none)))
     × PathMirrored path
 
 abbrev IsFreshPath : List Open → Type 0
-IsFreshPath path = (o : Open) × (outer : List Open) × (path ≡ o ∷ outer) × IsTrue (is_fresh o.element) × (o.trees ≡ none)
+IsFreshPath path = (o : Open) × (outer : List Open) × (path ≡ o ∷ outer) × IsTrue (holds_retagged o.element) × (o.trees ≡ none)
 
 message_mirrored : Mirrored (next_in profile_two []) (next_in profile_three [])
 message_mirrored = (message profile_three ∷ [], refl, inner_beside (message profile_two) refl refl)
@@ -396,28 +398,43 @@ top_whole : (p : Profile) (path : List Open) (u : List ℕ) → IsPlace p u path
 top_whole p [] u h = tt
 top_whole p (o ∷ path) u h = h.4.whole
 
--- the module refuses a first component, and nothing else
-abbrev pub IsRefused : List ℕ → Type 0
-IsRefused s = (k : ℕ) × IsFirstRetagged s k × OnlyRefuses profile_three s (fault Cause.WrongForm k)
+-- the module refuses such a component, and nothing else
+record IsStrictPlace (s : List ℕ) (k : ℕ) : Type 0 where
+  retagged : IsRetaggedAt s k
+  path : List Open
+  is_due : IsDue profile_three s k path
+  has_fault : fault_at profile_three path k (drop k s) ≡ Some (fault Cause.WrongForm k)
+  only : OnlyRefuses profile_three s (fault Cause.WrongForm k)
 
--- or it reads the same message
-abbrev Ends : List ℕ → Tree → ℕ → Type 0
-Ends s T n = IsRefused s ⊎ IsMessage profile_three s T n
+abbrev Before : ℕ → Step → Type 0
+Before k (goes path l rest) = k ≤ l
+Before k (whole T n) = Unit {0}
+Before k (refused f) = Unit {0}
+Before k stuck = Unit {0}
 
-abbrev Goes : List ℕ → ℕ → Tree → ℕ → Type 0
-Goes s m T n = (path : List Open) (k : ℕ) (rest : List ℕ) → PathMirrored path → Placed profile_two s (goes path k rest) → Placed profile_three s (goes (mirror_path path) k rest)
-    → after profile_two m (goes path k rest) ≡ whole T n → Ends s T n
+-- the module is where profile 2 is
+abbrev Same : List ℕ → Step → Type 0
+Same s (goes path k rest) = PathMirrored path × Placed profile_three s (goes (mirror_path path) k rest)
+Same s (whole T n) = IsMessage profile_three s T n
+Same s (refused f) = Unit {0}
+Same s stuck = Unit {0}
+
+-- or has refused such a component before
+abbrev Ends : List ℕ → Step → Type 0
+Ends s st = ((k : ℕ) × IsStrictPlace s k × Before k st) ⊎ Same s st
+
+abbrev Goes : List ℕ → ℕ → Step → Type 0
+Goes s m st = (path : List Open) (k : ℕ) (rest : List ℕ) → PathMirrored path → Placed profile_two s (goes path k rest) → Placed profile_three s (goes (mirror_path path) k rest)
+    → after profile_two m (goes path k rest) ≡ st → Ends s st
 
 -- a tree is appended, or is the message
-with_ends : (s : List ℕ) (m : ℕ) (T : Tree) (n : ℕ) → Goes s m T n → (path : List Open) (U : Tree) (k : ℕ) (rest : List ℕ) → PathMirrored path → Grows path (tag_of U)
+with_ends : (s : List ℕ) (m : ℕ) (st : Step) → Goes s m st → (path : List Open) (U : Tree) (k : ℕ) (rest : List ℕ) → PathMirrored path → Grows path (tag_of U)
     → TopWhole profile_two path → TopWhole profile_three (mirror_path path) → Placed profile_two s (with_tree path U k rest) → Placed profile_three s (with_tree (mirror_path path) U k rest)
-    → after profile_two m (with_tree path U k rest) ≡ whole T n → Ends s T n
-with_ends s m T n go [] U k rest h g a b x y e =
-    let q : whole U k ≡ whole T n = sym (final_stays profile_two m (whole U k) tt) ∙ e in
-    let t : U ≡ T = cc in
-    let i : k ≡ n = cc in
-    inr (subst (λ z. IsMessage profile_three s z n) t (subst (λ z. IsMessage profile_three s U z) i y))
-with_ends s m T n go (o ∷ path) U k rest h g a b x y e =
+    → after profile_two m (with_tree path U k rest) ≡ st → Ends s st
+with_ends s m st go [] U k rest h g a b x y e =
+    let q : whole U k ≡ st = sym (final_stays profile_two m (whole U k) tt) ∙ e in
+    inr (subst (Same s) q y)
+with_ends s m st go (o ∷ path) U k rest h g a b x y e =
     let o2 : Open = record o { trees = snoc o.trees U } in
     let n2 : next_in profile_two (o2 ∷ path) ≡ next_of g.0 = next-snoc profile_two (opening profile_two o.element) o.trees U g.0 a g.2 in
     let n3 : next_in profile_three (mirror_path (o2 ∷ path)) ≡ next_of g.1 = next-snoc profile_three (opening profile_three (mirror o.element)) o.trees U g.1 b g.3 in
@@ -453,94 +470,163 @@ opened_mirrored e tag k end path ok h = elim (opening_mirrored e ok) [
   | inr m ↦ (inl m, h)
 ]
 
-follow : (s : List ℕ) (m : ℕ) (T : Tree) (n : ℕ) → IsTrue (are_octets s) → Goes s m T n → (path : List Open) (k : ℕ) (rest : List ℕ) → PathMirrored path
+follow : (s : List ℕ) (m : ℕ) (st : Step) → IsTrue (are_octets s) → Goes s m st → (path : List Open) (k : ℕ) (rest : List ℕ) → PathMirrored path
     → Placed profile_two s (goes path k rest) → Placed profile_three s (goes (mirror_path path) k rest) → (i j : Judgement) → judge profile_two path k rest ≡ i → judge profile_three (mirror_path path) k rest ≡ j
-    → Follows path i j → after profile_two m (step_after i path k rest) ≡ whole T n → Ends s T n
-follow s m T n ok go path k rest h x y i j e f g r = at i j g r
+    → Follows path i j → after profile_two m (step_after i path k rest) ≡ st → Ends s st
+follow s m st ok go path k rest h x y i j e f g r = at i j g r
     (subst (λ z. Placed profile_two s (step_after z path k rest)) e (step_placed profile_two s path k rest ok x))
     (subst (λ z. Placed profile_three s (step_after z (mirror_path path) k rest)) f (step_placed profile_three s (mirror_path path) k rest ok y))
   where
     closed : (o : Open) (outer : List Open) (c : ℕ) → PathMirrored (o ∷ outer) → Placed profile_two s (goes (o ∷ outer) k rest) → Placed profile_three s (goes (mirror_path (o ∷ outer)) k rest)
         → Placed profile_two s (step_after (closes c) (o ∷ outer) k rest) → Placed profile_three s (step_after (closes c) (mirror_path (o ∷ outer)) k rest)
-        → after profile_two m (step_after (closes c) (o ∷ outer) k rest) ≡ whole T n → Ends s T n
+        → after profile_two m (step_after (closes c) (o ∷ outer) k rest) ≡ st → Ends s st
     closed o outer c h x y a b r =
-        with_ends s m T n go outer (constructed o.tag o.trees) (k + c) (drop c rest) h.1 (closed_grows o outer x.3.0 x.3.1 x.3.2 h.1 x.3.3 x.3.4)
+        with_ends s m st go outer (constructed o.tag o.trees) (k + c) (drop c rest) h.1 (closed_grows o outer x.3.0 x.3.1 x.3.2 h.1 x.3.3 x.3.4)
         (top_whole profile_two outer x.3.0 x.3.3) (top_whole profile_three (mirror_path outer) y.3.0 y.3.3) a b r
 
     close_all : (path : List Open) (c : ℕ) → PathMirrored path → Placed profile_two s (goes path k rest) → Placed profile_three s (goes (mirror_path path) k rest)
         → Placed profile_two s (step_after (closes c) path k rest) → Placed profile_three s (step_after (closes c) (mirror_path path) k rest)
-        → after profile_two m (step_after (closes c) path k rest) ≡ whole T n → Ends s T n
+        → after profile_two m (step_after (closes c) path k rest) ≡ st → Ends s st
     close_all [] c h x y a b r = absurd a
     close_all (o ∷ outer) c h x y a b r = closed o outer c h x y a b r
 
-    at : (i j : Judgement) → Follows path i j → after profile_two m (step_after i path k rest) ≡ whole T n → Placed profile_two s (step_after i path k rest)
-        → Placed profile_three s (step_after j (mirror_path path) k rest) → Ends s T n
-    at (faulty f) j g r a b = absurd (let q : refused f ≡ whole T n = sym (final_stays profile_two m (refused f) tt) ∙ r in cc)
+    at : (i j : Judgement) → Follows path i j → after profile_two m (step_after i path k rest) ≡ st → Placed profile_two s (step_after i path k rest)
+        → Placed profile_three s (step_after j (mirror_path path) k rest) → Ends s st
+    at (faulty f) j g r a b = let q : refused f ≡ st = sym (final_stays profile_two m (refused f) tt) ∙ r in inr (subst (Same s) q tt)
     at (closes c) j g r a b = close_all path c h x y a (subst (λ z. Placed profile_three s (step_after z (mirror_path path) k rest)) g b) r
     at (opens tag e size end) j g r a b =
         go (opened e tag k end ∷ path) (k + size) (drop size rest) (opened_mirrored e tag k end path g.1 h) a (subst (λ z. Placed profile_three s (step_after z (mirror_path path) k rest)) g.0 b) r
     at (reads tag size content) j g r a b =
-        with_ends s m T n go path (primitive tag content) (k + size + length content) (drop (size + length content) rest) h g.1
+        with_ends s m st go path (primitive tag content) (k + size + length content) (drop (size + length content) rest) h g.1
         (top_whole profile_two path x.0 x.3) (top_whole profile_three (mirror_path path) y.0 y.3) a (subst (λ z. Placed profile_three s (step_after z (mirror_path path) k rest)) g.0 b) r
 
 -- ---- the place where the tag is refused
-
-strict_twin : (node : NodeId) → IsTrue (is_retagged node) → IsTrue (is_strict (twin node))
-strict_twin UnitsPerMedium h = refl
-strict_twin WillSupply h = refl
-strict_twin _ h = absurd cc
-
-holds_twin : (e : Element) → IsTrue (is_fresh e) → IsTrue (holds_strict (mirror e))
-holds_twin (sequence node) h = strict_twin node h
-holds_twin (loose_wrapper c) h = strict_twin c.node h
-holds_twin (leaf l) h = absurd cc
-holds_twin (list node) h = absurd cc
-holds_twin (wrapper c) h = absurd cc
-holds_twin (segment tag) h = absurd cc
-holds_twin (foreign n) h = absurd cc
-holds_twin (left_out x) h = absurd cc
 
 first_is : (m a : ℕ) (r rest : List ℕ) → take m rest ≡ a ∷ r → slice_get rest 0 ≡ Some a
 first_is zero a r rest e = absurd cc
 first_is (suc m) a r [] e = absurd cc
 first_is (suc m) a r (b ∷ rest) e = let q : b ≡ a = cc in ap Some q
 
-get_after : (u rest : List ℕ) (x : Option ℕ) → slice_get rest 0 ≡ x → slice_get (u ++ rest) (length u) ≡ x
-get_after [] rest x e = e
-get_after (a ∷ u) rest x e = get_after u rest x e
+get_after : (u rest : List ℕ) → slice_get (u ++ rest) (length u) ≡ slice_get rest 0
+get_after [] rest = refl
+get_after (a ∷ u) rest = get_after u rest
 
-strict_refused : (s : List ℕ) (path : List Open) (k : ℕ) (rest : List ℕ) → IsTrue (are_octets s) → Placed profile_three s (goes (mirror_path path) k rest)
-    → IsStrictIn path k (take (bound profile_two path - k) rest) (judge profile_three (mirror_path path) k rest) → IsRefused s
-strict_refused s path k rest ok y h =
+placed_get : (p : Profile) (s : List ℕ) (path : List Open) (k : ℕ) (rest : List ℕ) → Placed p s (goes path k rest) → slice_get s k ≡ slice_get rest 0
+placed_get p s path k rest h = ap₂ (λ (z : List ℕ) (n : ℕ). slice_get z n) h.1 h.2 ∙ get_after h.0 rest
+
+placed_due : (p : Profile) (s : List ℕ) (path : List Open) (k : ℕ) (rest : List ℕ) → Placed p s (goes path k rest) → IsDue p s k path
+placed_due p s path k rest h =
+    subst (λ z. IsDue p z k path) (sym h.1) (subst (λ n. IsDue p (h.0 ++ rest) n path) (sym h.2) (due_at p path h.0 rest h.3))
+
+placed_rest : (p : Profile) (s : List ℕ) (path : List Open) (k : ℕ) (rest : List ℕ) → Placed p s (goes path k rest) → drop k s ≡ rest
+placed_rest p s path k rest h = ap₂ (λ (n : ℕ) (z : List ℕ). drop n z) h.2 h.1 ∙ drop-all h.0 rest
+
+placed_octets : (p : Profile) (s : List ℕ) (path : List Open) (k : ℕ) (rest : List ℕ) → IsTrue (are_octets s) → Placed p s (goes path k rest) → IsTrue (are_octets rest)
+placed_octets p s path k rest ok h = octets_right h.0 rest (subst (λ z. IsTrue (are_octets z)) h.1 ok)
+
+placed_fault : (p : Profile) (s : List ℕ) (path : List Open) (k : ℕ) (rest : List ℕ) (f : Fault) → Placed p s (goes path k rest) → judge p path k rest ≡ faulty f → fault_at p path k (drop k s) ≡ Some f
+placed_fault p s path k rest f h e = has_fault p path k (drop k s) f (ap (judge p path k) (placed_rest p s path k rest h) ∙ e)
+
+strict_place : (s : List ℕ) (path : List Open) (k : ℕ) (rest : List ℕ) → IsTrue (are_octets s) → Placed profile_two s (goes path k rest) → Placed profile_three s (goes (mirror_path path) k rest)
+    → IsStrictIn path k (take (bound profile_two path - k) rest) (judge profile_three (mirror_path path) k rest) → IsStrictPlace s k
+strict_place s path k rest ok x y h =
     let u = y.0 in
     let m = bound profile_two path - k in
-    let o = h.0.0 in
-    let outer = h.0.1 in
-    let os : IsTrue (are_octets rest) = octets_right u rest (subst (λ z. IsTrue (are_octets z)) y.1 ok) in
+    let os = placed_octets profile_three s (mirror_path path) k rest ok y in
     let first : IsTrue (are_octets (take m rest)) = octets_left (take m rest) (drop m rest) (subst (λ z. IsTrue (are_octets z)) (sym (take-append-drop m rest)) os) in
     let read : take m rest ≡ 128 ∷ h.1.0 = (read_is_identifier (take m rest) first_tag false h.1.0 first h.1.1).1 in
-    let octet : slice_get (u ++ rest) (length u) ≡ Some 128 = get_after u rest (Some 128) (first_is m 128 h.1.0 rest read) in
-    let due = due_at profile_three (mirror_path path) u rest y.3 in
-    let only = refused_at profile_three (mirror_path path) u rest (fault Cause.WrongForm k) y.3 (ap (λ i. judge profile_three (mirror_path path) i rest) (sym y.2) ∙ h.2) in
-    let at : IsDue profile_three (u ++ rest) (length u) (mirror_open o ∷ mirror_path outer) = subst (λ z. IsDue profile_three (u ++ rest) (length u) (mirror_path z)) h.0.2 due in
-    let is : IsFirstRetagged (u ++ rest) (length u) = (mirror_open o, mirror_path outer, at, holds_twin o.element h.0.3, h.0.4, octet) in
-    subst IsRefused (sym y.1) (k, subst (IsFirstRetagged (u ++ rest)) (sym y.2) is, only)
+    let octet : slice_get s k ≡ Some 128 = placed_get profile_two s path k rest x ∙ first_is m 128 h.1.0 rest read in
+    let due : IsDue profile_two s k (h.0.0 ∷ h.0.1) = subst (λ z. IsDue profile_two s k z) h.0.2 (placed_due profile_two s path k rest x) in
+    record {
+      retagged = (h.0.0, h.0.1, due, h.0.3, h.0.4, octet);
+      path = mirror_path path;
+      is_due = placed_due profile_three s (mirror_path path) k rest y;
+      has_fault = placed_fault profile_three s (mirror_path path) k rest (fault Cause.WrongForm k) y h.2;
+      only = subst (λ z. OnlyRefuses profile_three z (fault Cause.WrongForm k)) (sym y.1)
+          (refused_at profile_three (mirror_path path) u rest (fault Cause.WrongForm k) y.3 (ap (λ i. judge profile_three (mirror_path path) i rest) (sym y.2) ∙ h.2));
+    }
 
-run : (s : List ℕ) (m : ℕ) (T : Tree) (n : ℕ) → IsTrue (are_octets s) → Goes s m T n
-run s zero T n ok path k rest h x y e = absurd cc
-run s (suc m) T n ok path k rest h x y e = elim (judge_follows path k rest h (place_proper profile_two path x.0 x.3)) [
-  | inl a ↦ inl (strict_refused s path k rest ok y a)
-  | inr g ↦ follow s m T n ok (run s m T n ok) path k rest h x y (judge profile_two path k rest) (judge profile_three (mirror_path path) k rest) refl refl g e
+later_before : (path : List Open) (k : ℕ) (st : Step) → Later path k st → Before k st
+later_before path k (goes a l rest) (inl h) = omega arith
+later_before path k (goes a l rest) (inr h) = let e = h.0 in omega arith
+later_before path k (whole T n) h = tt
+later_before path k (refused f) h = tt
+later_before path k stuck h = tt
+
+run : (s : List ℕ) (m : ℕ) (st : Step) → IsTrue (are_octets s) → Goes s m st
+run s zero st ok path k rest h x y e = inr (subst (Same s) e (h, y))
+run s (suc m) st ok path k rest h x y e = elim (judge_follows path k rest h (place_proper profile_two path x.0 x.3)) [
+  | inl a ↦ inl (k, strict_place s path k rest ok x y a, subst (Before k) e (later_before path k _ (steps_later profile_two s m path k rest ok x)))
+  | inr g ↦ follow s m st ok (run s m st ok) path k rest h x y (judge profile_two path k rest) (judge profile_three (mirror_path path) k rest) refl refl g e
 ]
 
--- what profile 2 reads is refused there in the module profile, or is plain
-pub other_tags : (s : List ℕ) (a : Apdu) → IsTrue (are_octets s) → Encodes profile_two a s → (IsTrue (is_plain_apdu a) → ⊥) → IsRefused s
+-- ---- the module refuses each such component
+
+first_octet : (t : Tag) (f : Bool) (x w : List ℕ) → HasIdentifier t f → 128 ∷ w ≡ identifier t f ++ x → (t ≡ first_tag) × (f ≡ false)
+first_octet t f x w i e =
+    let q : identified first_tag false w ≡ identified t f x = ap read_identifier e ∙ identifier_read t f x i in
+    (cc, cc)
+
+begins_with : (rest : List ℕ) (a : ℕ) → slice_get rest 0 ≡ Some a → (w : List ℕ) × (rest ≡ a ∷ w)
+begins_with [] a e = absurd cc
+begins_with (b ∷ w) a e = let q : b ≡ a = cc in (w, ap (λ z. z ∷ w) q)
+
+refuses_there : (s : List ℕ) (o : Open) (outer : List Open) (k : ℕ) (rest : List ℕ) → IsTrue (are_octets s) → IsTrue (holds_retagged o.element) → o.trees ≡ none
+    → Placed profile_three s (goes (mirror_path (o ∷ outer)) k rest) → slice_get s k ≡ Some 128 → (f : Fault) × (judge profile_three (mirror_path (o ∷ outer)) k rest ≡ faulty f)
+refuses_there s o outer k rest ok fresh empty y octet =
+    go (judge profile_three (mirror_path (o ∷ outer)) k rest) (judged profile_three (mirror_path (o ∷ outer)) k rest (placed_octets profile_three s (mirror_path (o ∷ outer)) k rest ok y)) refl
+  where
+    path : List Open
+    path = mirror_path (o ∷ outer)
+
+    begins : (w : List ℕ) × (rest ≡ 128 ∷ w)
+    begins = begins_with rest 128 (sym (placed_get profile_three s (mirror_path (o ∷ outer)) k rest y) ∙ octet)
+
+    opening_next : next_in profile_three (mirror_path (o ∷ outer)) ≡ opening profile_three (mirror o.element)
+    opening_next = fresh_next profile_three (mirror_open o) (mirror_path outer) empty
+
+    go : (j : Judgement) → Judged profile_three path k rest j → judge profile_three path k rest ≡ j → (f : Fault) × (judge profile_three path k rest ≡ faulty f)
+    go (faulty f) r e = (f, e)
+    go (closes m) r e =
+        let c : missing profile_three (next_in profile_three path) ≡ None = subst (λ z. missing profile_three (next_in profile_three z) ≡ None) (sym r.is_path) r.may_end.complete in
+        absurd (opened_missing o.element fresh (ap (missing profile_three) (sym opening_next) ∙ c))
+    go (opens tag x h end) r e =
+        absurd (let q : true ≡ false = (first_octet tag true (r.octets ++ r.behind) begins.0 r.started.has_identifier (sym begins.1 ∙ r.spelled)).1 in cc)
+    go (reads tag h content) r e =
+        let t = (first_octet tag false (r.octets ++ (content ++ r.behind)) begins.0 r.started.has_identifier (sym begins.1 ∙ r.spelled)).0 in
+        let d : due profile_three first_tag (opening profile_three (mirror o.element)) ≡ Some r.found =
+        ap₂ (λ (z : Tag) (n : Next). due profile_three z n) (sym t) (sym opening_next) ∙ r.started.is_due in
+        let c = opened_due o.element r.found fresh d in
+        absurd (let q : allows (wrapper c.0) false ≡ true = subst (λ z. allows z false ≡ true) c.1 r.started.allowed in cc)
+
+-- so none comes before the one where the module stops
+first_place : (s : List ℕ) (k : ℕ) → IsTrue (are_octets s) → IsStrictPlace s k → (l : ℕ) → IsRetaggedAt s l → k ≤ l
+first_place s k ok h l at =
+    let r = due_run profile_two s (at.0 ∷ at.1) l at.2 in
+    elim (run s r.0 (goes (at.0 ∷ at.1) l (drop l s)) ok [] 0 s tt ([], refl, refl, refl) ([], refl, refl, refl) r.1) [
+      | inl x ↦
+          let e : fault Cause.WrongForm x.0 ≡ fault Cause.WrongForm k = h.only.1 (fault Cause.WrongForm x.0) x.1.only.0 in
+          let i : x.0 ≡ k = ap (λ (f : Fault). f.at) e in
+          let le = x.2 in
+          omega arith
+      | inr x ↦
+          let path = mirror_path (at.0 ∷ at.1) in
+          let f = refuses_there s at.0 at.1 l (drop l s) ok at.3 at.4 x.1 at.5 in
+          elim (last_place profile_three s path h.path l k f.0 ok (placed_due profile_three s path l (drop l s) x.1) (placed_fault profile_three s path l (drop l s) f.0 x.1 f.1) h.is_due) [
+            | inl a ↦ omega arith
+            | inr a ↦ let e = a.0 in omega arith
+          ]
+    ]
+
+-- what profile 2 reads is refused at the first such component in the module profile, or is plain
+pub other_tags : (s : List ℕ) (a : Apdu) → IsTrue (are_octets s) → Encodes profile_two a s → (IsTrue (is_plain_apdu a) → ⊥)
+    → (k : ℕ) × IsFirstRetagged s k × OnlyRefuses profile_three s (fault Cause.WrongForm k)
 other_tags s a ok h plain =
     let all : take (length s) s ≡ s = ap (take (length s)) (sym (append-nil s)) ∙ take-all s [] in
     let h2 : Encodes profile_two a (take (length s) s) = subst (Encodes profile_two a) (sym all) h in
     let r = encodes_run profile_two s a (length s) (omega arith) h2 in
-    elim (run s r.0 h2.tree (length s) ok [] 0 s tt ([], refl, refl, refl) ([], refl, refl, refl) r.1) [
-      | inl x ↦ x
+    elim (run s r.0 (whole h2.tree (length s)) ok [] 0 s tt ([], refl, refl, refl) ([], refl, refl, refl) r.1) [
+      | inl x ↦ (x.0, (x.1.retagged, first_place s x.0 ok x.1), x.1.only)
       | inr m ↦
           let e = message_encodes profile_three s h2.tree (length s) m in
           absurd (plain ((both_encode a m.apdu s (take (length s) s) [] [] h e.1 (ap (λ z. z ++ []) (sym all))).0))

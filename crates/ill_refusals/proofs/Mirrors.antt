@@ -19,6 +19,7 @@ use Rattle.ill_schema.proofs.Twins.{kinds_stay}
 use Rattle.ber_core.specs.Foreign.{foreign_levels}
 use Rattle.ill_refusals.specs.Element.{Component, node_components, inner, Element, leaf, sequence, list, wrapper, loose_wrapper, segment, foreign, left_out, Start, start, starts_by}
 use Rattle.ill_refusals.specs.Next.{Next, rows, items, either, segments, anything, foreigns, Due, part, octets, any, element_of, next_of, start_by, due_by, due, missing, first_mandatory, opening, is_last}
+use Rattle.ill_refusals.specs.Retagged.{holds_retagged}
 use Rattle.ill_refusals.proofs.Rows.{starting, due-found, due-skip, missing-skip, must_ends, must_stops, same_tag-is}
 use Rattle.ill_refusals.proofs.WholeElements.{IsProper}
 use Rattle.ill_refusals.proofs.OpenElements.{IsProperNext}
@@ -316,12 +317,6 @@ same_last (foreigns n) m k = ap is_last k
 
 -- ---- the types whose tags are explicit in the module alone
 
--- an element that holds the components of one of them
-abbrev pub is_fresh : Element → Bool
-is_fresh (sequence node) = is_retagged node
-is_fresh (loose_wrapper c) = is_retagged c.node
-is_fresh e = false
-
 abbrev pub first_tag : Tag
 first_tag = record { class = Class.Context; number = 0 }
 
@@ -331,12 +326,12 @@ IsRetaggedDue t n d = (t ≡ first_tag) × (element_of d ≡ leaf enumerated) ×
 
 abbrev StartStrict : List Component → List Component → Type 0
 StartStrict (c ∷ cs) (x ∷ ds) =
-    (c.presence ≡ Presence.Must) × (component_starts c ≡ start first_tag (leaf enumerated) ∷ []) × ((i : Component) × (component_starts x ≡ start first_tag (wrapper i) ∷ []))
+    (c.presence ≡ Presence.Must) × (x.presence ≡ Presence.Must) × (component_starts c ≡ start first_tag (leaf enumerated) ∷ []) × ((i : Component) × (component_starts x ≡ start first_tag (wrapper i) ∷ []))
 StartStrict _ _ = ⊥
 
 strict_nodes : (node : NodeId) → IsTrue (is_retagged node) → StartStrict (node_components true node) (node_components true (twin node))
-strict_nodes UnitsPerMedium h = (refl, refl, (_, refl))
-strict_nodes WillSupply h = (refl, refl, (_, refl))
+strict_nodes UnitsPerMedium h = (refl, refl, refl, (_, refl))
+strict_nodes WillSupply h = (refl, refl, refl, (_, refl))
 strict_nodes _ h = absurd cc
 
 strict_due : (t : Tag) (cs ds : List Component) (d : Due) → StartStrict cs ds → due_by true t cs ≡ Some d → IsRetaggedDue t (rows ds) d
@@ -344,18 +339,33 @@ strict_due t [] ds d k h = absurd k
 strict_due t (c ∷ cs) [] d k h = absurd k
 strict_due t (c ∷ cs) (x ∷ ds) d k h = elim (two_cases (same_tag first_tag t)) [
   | inl e ↦
-      let s : starting t (component_starts c) ≡ Some (start first_tag (leaf enumerated)) = ap (starting t) k.1 ∙ starting-yes t (start first_tag (leaf enumerated)) [] e in
-      let u : starting t (component_starts x) ≡ Some (start first_tag (wrapper k.2.0)) = ap (starting t) k.2.1 ∙ starting-yes t (start first_tag (wrapper k.2.0)) [] e in
+      let s : starting t (component_starts c) ≡ Some (start first_tag (leaf enumerated)) = ap (starting t) k.2 ∙ starting-yes t (start first_tag (leaf enumerated)) [] e in
+      let u : starting t (component_starts x) ≡ Some (start first_tag (wrapper k.3.0)) = ap (starting t) k.3.1 ∙ starting-yes t (start first_tag (wrapper k.3.0)) [] e in
       let q : Some (part c (leaf enumerated) (rows cs)) ≡ Some d = sym (due-found profile_two t c cs (start first_tag (leaf enumerated)) s) ∙ h in
       let r : part c (leaf enumerated) (rows cs) ≡ d = cc in (
         sym (same_tag-is first_tag t e),
         ap element_of (sym r),
-        (part x (wrapper k.2.0) (rows ds), k.2.0, due-found profile_three t x ds (start first_tag (wrapper k.2.0)) u, refl),
+        (part x (wrapper k.3.0) (rows ds), k.3.0, due-found profile_three t x ds (start first_tag (wrapper k.3.0)) u, refl),
       )
   | inr e ↦
-      let s : starting t (component_starts c) ≡ None = ap (starting t) k.1 ∙ starting-no t (start first_tag (leaf enumerated)) [] e in
+      let s : starting t (component_starts c) ≡ None = ap (starting t) k.2 ∙ starting-no t (start first_tag (leaf enumerated)) [] e in
       absurd (must_stops profile_two t c cs d s h k.0)
 ]
+
+-- in the module the tag round it alone is due
+strict_three : (cs ds : List Component) (d : Due) → StartStrict cs ds → due_by true first_tag ds ≡ Some d → (c : Component) × (element_of d ≡ wrapper c)
+strict_three [] ds d k h = absurd k
+strict_three (c ∷ cs) [] d k h = absurd k
+strict_three (c ∷ cs) (x ∷ ds) d k h =
+    let u : starting first_tag (component_starts x) ≡ Some (start first_tag (wrapper k.3.0)) = ap (starting first_tag) k.3.1 in
+    let q : Some (part x (wrapper k.3.0) (rows ds)) ≡ Some d = sym (due-found profile_three first_tag x ds (start first_tag (wrapper k.3.0)) u) ∙ h in
+    let r : part x (wrapper k.3.0) (rows ds) ≡ d = cc in
+    (k.3.0, ap element_of (sym r))
+
+mandatory_three : (cs ds : List Component) → StartStrict cs ds → first_mandatory ds ≡ None → ⊥
+mandatory_three [] ds k h = k
+mandatory_three (c ∷ cs) [] k h = k
+mandatory_three (c ∷ cs) (x ∷ ds) k h = must_ends profile_three x ds x.presence refl h k.1
 
 strict_mandatory : (cs ds : List Component) → StartStrict cs ds → first_mandatory cs ≡ None → ⊥
 strict_mandatory [] ds k h = k
@@ -363,7 +373,7 @@ strict_mandatory (c ∷ cs) [] k h = k
 strict_mandatory (c ∷ cs) (x ∷ ds) k h = must_ends profile_two c cs c.presence refl h k.0
 
 -- what is due where such an element has just been opened
-pub fresh_due : (e : Element) (t : Tag) (d : Due) → IsTrue (is_fresh e) → IsProperNext profile_two (opening profile_two e) → due profile_two t (opening profile_two e) ≡ Some d
+pub fresh_due : (e : Element) (t : Tag) (d : Due) → IsTrue (holds_retagged e) → IsProperNext profile_two (opening profile_two e) → due profile_two t (opening profile_two e) ≡ Some d
     → IsDueToo t (opening profile_three (mirror e)) d ⊎ IsRetaggedDue t (opening profile_three (mirror e)) d
 fresh_due (sequence node) t d f ok h = inr (strict_due t (node_components true node) (node_components true (twin node)) d (strict_nodes node f) h)
 fresh_due (loose_wrapper c) t d f ok h = elim (two_cases (same_tag t sequence_tag)) [
@@ -380,7 +390,7 @@ fresh_due (foreign n) t d f ok h = absurd cc
 fresh_due (left_out x) t d f ok h = absurd cc
 
 -- nothing of it is there yet
-pub fresh_missing : (e : Element) → IsTrue (is_fresh e) → missing profile_two (opening profile_two e) ≡ None → ⊥
+pub fresh_missing : (e : Element) → IsTrue (holds_retagged e) → missing profile_two (opening profile_two e) ≡ None → ⊥
 fresh_missing (sequence node) f h = strict_mandatory (node_components true node) (node_components true (twin node)) (strict_nodes node f) h
 fresh_missing (loose_wrapper c) f h = strict_mandatory (node_components true c.node) (node_components true (twin c.node)) (strict_nodes c.node f) h
 fresh_missing (leaf l) f h = absurd cc
@@ -390,7 +400,7 @@ fresh_missing (segment tag) f h = absurd cc
 fresh_missing (foreign n) f h = absurd cc
 fresh_missing (left_out x) f h = absurd cc
 
-pub fresh_last : (e : Element) → IsTrue (is_fresh e) → is_last (opening profile_three (mirror e)) ≡ is_last (opening profile_two e)
+pub fresh_last : (e : Element) → IsTrue (holds_retagged e) → is_last (opening profile_three (mirror e)) ≡ is_last (opening profile_two e)
 fresh_last (sequence node) f = refl
 fresh_last (loose_wrapper c) f = refl
 fresh_last (leaf l) f = absurd cc
@@ -430,7 +440,7 @@ wrapper_mirrored c e f (Kind.Leaf l) = (mirror_component c ∷ [], refl, inner_b
 not_false : (b : Bool) → b ≡ false → IsTrue (not b)
 not_false b e = ap not e
 
-pub opening_mirrored : (e : Element) → IsProper profile_two e → IsTrue (is_fresh e) ⊎ Mirrored (opening profile_two e) (opening profile_three (mirror e))
+pub opening_mirrored : (e : Element) → IsProper profile_two e → IsTrue (holds_retagged e) ⊎ Mirrored (opening profile_two e) (opening profile_three (mirror e))
 opening_mirrored (leaf l) h = inr refl
 opening_mirrored (sequence node) h = elim (two_cases (is_retagged node)) [
   | inl f ↦ inl f
@@ -448,3 +458,25 @@ opening_mirrored (loose_wrapper c) h = elim (two_cases (is_retagged c.node)) [
 opening_mirrored (segment tag) h = inr refl
 opening_mirrored (foreign n) h = inr refl
 opening_mirrored (left_out x) h = inr ([], refl, record { are = refl; begin = refl })
+
+-- ---- what the module has where such an element has just been opened
+
+pub opened_due : (e : Element) (d : Due) → IsTrue (holds_retagged e) → due profile_three first_tag (opening profile_three (mirror e)) ≡ Some d → (c : Component) × (element_of d ≡ wrapper c)
+opened_due (sequence node) d f h = strict_three (node_components true node) (node_components true (twin node)) d (strict_nodes node f) h
+opened_due (loose_wrapper c) d f h = strict_three (node_components true c.node) (node_components true (twin c.node)) d (strict_nodes c.node f) h
+opened_due (leaf l) d f h = absurd cc
+opened_due (list node) d f h = absurd cc
+opened_due (wrapper c) d f h = absurd cc
+opened_due (segment tag) d f h = absurd cc
+opened_due (foreign n) d f h = absurd cc
+opened_due (left_out x) d f h = absurd cc
+
+pub opened_missing : (e : Element) → IsTrue (holds_retagged e) → missing profile_three (opening profile_three (mirror e)) ≡ None → ⊥
+opened_missing (sequence node) f h = mandatory_three (node_components true node) (node_components true (twin node)) (strict_nodes node f) h
+opened_missing (loose_wrapper c) f h = mandatory_three (node_components true c.node) (node_components true (twin c.node)) (strict_nodes c.node f) h
+opened_missing (leaf l) f h = absurd cc
+opened_missing (list node) f h = absurd cc
+opened_missing (wrapper c) f h = absurd cc
+opened_missing (segment tag) f h = absurd cc
+opened_missing (foreign n) f h = absurd cc
+opened_missing (left_out x) f h = absurd cc

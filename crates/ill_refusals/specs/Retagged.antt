@@ -1,26 +1,23 @@
--- Where the module profile refuses what profile 2 accepts: at the first component of a Units-Per-Medium or a Will-Supply, the tag of which
--- is implicit in profile 2 and explicit in the module.
-use Rattle.std.specs.Prelude.{◌≡◌, ℕ, Bool, true, false, List, ◌∷◌, Some, IsTrue, slice_get}
+-- The elements of profile 2 whose tags the module profile has in another way: the first component of each Units-Per-Medium and of each
+-- Will-Supply, the tag of which is implicit in profile 2 and explicit in the module.
+use Rattle.std.specs.Prelude.{◌≡◌, ℕ, ◌≤◌, Bool, false, List, ◌∷◌, Some, IsTrue, slice_get}
 use Rattle.ber_tree.specs.Tree.{none}
-use Rattle.ber_leaf.specs.Profile.{profile_three}
-use Rattle.ill_tables.specs.declared.node.NodeId.{NodeId}
-use Rattle.ill_tables.specs.declared.node.NodeId.TheVariants.{ModuleUnitsPerMedium, ModuleWillSupply}
+use Rattle.ber_leaf.specs.Profile.{profile_two}
+use Rattle.ill_schema.specs.Lift.{is_retagged}
 use Rattle.ill_refusals.specs.Element.{Element, sequence, loose_wrapper}
 use Rattle.ill_refusals.specs.Place.{Open, IsDue}
 
--- the module's Units-Per-Medium and its Will-Supply
-abbrev pub is_strict : NodeId → Bool
-is_strict ModuleUnitsPerMedium = true
-is_strict ModuleWillSupply = true
-is_strict node = false
+-- the components of one of these types are in the element: in its SEQUENCE, or in the tag round them where that is bare
+abbrev pub holds_retagged : Element → Bool
+holds_retagged (sequence node) = is_retagged node
+holds_retagged (loose_wrapper c) = is_retagged c.node
+holds_retagged e = false
 
--- an element that holds the components of one of them: its SEQUENCE, or the tag round them where that is bare
-abbrev pub holds_strict : Element → Bool
-holds_strict (sequence node) = is_strict node
-holds_strict (loose_wrapper c) = is_strict c.node
-holds_strict e = false
-
--- at offset k, where one of them has just been opened, an element with tag [0] begins that is primitive
-abbrev pub IsFirstRetagged : List ℕ → ℕ → Type 0
-IsFirstRetagged s k = (o : Open) × (outer : List Open) × IsDue profile_three s k (o ∷ outer) × IsTrue (holds_strict o.element) × (o.trees ≡ none)
+-- at offset k, in profile 2, such an element has just opened, and the octet there is that of a primitive element with the tag [0]
+abbrev pub IsRetaggedAt : List ℕ → ℕ → Type 0
+IsRetaggedAt s k = (o : Open) × (outer : List Open) × IsDue profile_two s k (o ∷ outer) × IsTrue (holds_retagged o.element) × (o.trees ≡ none)
     × (slice_get s k ≡ Some 0x80)
+
+-- and at no offset before
+abbrev pub IsFirstRetagged : List ℕ → ℕ → Type 0
+IsFirstRetagged s k = IsRetaggedAt s k × ((l : ℕ) → IsRetaggedAt s l → k ≤ l)
