@@ -1,6 +1,6 @@
 -- The machine of the module profile follows that of profile 2, up to the first component of a type whose tags are explicit in the module
 -- alone.
-use Rattle.std.proofs.Common.{◌≡◌, ◌⊎◌, ℕ, zero, suc, ◌+◌, ◌-◌, ◌<◌, ◌≤◌, Bool, true, false, ◌&&◌, ◌||◌, List, [], ◌∷◌, ◌++◌, length, take, drop, Option, Some, None, IsTrue, refl, sym, ap, ap₂, subst, ◌∙◌, inl, inr, if◌then◌else◌, slice_get, append-nil, arith}
+use Rattle.std.proofs.Common.{◌≡◌, ◌⊎◌, ℕ, zero, suc, ◌+◌, ◌-◌, ◌≤◌, Bool, true, false, ◌&&◌, ◌||◌, List, [], ◌∷◌, ◌++◌, length, take, drop, Option, Some, None, IsTrue, refl, sym, ap, ap₂, subst, ◌∙◌, inl, inr, if◌then◌else◌, slice_get, append-nil, arith}
 use Rattle.std.specs.Prelude.{nat_eq, nat_lt, nat_le, unwrap_or}
 use Rattle.std.specs.List.{list_all}
 use Rattle.std.proofs.lemmas.List.{take-append-drop}
@@ -13,15 +13,12 @@ use Rattle.ber_leaf.specs.declared.fault.LeafFault.{LeafFault}
 use Rattle.ber_leaf.specs.Leaf.{Leaf, boolean, integer, enumerated, general_string, visible_string, printable_string, iso_date, iso_time, null_type, object_identifier, octet_string, bit_string, object_descriptor, content_fault}
 use Rattle.ber_leaf.specs.Profile.{Profile, profile_two, profile_three}
 use Rattle.ber_leaf.specs.Segments.{segments_content}
-use Rattle.ill_tables.specs.declared.node.NodeId.{NodeId}
-use Rattle.ill_tables.specs.declared.node.NodeId.TheVariants.{UnitsPerMedium, WillSupply}
 use Rattle.ill_tables.specs.declared.part.PartId.{PartId}
-use Rattle.ill_tables.specs.Table.{twin}
 use Rattle.ill_schema.specs.declared.refusal.Cause.{Cause}
-use Rattle.ill_schema.specs.Apdu.{Apdu, Encodes, SpellsApdu}
-use Rattle.ill_schema.specs.Lift.{is_plain_apdu, is_retagged}
+use Rattle.ill_schema.specs.Apdu.{Apdu, Encodes}
+use Rattle.ill_schema.specs.Lift.{is_plain_apdu}
 use Rattle.ill_schema.proofs.BothProfiles.{both_encode}
-use Rattle.ill_refusals.specs.Element.{Component, Element, leaf, sequence, list, wrapper, loose_wrapper, segment, foreign, left_out}
+use Rattle.ill_refusals.specs.Element.{Element, leaf, sequence, list, wrapper, loose_wrapper, segment, foreign, left_out}
 use Rattle.ill_refusals.specs.Next.{Next, Due, element_of, next_of, due, missing, opening, next_after, is_last, AreWhole}
 use Rattle.ill_refusals.specs.Fault.{Fault, fault, fault_at, ends_at, is_indefinite, past_end, cut_fault, element_fault, string_fault, is_deep}
 use Rattle.ill_refusals.specs.code.Judge.{Judgement, faulty, closes, opens, reads, or_faulty, judge_end, judge_content, judge_size, judge_length, judge_form, judge_tag, judge_element, judge_mark, judge_octets, judge}
@@ -33,7 +30,7 @@ use Rattle.ill_refusals.proofs.WholeElements.{IsProper}
 use Rattle.ill_refusals.proofs.OpenElements.{IsProperNext, due_proper}
 use Rattle.ill_refusals.proofs.PlaceRuns.{place_proper}
 use Rattle.ill_refusals.proofs.TreeRuns.{next-snoc}
-use Rattle.ill_refusals.proofs.Machine.{step, after}
+use Rattle.ill_refusals.proofs.Machine.{after}
 use Rattle.ill_refusals.proofs.DueSteps.{IsMessage, Placed, step_placed}
 use Rattle.ill_refusals.proofs.FirstFault.{has_fault}
 use Rattle.ill_refusals.proofs.Judgements.{Judged, judged}

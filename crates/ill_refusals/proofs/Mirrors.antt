@@ -1,10 +1,10 @@
 -- What is due in profile 2 is due in the module profile, under the twins of its nodes: but for what is left out, and for the first
 -- component of the types whose tags are explicit in the module alone.
-use Rattle.std.proofs.Common.{◌≡◌, ◌⊎◌, ℕ, zero, suc, ◌-◌, Bool, true, false, ◌&&◌, not, List, [], ◌∷◌, Option, Some, None, IsTrue, refl, sym, ap, ap₂, subst, ◌∙◌, inl, inr, map}
+use Rattle.std.proofs.Common.{◌≡◌, ◌⊎◌, zero, suc, ◌-◌, Bool, true, false, ◌&&◌, not, List, [], ◌∷◌, Option, Some, None, IsTrue, refl, sym, ap, ap₂, subst, ◌∙◌, inl, inr, map}
 use Rattle.ber_tree.specs.declared.class.Class.{Class}
 use Rattle.ber_tree.specs.Identifier.{Tag}
 use Rattle.ber_tree.proofs.Lists.{two_cases}
-use Rattle.ber_leaf.specs.Leaf.{Leaf, enumerated}
+use Rattle.ber_leaf.specs.Leaf.{enumerated}
 use Rattle.ber_leaf.specs.Profile.{profile_two, profile_three}
 use Rattle.ill_tables.specs.declared.node.Kind.{Kind}
 use Rattle.ill_tables.specs.declared.node.NodeId.{NodeId}
@@ -17,8 +17,8 @@ use Rattle.ill_schema.specs.Tagging.{Tagging, untagged, same_tag, sequence_tag}
 use Rattle.ill_schema.proofs.Lifted.{list_plain}
 use Rattle.ill_schema.proofs.Twins.{kinds_stay}
 use Rattle.ber_core.specs.Foreign.{foreign_levels}
-use Rattle.ill_refusals.specs.Element.{Component, node_components, inner, Element, leaf, sequence, list, wrapper, loose_wrapper, segment, foreign, left_out, Start, start, starts_by}
-use Rattle.ill_refusals.specs.Next.{Next, rows, items, either, segments, anything, foreigns, Due, part, octets, any, element_of, next_of, start_by, due_by, due, missing, first_mandatory, opening, is_last}
+use Rattle.ill_refusals.specs.Element.{Component, node_components, Element, leaf, sequence, list, wrapper, loose_wrapper, segment, foreign, left_out, Start, start, starts_by}
+use Rattle.ill_refusals.specs.Next.{Next, rows, items, either, segments, anything, foreigns, Due, part, octets, any, element_of, next_of, due_by, due, missing, first_mandatory, opening, is_last}
 use Rattle.ill_refusals.specs.Retagged.{holds_retagged}
 use Rattle.ill_refusals.proofs.Rows.{starting, due-found, due-skip, missing-skip, must_ends, must_stops, same_tag-is}
 use Rattle.ill_refusals.proofs.WholeElements.{IsProper}
