@@ -196,7 +196,7 @@ size_follows : (path : List Open) (e : Element) (tag : Tag) (form : Bool) (k h :
     → Follows path (judge_size profile_two path e tag form k h cut n w) (judge_size profile_three (mirror_path path) (mirror e) tag form k h cut3 n w)
 size_follows path e tag form k h cut cut3 n w ok g =
     subst (λ z. Follows path (judge_size profile_two path e tag form k h cut n w) (if nat_lt z (k + h + n) then faulty (fault (past_end (mirror_path path)) k)
-        else elim form as (λ _. Judgement) [ true ↦ opens tag (mirror e) h (Some (k + h + n)) | false ↦ judge_content profile_three (mirror e) tag k h cut3 n w ]))
+    else elim form as (λ _. Judgement) [ true ↦ opens tag (mirror e) h (Some (k + h + n)) | false ↦ judge_content profile_three (mirror e) tag k h cut3 n w ]))
     (sym (same_bound path)) (go (nat_lt (bound profile_two path) (k + h + n)) form)
   where
     go : (b f : Bool) → Follows path
@@ -283,7 +283,7 @@ tag_follows path tag form k i cut cut3 w h ok = go (due profile_two tag (next_in
     go : (x : Option Due) → due profile_two tag (next_in profile_two path) ≡ x
         → IsStrictTag path tag form k (judge_tag profile_three (mirror_path path) tag form k i cut3 w)
         ⊎ Follows path (elim x as (λ _. Judgement) [ None ↦ faulty (fault Cause.UnexpectedTag k) | Some d ↦ judge_form profile_two path (element_of d) tag form k i cut w ])
-            (judge_tag profile_three (mirror_path path) tag form k i cut3 w)
+        (judge_tag profile_three (mirror_path path) tag form k i cut3 w)
     go None e = inr tt
     go (Some d) e = elim (path_due path tag d h ok e) [
       | inl x ↦ elim x [

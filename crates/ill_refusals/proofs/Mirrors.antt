@@ -69,9 +69,6 @@ SameStarts c d = starts_by true d ≡ mirror_starts (starts_by true c) (starts_b
 
 -- ---- starts by a tag
 
-abbrev found_body : Start → Option Start → Bool → Option Start
-found_body s o b = elim b as (λ _. Option Start) [ true ↦ Some s | false ↦ o ]
-
 starting-yes : (t : Tag) (s : Start) (ss : List Start) → same_tag s.tag t ≡ true → starting t (s ∷ ss) ≡ Some s
 starting-yes t s ss h = rw h refl
 
@@ -128,17 +125,17 @@ beside_all [] ds = map optional ds
 beside_all (c ∷ cs) [] = c ∷ []
 beside_all (c ∷ cs) (d ∷ ds) = beside c.presence c d ∷ beside_all cs ds
 
-abbrev component_starts : Component → List Start
-component_starts c = starts_by true c
+abbrev loose_starts : Component → List Start
+loose_starts c = starts_by true c
 
 abbrev starts_beside : List Component → List Component → List (List Start)
-starts_beside [] ds = map component_starts ds
+starts_beside [] ds = map loose_starts ds
 starts_beside (c ∷ cs) [] = [] ∷ []
-starts_beside (c ∷ cs) (d ∷ ds) = mirror_starts (component_starts c) (component_starts d) ∷ starts_beside cs ds
+starts_beside (c ∷ cs) (d ∷ ds) = mirror_starts (loose_starts c) (loose_starts d) ∷ starts_beside cs ds
 
 pub record Beside (cs ds : List Component) : Type 0 where
   pub are : ds ≡ beside_all cs ds
-  pub begin : map component_starts ds ≡ starts_beside cs ds
+  pub begin : map loose_starts ds ≡ starts_beside cs ds
 
 abbrev has_rows : Kind → Bool
 has_rows Kind.Seq = true
@@ -160,7 +157,7 @@ all_are : (node : NodeId) → components_where (suits node) (node_components tru
 all_are Boolean = refl
 all_are _ = refl
 
-all_begin : (node : NodeId) → starts_where (suits node) (map component_starts (node_components true (twin node))) ≡ starts_where (suits node) (starts_beside (node_components true node) (node_components true (twin node)))
+all_begin : (node : NodeId) → starts_where (suits node) (map loose_starts (node_components true (twin node))) ≡ starts_where (suits node) (starts_beside (node_components true node) (node_components true (twin node)))
 all_begin Boolean = refl
 all_begin _ = refl
 
@@ -171,7 +168,7 @@ node_beside node h =
     let ds = node_components true (twin node) in
     record {
       are = subst (λ b. components_where b ds ≡ components_where b (beside_all cs ds)) h (all_are node);
-      begin = subst (λ b. starts_where b (map component_starts ds) ≡ starts_where b (starts_beside cs ds)) h (all_begin node);
+      begin = subst (λ b. starts_where b (map loose_starts ds) ≡ starts_where b (starts_beside cs ds)) h (all_begin node);
     }
 
 rest_beside : (c : Component) (cs : List Component) (d : Component) (ds : List Component) → Beside (c ∷ cs) (d ∷ ds) → Beside cs ds
@@ -213,7 +210,7 @@ rows_due t (c ∷ cs) [] d b h = absurd (let q = b.are in cc)
 rows_due t (c ∷ cs) (x ∷ ds) d b h =
     let first = first_beside c cs x ds b in
     let rest = rest_beside c cs x ds b in
-    elim (both_start t (component_starts c) (component_starts x) first.1) [
+    elim (both_start t (loose_starts c) (loose_starts x) first.1) [
       | inl s ↦
           let q : Some (part c s.0.element (rows cs)) ≡ Some d = sym (due-found profile_two t c cs s.0 s.2) ∙ h in
           let r : part c s.0.element (rows cs) ≡ d = cc in
@@ -248,7 +245,7 @@ items_body c o = elim o as (λ _. Option Due) [ Some s ↦ Some (part c s.elemen
 
 pub next_due : (t : Tag) (n m : Next) (d : Due) → IsProperNext profile_two n → Mirrored n m → due profile_two t n ≡ Some d → IsDueToo t m d
 next_due t (rows cs) m d ok k h = subst (λ z. IsDueToo t z d) (sym k.1) (rows_due t cs k.0 d k.2 h)
-next_due t (items c) m d ok k h = subst (λ z. IsDueToo t z d) (sym k.1) (elim (both_start t (component_starts c) (component_starts k.0) k.2) [
+next_due t (items c) m d ok k h = subst (λ z. IsDueToo t z d) (sym k.1) (elim (both_start t (loose_starts c) (loose_starts k.0) k.2) [
   | inl s ↦
       let q : Some (part c s.0.element (items c)) ≡ Some d = sym (ap (items_body c) s.2) ∙ h in
       let r : part c s.0.element (items c) ≡ d = cc in
@@ -287,7 +284,7 @@ mirrored_mandatory [] (x ∷ ds) b h =
     let e = b.are in
     let f : x ≡ optional x = cc in
     let g : ds ≡ map optional ds = cc in
-    let i : map component_starts ds ≡ starts_beside [] ds = refl in
+    let i : map loose_starts ds ≡ starts_beside [] ds = refl in
     missing-skip profile_three x ds x.presence refl (λ q. let r : Presence.May ≡ Presence.Must = sym (ap (λ (y : Component). y.presence) f) ∙ q in cc)
     ∙ mirrored_mandatory [] ds (record { are = g; begin = i }) refl
 mirrored_mandatory (c ∷ cs) [] b h = absurd (let q = b.are in cc)
@@ -326,7 +323,7 @@ IsRetaggedDue t n d = (t ≡ first_tag) × (element_of d ≡ leaf enumerated) ×
 
 abbrev StartStrict : List Component → List Component → Type 0
 StartStrict (c ∷ cs) (x ∷ ds) =
-    (c.presence ≡ Presence.Must) × (x.presence ≡ Presence.Must) × (component_starts c ≡ start first_tag (leaf enumerated) ∷ []) × ((i : Component) × (component_starts x ≡ start first_tag (wrapper i) ∷ []))
+    (c.presence ≡ Presence.Must) × (x.presence ≡ Presence.Must) × (loose_starts c ≡ start first_tag (leaf enumerated) ∷ []) × ((i : Component) × (loose_starts x ≡ start first_tag (wrapper i) ∷ []))
 StartStrict _ _ = ⊥
 
 strict_nodes : (node : NodeId) → IsTrue (is_retagged node) → StartStrict (node_components true node) (node_components true (twin node))
@@ -339,8 +336,8 @@ strict_due t [] ds d k h = absurd k
 strict_due t (c ∷ cs) [] d k h = absurd k
 strict_due t (c ∷ cs) (x ∷ ds) d k h = elim (two_cases (same_tag first_tag t)) [
   | inl e ↦
-      let s : starting t (component_starts c) ≡ Some (start first_tag (leaf enumerated)) = ap (starting t) k.2 ∙ starting-yes t (start first_tag (leaf enumerated)) [] e in
-      let u : starting t (component_starts x) ≡ Some (start first_tag (wrapper k.3.0)) = ap (starting t) k.3.1 ∙ starting-yes t (start first_tag (wrapper k.3.0)) [] e in
+      let s : starting t (loose_starts c) ≡ Some (start first_tag (leaf enumerated)) = ap (starting t) k.2 ∙ starting-yes t (start first_tag (leaf enumerated)) [] e in
+      let u : starting t (loose_starts x) ≡ Some (start first_tag (wrapper k.3.0)) = ap (starting t) k.3.1 ∙ starting-yes t (start first_tag (wrapper k.3.0)) [] e in
       let q : Some (part c (leaf enumerated) (rows cs)) ≡ Some d = sym (due-found profile_two t c cs (start first_tag (leaf enumerated)) s) ∙ h in
       let r : part c (leaf enumerated) (rows cs) ≡ d = cc in (
         sym (same_tag-is first_tag t e),
@@ -348,7 +345,7 @@ strict_due t (c ∷ cs) (x ∷ ds) d k h = elim (two_cases (same_tag first_tag t
         (part x (wrapper k.3.0) (rows ds), k.3.0, due-found profile_three t x ds (start first_tag (wrapper k.3.0)) u, refl),
       )
   | inr e ↦
-      let s : starting t (component_starts c) ≡ None = ap (starting t) k.2 ∙ starting-no t (start first_tag (leaf enumerated)) [] e in
+      let s : starting t (loose_starts c) ≡ None = ap (starting t) k.2 ∙ starting-no t (start first_tag (leaf enumerated)) [] e in
       absurd (must_stops profile_two t c cs d s h k.0)
 ]
 
@@ -357,7 +354,7 @@ strict_three : (cs ds : List Component) (d : Due) → StartStrict cs ds → due_
 strict_three [] ds d k h = absurd k
 strict_three (c ∷ cs) [] d k h = absurd k
 strict_three (c ∷ cs) (x ∷ ds) d k h =
-    let u : starting first_tag (component_starts x) ≡ Some (start first_tag (wrapper k.3.0)) = ap (starting first_tag) k.3.1 in
+    let u : starting first_tag (loose_starts x) ≡ Some (start first_tag (wrapper k.3.0)) = ap (starting first_tag) k.3.1 in
     let q : Some (part x (wrapper k.3.0) (rows ds)) ≡ Some d = sym (due-found profile_three first_tag x ds (start first_tag (wrapper k.3.0)) u) ∙ h in
     let r : part x (wrapper k.3.0) (rows ds) ≡ d = cc in
     (k.3.0, ap element_of (sym r))

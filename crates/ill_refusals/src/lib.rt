@@ -5,6 +5,6 @@
 mod laws;
 
 pub use laws::{
-    due_by_bare_tags, one_outcome, one_place, refusals_stay, the_module_refuses_other_tags, truncated_at_the_end,
-    values_are_small,
+    due_by_bare_tags, one_outcome, one_place, refusals_stay, the_module_refuses_other_tags,
+    truncated_at_the_end, values_are_small,
 };
