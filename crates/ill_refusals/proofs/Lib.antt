@@ -14,6 +14,9 @@ pub mod Continuations
 pub mod PlaceOrder
 pub mod Truncation
 pub mod Bounds
+pub mod SpelledOctets
+pub mod Mirrors
+pub mod MirrorRuns
 pub mod Refusals
 pub mod DueOfProfile
 pub mod CausesByProfile

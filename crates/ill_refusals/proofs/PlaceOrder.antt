@@ -16,7 +16,7 @@ use Rattle.ill_refusals.proofs.FirstFault.{is_judged}
 use Rattle.ill_refusals.proofs.OneOutcome.{begin, due_run}
 
 -- a later place: further on, or at the same offset with fewer elements open
-abbrev Later : List Open → ℕ → Step → Type 0
+abbrev pub Later : List Open → ℕ → Step → Type 0
 Later path k (goes outer l rest) = (k < l) ⊎ ((k ≡ l) × (length outer < length path))
 Later path k (refused f) = Unit {0}
 Later path k (whole T n) = Unit {0}
@@ -61,7 +61,7 @@ final_stays p (suc n) stuck h = final_stays p n stuck h
 final_stays p (suc n) (goes path k rest) h = absurd h
 
 -- one step or more lead to a later place
-steps_later : (p : Profile) (s : List ℕ) (n : ℕ) (path : List Open) (k : ℕ) (rest : List ℕ) → IsTrue (are_octets s) → Placed p s (goes path k rest) → Later path k (after p (suc n) (goes path k rest))
+pub steps_later : (p : Profile) (s : List ℕ) (n : ℕ) (path : List Open) (k : ℕ) (rest : List ℕ) → IsTrue (are_octets s) → Placed p s (goes path k rest) → Later path k (after p (suc n) (goes path k rest))
 steps_later p s zero path k rest ok h = moved_later p path k rest (judge p path k rest) (judged p path k rest (octets_right h.0 rest (subst (λ z. IsTrue (are_octets z)) h.1 ok)))
 steps_later p s (suc n) path k rest ok h =
     from (step p path k rest) (step_placed p s path k rest ok h) (moved_later p path k rest (judge p path k rest) (judged p path k rest (octets_right h.0 rest (subst (λ z. IsTrue (are_octets z)) h.1 ok))))

@@ -115,7 +115,7 @@ due-found p t c cs s h =
       | None ↦ elim c.presence as (λ _. Option Due) [ Presence.Must ↦ None | _ ↦ due_in p t cs ]
     ]) h
 
-missing-skip : (p : Profile) (c : Component) (cs : List Component) (pr : Presence) → c.presence ≡ pr → (pr ≡ Presence.Must → ⊥) → missing p (rows (c ∷ cs)) ≡ missing p (rows cs)
+pub missing-skip : (p : Profile) (c : Component) (cs : List Component) (pr : Presence) → c.presence ≡ pr → (pr ≡ Presence.Must → ⊥) → missing p (rows (c ∷ cs)) ≡ missing p (rows cs)
 missing-skip p c cs Presence.Must e n = absurd (n refl)
 missing-skip p c cs Presence.May e n = rw e refl
 missing-skip p c cs (Presence.Default d) e n = rw e refl
@@ -209,12 +209,12 @@ passed_entry p row rs es ts (Presence.Default d) e n m =
     let h : IsTrue (is_default row c) = subst (λ x. IsTrue (is_default_of x (kind_of row.node) c)) (sym e) (default_same (kind_of row.node) d) in
     (present c es, (subst IsCarried (sym e) tt, inr (h, m)))
 
-must_ends : (p : Profile) (c : Component) (cs : List Component) (pr : Presence) → c.presence ≡ pr → missing p (rows (c ∷ cs)) ≡ None → pr ≡ Presence.Must → ⊥
+pub must_ends : (p : Profile) (c : Component) (cs : List Component) (pr : Presence) → c.presence ≡ pr → missing p (rows (c ∷ cs)) ≡ None → pr ≡ Presence.Must → ⊥
 must_ends p c cs pr e h f =
     let g : missing p (rows (c ∷ cs)) ≡ Some c.part = rw (e ∙ f) refl in
     let q : None ≡ Some c.part = sym h ∙ g in cc
 
-must_stops : (p : Profile) (t : Tag) (c : Component) (cs : List Component) (d : Due) → start_of p t c ≡ None → due_in p t (c ∷ cs) ≡ Some d → c.presence ≡ Presence.Must → ⊥
+pub must_stops : (p : Profile) (t : Tag) (c : Component) (cs : List Component) (d : Due) → start_of p t c ≡ None → due_in p t (c ∷ cs) ≡ Some d → c.presence ≡ Presence.Must → ⊥
 must_stops p t c cs d h e f =
     let g : due_in p t (c ∷ cs) ≡ None =
     ap (λ o. elim o as (λ _. Option Due) [

@@ -5,3 +5,4 @@ pub mod Fault
 pub mod Outcome
 pub mod code
 pub mod Bounds
+pub mod Retagged

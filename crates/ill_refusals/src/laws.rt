@@ -1,5 +1,5 @@
 //! Laws of each input. Each is the contract of a function that does nothing.
-ghost use Rattle.std.specs.Prelude.{◌≡◌, ◌≢◌, ℕ, ◌≤◌, List};
+ghost use Rattle.std.specs.Prelude.{◌≡◌, ◌≢◌, ℕ, ◌≤◌, List, IsTrue};
 ghost use Rattle.ber_tree.specs.Identifier.{Tag};
 ghost use Rattle.ber_tree.specs.Tree.{Trees};
 ghost use Rattle.ber_leaf.specs.Profile.{Profile, profile_two, profile_three};
@@ -7,15 +7,18 @@ ghost use Rattle.ber_leaf.specs.Leaf.{null_type, object_identifier, bit_string};
 ghost use Rattle.ill_tables.specs.declared.node.NodeId.{NodeId};
 ghost use Rattle.ill_tables.specs.declared.part.Row.{Row};
 ghost use Rattle.ill_tables.specs.declared.profile.Profile.{Profile as Named};
-ghost use Rattle.ill_schema.specs.Causes.{cause_number};
 ghost use Rattle.ill_schema.specs.declared.refusal.Cause.{Cause};
+ghost use Rattle.ill_schema.specs.Apdu.{Apdu, SpellsApdu};
+ghost use Rattle.ill_schema.specs.Causes.{cause_number};
+ghost use Rattle.ill_schema.specs.Lift.{is_plain_apdu};
 ghost use Rattle.ill_schema.specs.Profiles.{profile_of};
 ghost use Rattle.ill_schema.specs.Tagging.{tagging};
 ghost use Rattle.ill_refusals.specs.Element.{Component, Element, components, starts};
 ghost use Rattle.ill_refusals.specs.Next.{Next, due, missing, opening, next_after};
 ghost use Rattle.ill_refusals.specs.Bounds.{ValuesAreSmall};
-ghost use Rattle.ill_refusals.specs.Outcome.{OutcomesAreExact, RefusalsStay, PrefixesAreTruncated, TruncatedIsAtTheEnd, PlacesAreApart, FaultsAreLast, FewAreOpen, ComponentsAreShallow, ForeignTreesFit, IsOfLeaf};
-ghost use Rattle.ill_refusals.specs.Fault.{Fault, Refuses};
+ghost use Rattle.ill_refusals.specs.Fault.{Fault, fault, Refuses};
+ghost use Rattle.ill_refusals.specs.Retagged.{IsFirstRetagged};
+ghost use Rattle.ill_refusals.specs.Outcome.{OnlyRefuses, OutcomesAreExact, RefusalsStay, PrefixesAreTruncated, TruncatedIsAtTheEnd, PlacesAreApart, FaultsAreLast, FewAreOpen, ComponentsAreShallow, ForeignTreesFit, IsOfLeaf};
 
 /// Each input is accepted as one APDU of one size, or refused with one fault.
 pub fn one_outcome()
@@ -82,4 +85,13 @@ pub fn due_by_bare_tags()
     ensures later { (p q : Profile) → p.bare ≡ q.bare
         → (n : Next) (ts : Trees) → next_after p n ts ≡ next_after q n ts }
     ensures named { (p : Named) → (profile_of p).bare ≡ profile_two.bare }
+{}
+
+/// Octets that spell an APDU of profile 2 with a Units-Per-Medium or a Will-Supply are refused in the module profile as WrongForm, where
+/// the first component of the first of them begins: its tag is implicit in profile 2, and explicit in the module.
+pub fn the_module_refuses_other_tags()
+    ensures { (a : Apdu) (octets : List ℕ) → SpellsApdu profile_two a octets
+        → (IsTrue (is_plain_apdu a) → ⊥)
+        → (k : ℕ) × IsFirstRetagged octets k
+        × OnlyRefuses profile_three octets (fault Cause.WrongForm k) }
 {}

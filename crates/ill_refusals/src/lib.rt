@@ -5,5 +5,6 @@
 mod laws;
 
 pub use laws::{
-    causes_of_profiles, due_by_bare_tags, few_elements_are_open, one_outcome, one_place, refusals_stay, truncated_at_the_end, values_are_small,
+    causes_of_profiles, due_by_bare_tags, few_elements_are_open, one_outcome, one_place,
+    refusals_stay, the_module_refuses_other_tags, truncated_at_the_end, values_are_small,
 };
