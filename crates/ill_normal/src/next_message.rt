@@ -51,7 +51,8 @@ impl TakeError {
 }
 
 /// Reads the next message, and makes the output for it, or says why it is refused; None at the end of the input. It takes the octets
-/// of one element, as its framing gives it, and records the first 1,048,576 of them; `recorded` forgets what it had before.
+/// of one element, as its framing gives it, and records the first 1,048,576 of them; `recorded` forgets what it had before. Where the
+/// element's end can't be known, it takes as many more as are needed to judge it: a message is Truncated only where the input ends.
 ///
 /// ```
 /// let next = take_message::<M, R, L>(alloc, &maker, &mut reader, position, &mut source, &mut recorded, buffer)?;
@@ -85,7 +86,13 @@ pub fn take_message<M: Render, R: Source, L: Lookahead<R>>(
     let mut buffer = buffer;
     'judged: loop {
         let mut octets = FromSlice::new(recorded.as_slice());
-        let refusal = match maker.next::<FromSlice<'_>, Buffered>(alloc, reader, position, &mut octets, buffer) {
+        let refusal = match maker.next::<FromSlice<'_>, Buffered>(
+            alloc,
+            reader,
+            position,
+            &mut octets,
+            buffer,
+        ) {
             Ok(Some(piece)) => return Ok(Some(NextMessage::Read(piece))),
             Ok(None) => return Ok(None),
             Err(ReadFailure::Refused(refusal)) => refusal,
@@ -168,8 +175,8 @@ fn take_framed<R: Source, L: Lookahead<R>>(
     Ok((framer, octets))
 }
 
-/// Takes one octet more where an element's end can't be known and its octets are refused as ending too early: a length that is too great
-/// is refused for that only when it is whole. Returns false where it takes none.
+/// Takes and records one octet more where an element's end can't be known, and its octets are refused as ending too early: so a length that
+/// is too great becomes whole. Returns false where it takes none.
 fn take_where_cut<R: Source>(
     source: &mut R,
     recorded: &mut Vec<u8>,

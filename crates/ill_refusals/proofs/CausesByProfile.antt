@@ -301,8 +301,8 @@ causes_are p s f (inr n) = subst (λ (x : Fault). IsCauseOf p.full x.cause) (sym
     long true = λ e. omega (arith, e)
 causes_are p s f (inl r) =
     subst (OkIn p (IsCauseOf p.full) (plain_cause p.full)) (is_judged p r.0 r.1 (drop r.1 s) f r.3)
-        (judge_ok p (IsCauseOf p.full) (plain_cause p.full) r.0 r.1 (drop r.1 s) (opened r.0 r.2.1)
-        (λ tag form w _ d e. element (length r.0) (element_of d) (due_of_profile p r.0 (take r.1 s) tag d r.2.1 e)))
+    (judge_ok p (IsCauseOf p.full) (plain_cause p.full) r.0 r.1 (drop r.1 s) (opened r.0 r.2.1)
+    (λ tag form w _ d e. element (length r.0) (element_of d) (due_of_profile p r.0 (take r.1 s) tag d r.2.1 e)))
   where
     element : (n : ℕ) (e : Element) → IsElementOf p.full p.bare n e → OkElement p (IsCauseOf p.full) (plain_cause p.full) e
     element n (leaf l) h = λ octets c e. of_content (λ x. IsCauseOf p.full (cause_of x)) p l octets c (leaf_causes p.full l h.0) e
@@ -398,8 +398,13 @@ no_long LeafFault.BadBits h = cc
 
 pub cause_of_leaf : (p : Profile) (x : LeafFault) (l : Leaf) → owner x ≡ Some l → IsOfLeaf p (cause_of x) l
 cause_of_leaf p x l own s f c (inr n) = absurd (no_long x (sym (ap (λ (y : Fault). y.cause) n.0) ∙ c))
-cause_of_leaf p x l own s f c (inl r) = (r.0, r.1, r.2, subst (OkIn p Ok plain) (is_judged p r.0 r.1 (drop r.1 s) f r.3) (judge_ok p Ok plain r.0 r.1 (drop r.1 s) (opened r.0 refl)
-    (λ tag form w i d e. element (element_of d) (λ q. inr (tag, form, w, d, i, e, q)))) c)
+cause_of_leaf p x l own s f c (inl r) = (
+  r.0,
+  r.1,
+  r.2,
+  subst (OkIn p Ok plain) (is_judged p r.0 r.1 (drop r.1 s) f r.3) (judge_ok p Ok plain r.0 r.1 (drop r.1 s) (opened r.0 refl)
+      (λ tag form w i d e. element (element_of d) (λ q. inr (tag, form, w, d, i, e, q)))) c,
+)
   where
     here : List ℕ
     here = take (bound p r.0 - r.1) (drop r.1 s)
