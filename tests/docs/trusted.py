@@ -256,6 +256,7 @@ COLUMNS = [
     ("N", "Normal forms of streams", [("ill_normal", name) for name in ("normalise", "normalise_stream", "check_one", "is_normal")]),
     ("T", "APDUs as structs", [("ill_apdu", None), *(("ill_parts", name) for name in ("Part::to_value", "Part::read", "Typed::from_value", "Typed::one_view"))]),
     ("M", "The module profile beside profile 2", [("ill_schema", "the_module_reads_profile_two"), ("ill_schema", "no_octets_change_their_meaning")]),
+    ("K", "Causes and depths in each profile", [("ill_refusals", name) for name in ("causes_of_profiles", "few_elements_are_open", "the_module_refuses_other_tags")]),
     ("J", "The program's jobs", [("ill_commands", "run_as"), ("ill_commands", "run_same_as")]),
     ("S", "Refused messages skipped, results as JSON", [
         ("ill_normal", "for_each_accepted_message"),

@@ -33,7 +33,8 @@ pub use element_reader::ElementReader;
 pub use failure::{Failure, ReadFailure};
 pub use ill_grammar::{LeafType, Mark, ModuleLeaf, Outline};
 pub use ill_refusals::{
-    one_outcome, one_place, refusals_stay, truncated_at_the_end, values_are_small,
+    causes_of_profiles, few_elements_are_open, one_outcome, one_place, refusals_stay,
+    the_module_refuses_other_tags, truncated_at_the_end, values_are_small,
 };
 pub use laws::decoders_are_apart;
 pub use normal::{
