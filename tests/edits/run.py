@@ -82,7 +82,8 @@ def command(crate, names):
     for folder in dict.fromkeys([of_kit / "rlibs", *(library(name).parent for name in reached)]):
         words += ["-L", f"dependency={folder}"]
     words += ["--antt-project", of_kit / "rattle/logic/antt-project.json", "--logic-built", of_kit / "logic_built"]
-    words += ["--links", f"{crate}=", "--jobs", "1"]
+    # With --margin the prover gives up sooner on what it can't prove; what no edit changes is proved all the same (--self-test).
+    words += ["--margin", "--links", f"{crate}=", "--jobs", "1"]
     for name in names:
         words += ["--only", name]
     return words
