@@ -83,7 +83,8 @@ def command(crate, names):
         words += ["-L", f"dependency={folder}"]
     words += ["--antt-project", of_kit / "rattle/logic/antt-project.json", "--logic-built", of_kit / "logic_built"]
     # With --margin the prover gives up sooner on what it can't prove; what no edit changes is proved all the same (--self-test).
-    words += ["--margin", "--links", f"{crate}=", "--jobs", "1"]
+    # In ill_c, that isn't so of `dump`.
+    words += [*["--margin"] * (crate != "ill_c"), "--links", f"{crate}=", "--jobs", "1"]
     for name in names:
         words += ["--only", name]
     return words
