@@ -32,7 +32,7 @@ build "the program" ./build_program.sh
 build "the libraries for C" calls_for_c
 run ./check.sh --scripts
 run memory/allocations.sh
-run edits/run.sh
+run edits/run.py --all
 run ../bindings/c/tests/run.sh
 has python3 || exit $status
 run python3 ../examples/make.py --check

@@ -1,7 +1,7 @@
 #!/bin/bash
-# `rt ci`, and then each script that takes less than a minute and starts no program but the shell's own, Python, git, `cc` and `xxd`. Shows what
-# each says, and goes on after a failure. The last line is 'N passed, M failed': the sum of what `rt ci` and the scripts count, with one for
-# each script that counts nothing. The status is 0 only if nothing failed. With --scripts `rt ci` is left out, and the program has to be built.
+# `rt ci`, the edits, which take minutes, and then each script that takes less than a minute and starts no program but the shell's own, Python, git,
+# `cc` and `xxd`. Shows what each says, and goes on after a failure. The last line is 'N passed, M failed': the sum of what `rt ci` and the scripts count, with one for
+# each script that counts nothing. The status is 0 only if nothing failed. With --scripts `rt ci` and the edits are left out, and the program has to be built.
 cd "$(dirname "$0")/.." || exit 2
 passed=0
 failed=0
@@ -39,7 +39,10 @@ on_program() {
 }
 
 case $# in
-    0) check rt ci ;;
+    0)
+        check rt ci
+        check python3 tests/edits/run.py
+        ;;
     *) [ "$*" = --scripts ] || { echo "check.sh: unknown word: $*" && exit 2; } ;;
 esac
 for script in program descriptors faults; do

@@ -4,7 +4,7 @@
 Usage: proved.py CRATE           the public calls of a crate
        proved.py CRATE CALL..    the same with each clause in full; CALL is `normalise` or `Decoder::feed`
        proved.py --laws [CRATE]  the laws, with what each says
-       proved.py --wrong         the wrong bodies: the edits that `rt ci` and tests/edits/run.sh try, and what laws and clauses exclude (wrong_bodies.txt)
+       proved.py --wrong         the wrong bodies: the edits that `rt ci` and tests/edits/run.py try, and what laws and clauses exclude (wrong_bodies.txt)
        proved.py --check         fails where a document names a call, a clause, a law or an edit that isn't there
 """
 import re
@@ -113,7 +113,7 @@ def print_laws(only):
 
 
 def edits():
-    """The edits with their crates: those that `rt ci` tries, and those that tests/edits/run.sh tries."""
+    """The edits with their crates: those that `rt ci` tries, and those that tests/edits/run.py tries."""
     found = [(path.parts[-3], path) for path in CRATES.glob("*/must-fail/*.edit")]
     found += [(path.parts[-2], path) for path in (TOP / "tests/edits").glob("*/*.edit")]
     for crate, path in sorted(found):
