@@ -1,7 +1,8 @@
 #!/bin/bash
-# `rt ci`, the edits, which take minutes, and then each script that takes less than a minute and starts no program but the shell's own, Python, git,
-# `cc` and `xxd`. Shows what each says, and goes on after a failure. The last line is 'N passed, M failed': the sum of what `rt ci` and the scripts count, with one for
-# each script that counts nothing. The status is 0 only if nothing failed. With --scripts `rt ci` and the edits are left out, and the program has to be built.
+# `rt ci`, the edits, which take minutes, and then each script that takes less than a minute and starts no program but the shell's own, Python,
+# git, `cc` and `xxd`. Shows what each says, and goes on after a failure. The last line is 'N passed, M failed': the sum of what they count, with
+# one for each script that counts nothing. The status is 0 only if nothing failed. With --scripts `rt ci` and the edits are left out, and the
+# program has to be built.
 cd "$(dirname "$0")/.." || exit 2
 passed=0
 failed=0
@@ -9,10 +10,10 @@ wrong=
 log=$(mktemp) || exit 2
 trap 'rm -f "$log"' EXIT
 
-# check COMMAND..: runs it, and counts. One that has no end in ten minutes fails, but for `rt ci`.
+# check COMMAND..: runs it, and counts. One that has no end in ten minutes fails, but for `rt ci` and the edits.
 check() {
     local limit='timeout -k 10 600' status counts good bad
-    [ "$1" = rt ] && limit=
+    case "$*" in rt* | *edits*) limit= ;; esac
     echo "== $*"
     $limit "$@" 2>&1 </dev/null | tee "$log"
     status=${PIPESTATUS[0]}

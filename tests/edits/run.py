@@ -16,6 +16,7 @@ import shutil
 import subprocess
 import sys
 import tempfile
+from concurrent.futures import ThreadPoolExecutor
 from pathlib import Path
 
 HERE = Path(__file__).resolve().parent
@@ -153,7 +154,7 @@ def first_ones(edits):
 
 
 def attempt(crate, edits, changed):
-    """Tries the edits of a crate in as few runs as they allow; says whether each is refused."""
+    """Tries the edits of a crate in as few runs as they allow; of each whether it is refused, and a line that says so."""
     while edits:
         run = first_ones(edits)
         said = check(crate, run, changed)
@@ -164,8 +165,7 @@ def attempt(crate, edits, changed):
                 continue
             tried.append(edit)
             refused = verdict.startswith(("not proved", "no proof")) and "it calls `" not in verdict
-            print(f"{edit.name}: refused by {edit.function}" if refused else f"{edit.name}: NOT refused: {edit.function}: {verdict}", flush=True)
-            yield refused
+            yield refused, f"{edit.name}: refused by {edit.function}" if refused else f"{edit.name}: NOT refused: {edit.function}: {verdict}"
         if not tried:
             raise Bad(f"{crate}: each of these calls another of them: {', '.join(edit.name for edit in run)}")
         edits = [edit for edit in edits if edit not in tried]
@@ -176,22 +176,27 @@ def main():
     changed = "--self-test" not in words
     every = "--all" in words
     names = [word for word in words if not word.startswith("--")] or sorted(path.name for path in HERE.iterdir() if path.is_dir())
-    passed = failed = 0
-    for crate in names:
+    if not {"--all", "--self-test", *names}.issuperset(words) or not set(names).issubset(UNTOUCHED):
+        sys.exit(__doc__)
+
+    def count(crate):
+        """How many edits of the crate are as they should be, and how many aren't."""
         paths = sorted((HERE / crate).glob("*.edit"))
-        if crate not in UNTOUCHED or not paths or not {"--all", "--self-test", *names}.issuperset(words):
-            sys.exit(__doc__)
-        done = 0
         edits = []
+        right = 0
         try:
             edits = [edit for edit in map(Edit, paths) if every or not edit.is_slow]
-            for refused in attempt(crate, edits, changed):
-                done += 1
-                passed += refused == changed
-                failed += refused != changed
+            for refused, line in attempt(crate, edits, changed):
+                print(line, flush=True)
+                right += refused == changed
         except Bad as bad:
             print(f"NOT tried: {bad}", flush=True)
-            failed += len(edits or paths) - done
+        return right, len(edits or paths) - right
+
+    # Four crates at once: the prover takes one core for each.
+    with ThreadPoolExecutor(4) as pool:
+        counts = list(pool.map(count, names))
+    passed, failed = (sum(column) for column in zip(*counts))
     print(f"{passed} passed, {failed} failed")
     sys.exit(1 if failed else 0)
 
