@@ -11,7 +11,7 @@ use ber_core::{Broken, BufferedSource, FromBuffer, FromRead, Source};
 use ill_inputs::{RunFault, read_at_most};
 use std::alloc::Global;
 use std::fs::{self, OpenFile};
-use std::io::{Printer, Read, Write};
+use std::io::{Printer, Read, Take, Write};
 use std::rt::Files;
 
 /// A source that was opened: standard input or a file.
@@ -71,7 +71,7 @@ pub type Shared<'o, I, J, S, F> = Opened<
 pub type InputSource<'o, 'r, R> = Shared<
     'o,
     ProgressReader<'o, R, Box<<R as Input>::Reader>>,
-    ProgressReader<'o, R, <R as Files>::File>,
+    ProgressReader<'o, R, Take<<R as Files>::File>>,
     Printer<'r, R>,
     <R as Files>::File,
 >;
@@ -171,22 +171,20 @@ pub fn open_and_identify<'o, 'r: 'o, R: Print + Eprint + Input + Files + AllocGl
                 rt,
                 inner,
                 progress,
-                left: None,
             },
             output,
         )?;
         return Ok((Opened::Standard(source), file));
     }
     let inner = open_file(rt, name)?;
-    let left = most_octets_of(rt, &inner);
+    let most = most_octets_of(rt, &inner);
     let file = FileId::of(inner.metadata());
     let source = buffered(
         alloc,
         ProgressReader {
             rt,
-            inner,
+            inner: inner.take(most),
             progress,
-            left,
         },
         output,
     )?;
@@ -194,13 +192,11 @@ pub fn open_and_identify<'o, 'r: 'o, R: Print + Eprint + Input + Files + AllocGl
 }
 
 /// The greatest number of octets that are read of a file: those that it has now, if it is a regular file and the system doesn't say which file
-/// standard output is. That may be the same file, which would have no end.
-fn most_octets_of<R: Files, F: OpenFile>(rt: &R, file: &F) -> Option<usize> {
+/// standard output is. That may be the same file, which would have no end. Else 18,446,744,073,709,551,615.
+fn most_octets_of<R: Files, F: OpenFile>(rt: &R, file: &F) -> u64 {
     match file.metadata() {
-        Ok(found) if found.is_file() && !FileId::knows_standard_output(rt) => {
-            usize::try_from(found.len()).ok()
-        }
-        _ => None,
+        Ok(found) if found.is_file() && !FileId::knows_standard_output(rt) => found.len(),
+        _ => u64::MAX,
     }
 }
 

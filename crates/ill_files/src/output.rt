@@ -219,6 +219,8 @@ pub struct FlushBeforeRead<'o, I, S: Write + Drop, F: Write + Drop> {
 }
 
 impl<I: Read, S: Write + Drop, F: Write + Drop> Read for FlushBeforeRead<'_, I, S, F> {
+    ghost remaining = { λ reader. I.remaining reader.inner };
+
     fn read(&mut self, buf: &mut [u8]) -> io::Result<usize> {
         // Where it can't be written, the next octet that is put breaks the sink.
         let _ = self.output.flush();

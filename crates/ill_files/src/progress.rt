@@ -219,21 +219,14 @@ pub struct ProgressReader<'o, R, I> {
     pub rt: &'o R,
     pub inner: I,
     pub progress: &'o ProgressLine,
-    /// The greatest number of octets that are still read, if there is one.
-    pub left: Option<usize>,
 }
 
 impl<R: Eprint + Host, I: Read> Read for ProgressReader<'_, R, I> {
+    ghost remaining = { λ reader. I.remaining reader.inner };
+
     fn read(&mut self, buf: &mut [u8]) -> io::Result<usize> {
         self.progress.show(self.rt);
-        let most = self.left.unwrap_or(usize::MAX).min(buf.len());
-        if most == 0 {
-            return Ok(0);
-        }
-        let count = self.inner.read(&mut buf[..most])?;
-        if let Some(left) = self.left {
-            self.left = Some(left.saturating_sub(count));
-        }
+        let count = self.inner.read(buf)?;
         self.progress.add_octets(count);
         Ok(count)
     }
