@@ -9,7 +9,7 @@ isn't. `rt ci` would prove the crates a second time for the edits. This checks o
 in a copy of it, with a function that no edit changes and that has to be proved. It reads the libraries below in crates/*/out/rlib, which
 `rt ci` leaves there. The last line is 'N passed, M failed'.
 
---all tries those too that have a line 'slow:', which take a minute or more each.
+--all tries those too that have a line 'slow:', which says why the gate leaves them out.
 --self-test leaves out the changes: then each function has to be proved, and each edit is reported as not refused."""
 import re
 import shutil
@@ -193,8 +193,8 @@ def main():
             print(f"NOT tried: {bad}", flush=True)
         return right, len(edits or paths) - right
 
-    # Four crates at once: the prover takes one core for each.
-    with ThreadPoolExecutor(4) as pool:
+    # Two crates at once: with more, each takes more processor time.
+    with ThreadPoolExecutor(2) as pool:
         counts = list(pool.map(count, names))
     passed, failed = (sum(column) for column in zip(*counts))
     print(f"{passed} passed, {failed} failed")
