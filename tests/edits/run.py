@@ -182,7 +182,7 @@ def main():
     def count(crate):
         """How many edits of the crate are as they should be, and how many aren't."""
         paths = sorted((HERE / crate).glob("*.edit"))
-        edits = []
+        edits = None
         right = 0
         try:
             edits = [edit for edit in map(Edit, paths) if every or not edit.is_slow]
@@ -191,7 +191,7 @@ def main():
                 right += refused == changed
         except Bad as bad:
             print(f"NOT tried: {bad}", flush=True)
-        return right, len(edits or paths) - right
+        return right, len(paths if edits is None else edits) - right
 
     # Two crates at once: with more, each takes more processor time.
     with ThreadPoolExecutor(2) as pool:
