@@ -17,7 +17,7 @@ ROOT = Path(__file__).resolve().parents[2]
 HELP, TOPICS, COMMANDS = (f"crates/ill_args/src/{name}.rt" for name in ("help", "topics", "commands"))
 MAN, GUIDE, DEFINITIONS, PERFORMANCE, SECURITY = "man/illcanon.1", "docs/GUIDE.md", "docs/DEFINITIONS.md", "docs/PERFORMANCE.md", "SECURITY.md"
 HEADER, RESULTS, REFUSAL, WALK = "bindings/c/illcanon.h", "docs/results.schema.json", "crates/ill_schema/src/refusal.rt", "crates/ill_walk/src/refusal.rt"
-WORDS = {"two": 2, "three": 3, "four": 4, "five": 5, "six": 6, "seven": 7, "eight": 8, "nine": 9, "ten": 10}
+WORDS = {"two": 2, "three": 3, "four": 4, "five": 5, "six": 6, "seven": 7, "eight": 8, "nine": 9, "ten": 10, "eleven": 11, "twelve": 12}
 
 # Each limit: the file and the pattern of its constant. A second place has to have the same number.
 LIMITS = {
@@ -219,6 +219,37 @@ def check_gate(documents):
     for what, count in said.items():
         if count != 1:
             fault("README.md", f"says the {what} of the gate {count} times, and not once")
+
+
+def check_said(path, pattern, wanted):
+    """A document says these numbers, once."""
+    found = re.findall(pattern, " ".join(read(path).split()))
+    if [[value(text) for text in ([one] if isinstance(one, str) else one)] for one in found] != [wanted]:
+        fault(path, f"has to say {wanted} once, where it says {found}: {pattern}")
+
+
+def check_edits_and_laws():
+    """DECISIONS counts the edits of the gate, PROVED has the numbers of the laws on refusals, and README says that the gate tries edits."""
+    in_gate = [path for path in (ROOT / "tests/edits").glob("*/*.edit") if not re.search(r"^slow: ", path.read_text(encoding="utf-8"), re.M)]
+    check_said("docs/DECISIONS.md", r"so it tries (\w+); `tests/edits/run.py` proves one function for each of (\w+)\.", [len(list(ROOT.glob("crates/*/must-fail/*.edit"))), len(in_gate)])
+    laws, outcome = "crates/ill_refusals/src/laws.rt", "crates/ill_refusals/specs/Outcome.antt"
+    law = {
+        "causes": (laws, r"Refuses profile_two s f → cause_number f\.cause ≤ (\d+)", 0),
+        "open": (outcome, r"^FewAreOpen p = .* length path ≤ (\d+)$", 0),
+        "deep": (outcome, r"^ComponentsAreShallow p = [^=]* length path ≤ (\d+)$", 1),
+    }
+    numbers = {}
+    for name, (path, pattern, more) in law.items():
+        found = re.search(pattern, read(path), re.M)
+        if not found:
+            fault(path, f"no law has this form: {pattern}")
+            return
+        numbers[name] = int(found[1]) + more
+    check_said("docs/PROVED.md", r"Profile 2 has the causes 1 to (\w+),", [numbers["causes"]])
+    check_said("docs/PROVED.md", r"At most (\w+) elements are open, those of the tables' types at most (\w+) deep", [numbers["open"], numbers["deep"]])
+    said = re.search(r"`make check` is the test command\. It runs `rt ci`, [^.]*, tries edits, and runs the scripts", " ".join(read("README.md").split()))
+    if bool(said) != ("tests/edits/run.py" in read("tests/check.sh")):
+        fault("README.md", "says of `make check` that it tries edits where it doesn't, or not where it does")
 
 
 def constants(path):
@@ -450,6 +481,7 @@ def check(documents, program):
     known = check_limits(documents)
     check_counts()
     check_gate(documents)
+    check_edits_and_laws()
     check_statuses()
     check_examples()
     check_wiring()
