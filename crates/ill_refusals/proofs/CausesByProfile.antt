@@ -402,6 +402,7 @@ cause_of_leaf p x l own s f c (inl r) = (
   r.0,
   r.1,
   r.2,
+  r.3,
   subst (OkIn p Ok plain) (is_judged p r.0 r.1 (drop r.1 s) f r.3) (judge_ok p Ok plain r.0 r.1 (drop r.1 s) (opened r.0 refl)
       (λ tag form w i d e. element (element_of d) (λ q. inr (tag, form, w, d, i, e, q)))) c,
 )

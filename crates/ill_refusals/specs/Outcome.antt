@@ -55,10 +55,10 @@ HasLeaf p path here l =
     ((o : Open) × (outer : List Open) × (path ≡ o ∷ outer) × (o.element ≡ leaf l))
     ⊎ ((tag : Tag) × (form : Bool) × (w : List ℕ) × (d : Due) × (read_identifier here ≡ identified tag form w) × (due p tag (next_in p path) ≡ Some d) × (element_of d ≡ leaf l))
 
--- the cause is only of faults of this leaf
+-- the cause is only of faults of this leaf: at the place that has the fault
 abbrev pub IsOfLeaf : Profile → Cause → Leaf → Type 0
 IsOfLeaf p c l = (s : List ℕ) (f : Fault) → f.cause ≡ c → Refuses p s f
-    → (path : List Open) × (k : ℕ) × IsDue p s k path × HasLeaf p path (take (bound p path - k) (drop k s)) l
+    → (path : List Open) × (k : ℕ) × IsDue p s k path × (fault_at p path k (drop k s) ≡ Some f) × HasLeaf p path (take (bound p path - k) (drop k s)) l
 
 -- at each place at most 32 elements are open
 abbrev pub FewAreOpen : Profile → Type 0
