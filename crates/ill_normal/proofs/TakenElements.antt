@@ -284,6 +284,10 @@ module _ (left left' left'' : Option (List ℕ)) (recorded recorded' : List ℕ)
     keeps = k ∙ ap (λ z. z ++ take (1_048_576 - length z) x) t.keeps ∙ recorded_more 1_048_576 (t.octets ++ t.more) x ∙ ap (λ z. take 1_048_576 z) (append_assoc t.octets t.more x);
   }
 
+  -- the input ends there
+  pub unframed_end : recorded' ≡ recorded → Consumes left' left'' [] → TakesUnframed left left'' recorded'
+  unframed_end same c = unframed_more [] c (same ∙ sym (append-nil recorded) ∙ ap (λ z. recorded ++ z) (sym (take_all (1_048_576 - length recorded) [] (omega arith))))
+
 -- no message is at the front of octets with which no element begins
 pub none_begins : (octets more : List ℕ) → IsUnframed octets → ((n : ℕ) → n < length octets → IsPartOfFrame (take n octets)) → (m rest : List ℕ) → IsFrame m → octets ++ more ≡ m ++ rest → ⊥
 none_begins octets more unframed within m rest frame e = elim (cases_lt (length m) (length octets)) [
@@ -358,7 +362,6 @@ refused_last left left' left'' recorded recorded' size {T = T} q is text is_good
           (refused_took left left' recorded size q is text is_good frame t refusal end e (λ f c. absurd (n.1 f c)) h)
       | inr n ↦
           let unframed : TakesUnframed left left' recorded = subst (λ f. Took left left' recorded size f) n.0 t in
-          let none : recorded ≡ recorded ++ take (1_048_576 - length recorded) [] = sym (append-nil recorded) ∙ ap (λ z. recorded ++ z) (sym (take_all (1_048_576 - length recorded) [] (omega arith))) in
           refused_took left left'' recorded size q is text is_good frame
-          (subst (λ f. Took left left'' recorded size f) (sym n.0) (unframed_more left left' left'' recorded recorded unframed [] n.1 none)) refusal end e (λ _ _. n.2) h
+          (subst (λ f. Took left left'' recorded size f) (sym n.0) (unframed_end left left' left'' recorded recorded unframed refl n.1)) refusal end e (λ _ _. n.2) h
     ])

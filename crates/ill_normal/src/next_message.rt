@@ -1,12 +1,12 @@
 //! The next message of an input: its octets, up to where they end by their framing, and the output for it.
-ghost use Rattle.std.specs.Prelude.{◌≡◌, ℕ, ◌-◌, ◌<◌, ◌≤◌, List, [], ◌++◌, length, take, IfOk, IfErr, OnOk, IsTrue, MatchOption};
+ghost use Rattle.std.specs.Prelude.{◌≡◌, ℕ, ◌-◌, ◌<◌, ◌≤◌, List, [], ◌++◌, length, take, Option, IfOk, IfErr, OnOk, IsTrue, MatchOption};
 ghost use Rattle.std.specs.Io.KnownBytes.{Consumes, IsAtEnd, Keeps};
 ghost use Rattle.ber_framing.specs.Framed.{IsPartOfFrame};
 ghost use Rattle.ill_schema.specs.Profiles.{profile_of};
 ghost use Rattle.ber_framing.specs.Framer.{IsFed, HasFraming};
 ghost use Rattle.ber_framing.specs.declared.framer.Framing.{Framing};
 ghost use Rattle.ill_normal.specs.Next.{IsNext, TakesPart};
-ghost use Rattle.ill_normal.specs.code.Taking.{end_of, Takes, TakesElement, TakesWhereCut, Took};
+ghost use Rattle.ill_normal.specs.code.Taking.{end_of, Takes, TakesElement, TakesOctet, TakesUnframed, TakesWhereCut, Took};
 
 use crate::messages::{MessagePlace, Render, Rendered, RenderedMessage};
 use crate::skipping::SkippingErrorKind;
@@ -52,7 +52,7 @@ impl TakeError {
 
 /// Reads the next message, and makes the output for it, or says why it is refused; None at the end of the input. It takes the octets
 /// of one element, as its framing gives it, and records the first 1,048,576 of them; `recorded` forgets what it had before. Where the
-/// element's end can't be known, it takes as many more as are needed to judge it: a message is Truncated only where the input ends.
+/// element's end can't be known, it takes a length that is too great as a whole: a message is Truncated only where the input ends.
 ///
 /// ```
 /// let next = take_message::<M, R, L>(alloc, &maker, &mut reader, position, &mut source, &mut recorded, buffer)?;
@@ -128,7 +128,7 @@ fn end_of(taken: TakenElement) -> Option<u64>
 }
 
 /// Takes the octets of the next element, up to where it ends, where its end can't be known or where the input ends, and records the first
-/// 1,048,576 of them.
+/// 1,048,576 of them. Of a length that is too great it takes the rest.
 fn take_element<R: Source, L: Lookahead<R>>(
     source: &mut R,
     recorded: &mut Vec<u8>,
@@ -139,12 +139,56 @@ fn take_element<R: Source, L: Lookahead<R>>(
         × TakesPart (R.left source.old) (R.left source.new)) }
     ensures stays { IsTrue (R.is_broken source.old) → IsTrue (R.is_broken source.new) }
 {
-    match take_framed::<R, L>(source, recorded) {
-        Ok((framer, octets)) => Ok(TakenElement {
-            framing: framer.framing(),
-            octets,
-        }),
-        Err(unread) => Err(unread),
+    let (framer, octets) = match take_framed::<R, L>(source, recorded) {
+        Ok(taken) => taken,
+        Err(unread) => return Err(unread),
+    };
+    let framing = framer.framing();
+    if let Framing::Unframed = framing {
+        match take_rest(source, recorded, framer.oversized_length_rest()) {
+            Ok(()) => {}
+            Err(unread) => return Err(unread),
+        }
+    }
+    Ok(TakenElement { framing, octets })
+}
+
+/// Takes `count` octets more of an element whose end can't be known, or fewer where the input ends, and records them.
+fn take_rest<R: Source>(source: &mut R, recorded: &mut Vec<u8>, count: u8) -> Result<(), TakeError>
+    ensures rest { OnOk result ((from : Option (List ℕ))
+        → TakesUnframed from (R.left source.old) recorded.old.items
+        → TakesUnframed from (R.left source.new) recorded.new.items) }
+    ensures broken { IfErr result (λ e. e ≡ TakeError.Broken → IsTrue (R.is_broken source.new)
+        × ((from : Option (List ℕ)) → TakesUnframed from (R.left source.old) recorded.old.items
+        → TakesPart from (R.left source.new))) }
+    ensures stays { IsTrue (R.is_broken source.old) → IsTrue (R.is_broken source.new) }
+{
+    'rest: for _ in 0..count {
+        match take_octet(source, recorded) {
+            Ok(true) => {}
+            Ok(false) => return Ok(()),
+            Err(unread) => return Err(unread),
+        }
+    }
+    Ok(())
+}
+
+/// Takes and records one octet, and returns false where the input ends.
+fn take_octet<R: Source>(source: &mut R, recorded: &mut Vec<u8>) -> Result<bool, TakeError>
+    ensures takes { IfOk result (TakesOctet (R.left source.old) (R.left source.new)
+        recorded.old.items recorded.new.items) }
+    ensures broken { IfErr result (λ e. e ≡ TakeError.Broken → IsTrue (R.is_broken source.new)
+        × Keeps (R.left source.old) (R.left source.new) × (recorded.new ≡ recorded.old)) }
+    ensures stays { IsTrue (R.is_broken source.old) → IsTrue (R.is_broken source.new) }
+{
+    let mut octet = [0];
+    match source.take(&mut octet) {
+        Ok(0) => Ok(false),
+        Ok(_) => match record_octets(recorded, &octet) {
+            Ok(()) => Ok(true),
+            Err(AllocError) => Err(TakeError::OutOfMemory),
+        },
+        Err(_) => Err(TakeError::Broken),
     }
 }
 
@@ -175,8 +219,8 @@ fn take_framed<R: Source, L: Lookahead<R>>(
     Ok((framer, octets))
 }
 
-/// Takes and records one octet more where an element's end can't be known, and its octets are refused as ending too early: so a length that
-/// is too great becomes whole. Returns false where it takes none.
+/// Takes and records one octet more where an element's end can't be known, and its octets are refused as ending too early. Returns false
+/// where it takes none.
 fn take_where_cut<R: Source>(
     source: &mut R,
     recorded: &mut Vec<u8>,
@@ -192,15 +236,7 @@ fn take_where_cut<R: Source>(
     let (Framing::Unframed, Cause::Truncated) = (framing, cause) else {
         return Ok(false);
     };
-    let mut octet = [0];
-    match source.take(&mut octet) {
-        Ok(0) => Ok(false),
-        Ok(_) => match record_octets(recorded, &octet) {
-            Ok(()) => Ok(true),
-            Err(AllocError) => Err(TakeError::OutOfMemory),
-        },
-        Err(_) => Err(TakeError::Broken),
-    }
+    take_octet(source, recorded)
 }
 
 /// Takes some octets of an element, feeds a framer with them, and returns how many they are; 0 where the element or the input ends, or

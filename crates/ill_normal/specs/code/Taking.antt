@@ -54,11 +54,17 @@ Took left left' recorded size frame.Unframed = TakesUnframed left left' recorded
 Took left left' recorded size frame.Whole = TakesElement left left' recorded size frame.Whole
 Took left left' recorded size frame.Part = TakesElement left left' recorded size frame.Part
 
+-- an octet was taken and recorded; or the input ends
+abbrev pub TakesOctet : Option (List ℕ) → Option (List ℕ) → List ℕ → List ℕ → Bool → Type 0
+TakesOctet left left' recorded recorded' true =
+    (octet : ℕ) × Consumes left left' (octet ∷ []) × (recorded' ≡ recorded ++ take (1_048_576 - length recorded) (octet ∷ []))
+TakesOctet left left' recorded recorded' false = (recorded' ≡ recorded) × Consumes left left' [] × IsAtEnd left'
+
 -- an octet more was taken and recorded, since an element's end can't be known and its octets are refused as ending too early; or none was, since
 -- they aren't, or since the input ends there
 abbrev pub TakesWhereCut : Option (List ℕ) → Option (List ℕ) → List ℕ → List ℕ → Framing → Cause → Bool → Type 0
 TakesWhereCut left left' recorded recorded' framing cause true =
-    (framing ≡ frame.Unframed) × (cause ≡ Cause.Truncated) × ((octet : ℕ) × Consumes left left' (octet ∷ []) × (recorded' ≡ recorded ++ take (1_048_576 - length recorded) (octet ∷ [])))
+    (framing ≡ frame.Unframed) × (cause ≡ Cause.Truncated) × TakesOctet left left' recorded recorded' true
 TakesWhereCut left left' recorded recorded' framing cause false =
     (recorded' ≡ recorded) × (((left' ≡ left) × (framing ≡ frame.Unframed → cause ≡ Cause.Truncated → ⊥)) ⊎ ((framing ≡ frame.Unframed) × Consumes left left' [] × IsAtEnd left'))
 

@@ -164,6 +164,24 @@ fn hexadecimal_text_is_dumped(rt: HostRuntime) -> Result<(), Fail> {
     Ok(())
 }
 
+/// An INTEGER that isn't due, with a length of 33 octets that is too great, and then other octets.
+const GREAT_LENGTH: &str =
+    "7480308002a10a0102030405060708090a0b0c0d0e0f101112131415161718191a1b1c1d1e1f207400";
+
+const GREAT_LENGTH_LINE: &str =
+    "      4      02 a1 0a 01 02 03 04 05 06 07 08 09 0a 0b 0c 0d 0e 0f 10 11 12 13 14 15 16 17 18 19 1a 1b 1c 1d 1e 1f 20  [UNIVERSAL 2] = \"\"  (cut short, not judged)
+";
+
+#[test]
+fn a_length_that_is_too_great_is_listed_whole(rt: HostRuntime) -> Result<(), Fail> {
+    let octets = octets_of(rt.alloc(), GREAT_LENGTH)?;
+    let found = dump_of(rt.alloc(), PLAIN, &octets)?;
+    assert!(rt; found.text.ends_with(GREAT_LENGTH_LINE.as_bytes()));
+    let reports = [report(1, 0, 4, Cause::UnexpectedTag, None)];
+    assert!(rt; found.reports.as_slice() == reports.as_slice());
+    Ok(())
+}
+
 /// The dump of one message.
 fn one(alloc: Global, number: u32, octets: &[u8]) -> Result<Dumped, AllocError> {
     let only = Some(number);
