@@ -13,10 +13,10 @@ use crate::profile::profile_numbered;
 use crate::put::put;
 use crate::refusal::{IllcanonRefusal, report};
 use crate::status::Status;
-use crate::whole::{read_whole, read_whole_outline};
+use crate::whole::read_whole_outline;
 use ill_json::{LineHead, json_line_as};
-use ill_normal::{MessagePlace, NormalForm, Profile};
-use ill_read::Outline;
+use ill_normal::{MessagePlace, Profile};
+use ill_read::OutlinedMessage;
 use std::alloc::{AllocError, Global};
 
 /// Writes the line of JSON of the message that the octets are, under a number, after as many octets as the offset says.
@@ -76,48 +76,50 @@ fn json(
         (change buffer.old buffer.new) (change size.old size.new)
         (change refusal.old refusal.new) result }
 {
-    let normal = match read_whole(alloc, profile, octets) {
-        Ok(normal) => normal,
+    let message = match read_whole_outline(alloc, profile, octets) {
+        Ok(message) => message,
         Err(failure) => return report(failure, refusal),
     };
-    let outline = match read_whole_outline(alloc, profile, octets) {
-        Ok(outline) => outline,
-        Err(failure) => return report(failure, refusal),
-    };
-    match line(alloc, profile, octets, place, &normal, &outline) {
+    match line(alloc, profile, octets, place, &message) {
         Ok(line) => put(&line, buffer, size),
         Err(AllocError) => Status::OutOfMemory,
     }
 }
 
-/// The line of the message in the profile that the octets are, whose normal form and outline these are.
+/// The line of the message in the profile that the octets are, which was read.
 fn line(
     alloc: Global,
     profile: Profile,
     octets: &[u8],
     place: MessagePlace,
-    normal: &NormalForm,
-    outline: &Outline,
+    message: &OutlinedMessage,
 ) -> Result<Vec<u8>, AllocError>
-    ensures { (a : Apdu) → normal.now.octets.items ≡ normal_form_in (profile_of profile) a
-        → normal.now.input_len ≡ length octets.now → IsOutlineOf outline.now a
+    ensures { (a : Apdu) → message.now.normal.items ≡ normal_form_in (profile_of profile) a
+        → message.now.input_len ≡ length octets.now → IsOutlineOf message.now.outline a
         → IfOk result (λ line. line.items
         ≡ json_in place.number place.offset octets.now (profile_of profile) a) }
 {
-    let head = head(octets, place, normal);
-    json_line_as(alloc, profile, Vec::new(alloc), None, head, outline)
+    let head = head(octets, place, message);
+    json_line_as(
+        alloc,
+        profile,
+        Vec::new(alloc),
+        None,
+        head,
+        &message.outline,
+    )
 }
 
 /// The head of the line: all that it says beside the value.
-fn head(octets: &[u8], place: MessagePlace, normal: &NormalForm) -> LineHead
-    ensures { (p : Meaning) (a : Apdu) → normal.now.octets.items ≡ normal_form_in p a
-        → normal.now.input_len ≡ length octets.now
+fn head(octets: &[u8], place: MessagePlace, message: &OutlinedMessage) -> LineHead
+    ensures { (p : Meaning) (a : Apdu) → message.now.normal.items ≡ normal_form_in p a
+        → message.now.input_len ≡ length octets.now
         → result ≡ line_head_of place.number place.offset octets.now p a }
 {
     LineHead {
         number: place.number,
         offset: place.offset,
-        octets: normal.input_len,
-        is_normal: octets == normal.octets.as_slice(),
+        octets: message.input_len,
+        is_normal: octets == message.normal.as_slice(),
     }
 }

@@ -123,7 +123,7 @@ fn show(
         (change refusal.old refusal.new) result }
 {
     let outline = match read_whole_outline(alloc, profile, octets) {
-        Ok(outline) => outline,
+        Ok(message) => message.outline,
         Err(failure) => return report(failure, refusal),
     };
     match text_octets(alloc, profile, number, outline) {

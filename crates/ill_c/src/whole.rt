@@ -35,12 +35,12 @@ pub(crate) fn read_whole(
     }
 }
 
-/// The outline of the message in the profile that the octets are.
+/// The outline and the normal form of the message in the profile that the octets are.
 pub(crate) fn read_whole_outline(
     alloc: Global,
     profile: Profile,
     octets: &[u8],
-) -> Result<Outline, Failure>
+) -> Result<OutlinedMessage, Failure>
     ensures { OutlineAnswers (profile_of profile) octets.now result }
 {
     let mut source = FromSlice::new(octets);
@@ -67,12 +67,12 @@ fn whole(normal: NormalForm, count: usize) -> Result<NormalForm, Failure>
 }
 
 /// The outline of a message at the front of octets, if there are no more.
-fn whole_outline(outlined: OutlinedMessage, count: usize) -> Result<Outline, Failure>
+fn whole_outline(outlined: OutlinedMessage, count: usize) -> Result<OutlinedMessage, Failure>
     ensures { (p : Meaning) (front rest : List ℕ) → count ≡ length (front ++ rest)
         → IsOutlinedIn p outlined front → OutlineAnswers p (front ++ rest) result }
 {
     if outlined.input_len as usize == count {
-        Ok(outlined.outline)
+        Ok(outlined)
     } else {
         Err(refused(outlined.input_len, Cause::TrailingBytes))
     }

@@ -1,5 +1,5 @@
 -- What is made of a message is what the job writes of it.
-use Rattle.std.proofs.Common.{◌≡◌, ℕ, Bool, true, false, List, ◌++◌, codes, length, Option, Some, None, Vec, Global, refl, sym, ap, ap₂, subst, ◌∙◌}
+use Rattle.std.proofs.Common.{◌≡◌, ℕ, Bool, true, false, List, ◌++◌, codes, length, Option, Some, None, Vec, Global, IsTrue, ◌↔◌, sym, ap, ap₂, ◌∙◌}
 use Rattle.std.specs.Str.{bytes_eq}
 use Rattle.hex.specs.Hex.{encode_lower}
 use Rattle.sha2.specs.Sha256.{sha256}
@@ -8,11 +8,12 @@ use Rattle.ill_schema.specs.Apdu.{Apdu, SpellsApdu, normal_form_in}
 use Rattle.ill_schema.specs.Profiles.{profile_of}
 use Rattle.ill_tables.specs.declared.profile.Profile.{Profile as Named}
 use Rattle.ill_grammar.specs.Outline.{IsOutlineOf}
-use Rattle.ill_read.specs.Outlined.{IsOutlinedIn}
-use Rattle.ill_read.specs.declared.outlined.OutlinedMessage.{OutlinedMessage}
 use Rattle.ill_grammar.specs.declared.outline.Outline.{Outline}
 use Rattle.ill_normal.specs.Checking.{DescribesIn, IsFormIn}
-use Rattle.ill_normal.proofs.Canonical.{spells_normal}
+use Rattle.ill_normal.proofs.Canonical.{spells_once}
+use Rattle.ill_normal.specs.ReadMessages.{IsMessage}
+use Rattle.ill_normal.specs.declared.message_reader.ReadMessage.{ReadMessage}
+use Rattle.ill_normal.specs.declared.message_reader.Wants.{Wants}
 use Rattle.ill_normal.specs.declared.check.Checked.{Checked}
 use Rattle.ill_text.specs.Shown.{shown_text_in}
 use Rattle.ill_json.specs.Json.{json_line_in}
@@ -20,11 +21,9 @@ use Rattle.ill_commands.specs.declared.job.Job.{Job}
 use Rattle.ill_commands.specs.declared.job.JobOptions.{JobOptions}
 use Rattle.ill_normal.specs.declared.messages.MessagePlace.{MessagePlace}
 use Rattle.ill_normal.specs.declared.messages.RenderedMessage.{RenderedMessage}
-use Rattle.ill_commands.specs.declared.piece.CheckedOutline.{CheckedOutline}
-use Rattle.ill_commands.specs.code.Finding.{IsFound}
 use Rattle.ill_inputs.specs.Inputs.{label_of}
-use Rattle.ill_normal.specs.Messages.{spelling}
-use Rattle.ill_commands.specs.Output.{file_of, head_of, line_of_check, line_of_digest, line_of_result, result_line}
+use Rattle.ill_normal.specs.Messages.{spelling, is_normal}
+use Rattle.ill_commands.specs.Output.{file_of, good_if, head_of, line_of_check, line_of_digest, line_of_result, result_line}
 use Rattle.ill_commands.specs.code.Writing.{IsPieceMade, IsMadeForm, IsWritten}
 use Rattle.ill_commands.specs.declared.written.JobOutput.{JobOutput}
 use Rattle.ill_normal.proofs.NormalTest.{tests_equality}
@@ -102,43 +101,34 @@ module _ (work : JobOptions) (p : MessagePlace) where
       size = h.3;
     }
 
-  pub makes_shown : (found : CheckedOutline) (text : JobOutput)
-      → ((a : Apdu) (octets : List ℕ) → SpellsApdu q a octets → IsOutlineOf found.outline a → IsWritten text (label_of work.names_input work.name.now ++ shown_text_in q p.number a))
-      → (b : List ℕ) → IsFound q work.compares found b
-      → IsPieceMade Job.Show work p (record { text = text; is_good = found.is_good; octets = found.octets }) b
-  makes_shown found text is b h = record { apdu = h.apdu; spells = h.spells; text = is h.apdu b h.spells h.outline; good = h.good; size = h.size }
+  pub makes_shown : (w : Wants) (m : ReadMessage) (outline : Outline) (good : Bool) (text : JobOutput)
+      → ((a : Apdu) (octets : List ℕ) → SpellsApdu q a octets → IsOutlineOf outline a → IsWritten text (label_of work.names_input work.name.now ++ shown_text_in q p.number a))
+      → (b : List ℕ) → (h : IsMessage q w m b) → IsOutlineOf outline h.apdu → good ≡ good_if q work.compares (spelling h.apdu b)
+      → IsPieceMade Job.Show work p (record { text = text; is_good = good; octets = m.len }) b
+  makes_shown w m outline good text is b h kept e = record { apdu = h.apdu; spells = h.spells; text = is h.apdu b h.spells kept; good = e; size = h.size }
 
-  pub makes_json : (found : CheckedOutline) (text : Vec ℕ Global)
-      → ((a : Apdu) → IsOutlineOf found.outline a → text.items ≡ json_line_in q (file_of work.names_input work.name.now) (head_of p found.octets found.is_good) a) → (b : List ℕ)
-      → IsFound q true found b
-      → IsPieceMade Job.Json work p (record { text = JobOutput.Octets text; is_good = found.is_good; octets = found.octets }) b
-  makes_json found text is b h = record {
+  pub makes_json : (w : Wants) (m : ReadMessage) (good : Bool) (text : Vec ℕ Global)
+      → ((a : Apdu) → IsOutlineOf m.outline a → text.items ≡ json_line_in q (file_of work.names_input work.name.now) (head_of p m.len good) a)
+      → (b : List ℕ) → (h : IsMessage q w m b) → IsTrue w.outline → good ≡ is_normal q (spelling h.apdu b)
+      → IsPieceMade Job.Json work p (record { text = JobOutput.Octets text; is_good = good; octets = m.len }) b
+  makes_json w m good text is b h kept e = record {
     apdu = h.apdu;
     spells = h.spells;
-    text = is h.apdu h.outline ∙ ap₂ (λ (n : ℕ) (t : Bool). json_line_in q (file_of work.names_input work.name.now) (head_of p n t) h.apdu) h.size h.good;
-    good = h.good;
+    text = is h.apdu (h.outline kept) ∙ ap₂ (λ (n : ℕ) (t : Bool). json_line_in q (file_of work.names_input work.name.now) (head_of p n t) h.apdu) h.size e;
+    good = e;
     size = h.size;
   }
 
-module _ (profile : Named) where
-  abbrev r : Profile
-  r = profile_of profile
+-- the normal form of a message, which was compared or not
+pub form_made : (profile : Named) (compares good : Bool) (w : Wants) (m : ReadMessage) (b : List ℕ) → (h : IsMessage (profile_of profile) w m b)
+    → good ≡ good_if (profile_of profile) compares (spelling h.apdu b) → IsMadeForm profile compares (record { text = m.normal; is_good = good; octets = m.len }) b
+form_made profile compares good w m b h e = record { apdu = h.apdu; spells = h.spells; text = h.normal; good = e; size = h.size }
 
-  -- a normal form that was compared
-  pub makes_compared : (x : Checked) (text : Vec ℕ Global) (b : List ℕ) → DescribesIn r x b → IsFormIn r text.items b
-      → IsMadeForm profile true (record { text = text; is_good = x.is_normal; octets = x.octets }) b
-  makes_compared x text b h form =
-      record { apdu = h.0; spells = h.1; text = form h.0 h.1; good = tests_equality x.is_normal b (normal_form_in r h.0) h.5; size = h.3 }
+-- the octets that were kept were compared with the normal form
+pub tells_normal : (r : Profile) (w : Wants) (m : ReadMessage) (b : List ℕ) (h : IsMessage r w m b) → IsTrue w.spelled → (t : Bool) → IsTrue t ↔ (m.spelled.items ≡ m.normal.items)
+    → t ≡ is_normal r (spelling h.apdu b)
+tells_normal r w m b h kept t e =
+    tests_equality t b (normal_form_in r h.apdu) (λ x. sym (h.spelled kept) ∙ e.0 x ∙ h.normal, λ x. e.1 (h.spelled kept ∙ x ∙ sym h.normal))
 
-  -- an outline that was read, and one of the normal form of what was compared
-  pub found_read : (read : OutlinedMessage) (b : List ℕ) → IsOutlinedIn r read b → IsFound r false (record { outline = read.outline; octets = read.input_len; is_good = true }) b
-  found_read read b h = record { apdu = h.0; spells = h.1; outline = h.2; size = h.3; good = refl }
-
-  pub form_spells : (x : Checked) (text b : List ℕ) → (h : DescribesIn r x b) → IsFormIn r text b → SpellsApdu r h.0 text
-  form_spells x text b h form = subst (SpellsApdu r h.0) (sym (form h.0 h.1)) (spells_normal profile h.0 b h.1)
-
-  pub found_compared : (x : Checked) (text : List ℕ) (outline : Outline) → ((a : Apdu) → SpellsApdu r a text → IsOutlineOf outline a) → (b : List ℕ) → DescribesIn r x b
-      → IsFormIn r text b → IsFound r true (record { outline = outline; octets = x.octets; is_good = x.is_normal }) b
-  found_compared x text outline is b h form =
-      let a = h.0 in
-      record { apdu = a; spells = h.1; outline = is a (form_spells x text b h form); size = h.3; good = tests_equality x.is_normal b (normal_form_in r a) h.5 }
+pub has_form : (profile : Named) (w : Wants) (m : ReadMessage) (b : List ℕ) → IsMessage (profile_of profile) w m b → IsFormIn (profile_of profile) m.normal.items b
+has_form profile w m b h = λ a s. h.normal ∙ ap (normal_form_in (profile_of profile)) (spells_once h.apdu a b h.spells s)

@@ -1,184 +1,187 @@
-//! The result of a job for one message.
-ghost use Rattle.std.specs.Prelude.{◌≡◌, ℕ, List, ◌++◌, codes, option_map, IfOk, OnOk};
+//! The output of a job for one message.
+ghost use Rattle.std.specs.Prelude.{◌≡◌, ◌↔◌, ℕ, List, ◌++◌, codes, option_map, IfOk, IsTrue};
 ghost use Rattle.hex.specs.Hex.{encode_lower};
-ghost use Rattle.ill_read.specs.Answers.{ReadsNextIn};
 ghost use Rattle.ill_grammar.specs.Outline.{IsOutlineOf};
 ghost use Rattle.ill_schema.specs.Apdu.{Apdu, SpellsApdu};
 ghost use Rattle.ill_schema.specs.Profiles.{profile_of};
+ghost use Rattle.ill_tables.specs.declared.profile.Profile.{Profile as Named};
+ghost use Rattle.ill_normal.specs.Checking.{DescribesIn};
+ghost use Rattle.ill_normal.specs.Messages.{spelling};
+ghost use Rattle.ill_normal.specs.ReadMessages.{IsMessage, wants};
+ghost use Rattle.ill_normal.specs.declared.message_reader.Wants.{Wants as Wanted};
+ghost use Rattle.ill_normal.specs.declared.messages.MessagePlace.{MessagePlace as Place};
 ghost use Rattle.ill_text.specs.Shown.{shown_text_in};
-ghost use Rattle.ill_commands.specs.declared.job.Job.{Job};
+ghost use Rattle.ill_commands.specs.declared.job.Job.{Job as Task};
 ghost use Rattle.ill_inputs.specs.Inputs.{label_of};
-ghost use Rattle.ill_commands.specs.Output.{file_of, head_of, line_of_check, line_of_digest};
-ghost use Rattle.ill_commands.specs.code.Finding.{IsFound};
-ghost use Rattle.ill_commands.specs.code.Writing.{IsPieceMade, IsMadeForm, IsWritten};
+ghost use Rattle.ill_commands.specs.Output.{file_of, good_if, head_of, line_of_check, line_of_digest};
+ghost use Rattle.ill_commands.specs.code.Rendering.{Renders, needs_of};
+ghost use Rattle.ill_commands.specs.code.Writing.{IsWritten};
 
 use crate::job::{Job, JobOptions};
-use crate::result::{check_json, digest_json};
+use crate::result::{check_json_message, digest_json_message};
 use crate::written::JobOutput;
-use ber_core::{Lookahead, Source};
 use ill_json::{LineHead, json_line_as};
 use ill_normal::{
-    Checked, MessagePlace, NormalFormsIn, NormalReader, ReadFailure, Render, RenderedMessage,
-    apdu_name_or_empty, check_one_in_as, normal_digest, put_check_words,
+    Checked, MessagePlace, ReadMessage, Render, RenderedMessage, Wants, apdu_name_or_empty,
+    apdu_number, normal_digest, put_check_words,
 };
-use ill_read::{Outline, OutlineReader};
-use ill_schema::Profile;
-use ill_text::{Text, outline_as};
+use ill_read::Outline;
+use ill_schema::{LIMIT, Profile};
+use ill_text::Text;
 use itoa::Buffer;
 use std::alloc::{AllocError, Global};
+use std::mem;
 
 /// The number of octets of a label that are counted with those of a text.
 const MAX_LABEL_LEN: usize = 1 << 62;
 
-/// The readers of an input's messages: of their normal forms, and of their outlines.
-#[derive(Drop)]
-pub struct Readers {
-    normal: NormalReader,
-    outline: OutlineReader,
-}
-
 impl Render for JobOptions<'_> {
     type Out = JobOutput;
 
-    type Reader = Readers;
-
     ghost use Rattle.ill_commands.specs.Output.{is_counted_good, message_output};
 
-    ghost profile = { λ work. work.profile };
+    ghost reads = { λ work. work.profile };
+
+    ghost needs = { λ work. needs_of work.job work.compares };
 
     ghost text = { λ work. message_output work };
 
     ghost is_good = { λ work. is_counted_good work };
 
-    fn reader(alloc: Global) -> Readers {
-        Readers {
-            normal: NormalReader::new(alloc),
-            outline: OutlineReader::new(alloc),
-        }
+    fn profile(&self) -> Profile {
+        self.profile
     }
 
-    fn next<R: Source, L: Lookahead<R>>(
+    #[inline(always)]
+    fn wants(&self) -> Wants {
+        needs_of(*self)
+    }
+
+    #[inline(always)]
+    fn render(
         &self,
         alloc: Global,
-        reader: &mut Readers,
-        position: MessagePlace,
-        source: &mut R,
+        place: MessagePlace,
+        message: &mut ReadMessage,
         buffer: JobOutput,
-    ) -> Result<Option<RenderedMessage<JobOutput>>, ReadFailure> {
-        next_piece::<R, L>(alloc, reader, *self, position, source, buffer)
+    ) -> Result<RenderedMessage<JobOutput>, AllocError> {
+        render_message(alloc, *self, place, message, buffer)
     }
 }
 
-/// Reads the next message, and makes its output; None at the end of the input.
-fn next_piece<R: Source, L: Lookahead<R>>(
-    alloc: Global,
-    readers: &mut Readers,
-    work: JobOptions<'_>,
-    position: MessagePlace,
-    source: &mut R,
-    buffer: JobOutput,
-) -> Result<Option<RenderedMessage<JobOutput>>, ReadFailure>
-    ensures { ReadsNextIn (profile_of work.entry.profile) (R.left source.old) (R.left source.new)
-        (R.is_broken source.old) (R.is_broken source.new)
-        (IsPieceMade work.entry.job work.entry position) result }
+/// What a job needs of each message.
+fn needs_of(work: JobOptions<'_>) -> Wants
+    ensures { result ≡ needs_of work.entry.job work.entry.compares }
 {
     match work.job {
-        Job::Show => shown::<R, L>(alloc, readers, work, position, source, buffer),
-        Job::Json => json::<R, L>(alloc, readers, work, position, source, buffer),
-        Job::Check => {
-            let reader = &mut readers.normal;
-            checked::<R, L>(alloc, reader, work, position, source, buffer.into_octets())
-        }
-        Job::CheckJson => {
-            let reader = &mut readers.normal;
-            check_json::<R, L>(alloc, reader, work, position, source, buffer.into_octets())
-        }
-        Job::DigestJson => {
-            let reader = &mut readers.normal;
-            digest_json::<R, L>(alloc, reader, work, position, source, buffer.into_octets())
-        }
-        Job::Digest => {
-            let reader = &mut readers.normal;
-            digested::<R, L>(alloc, reader, work, position, source, buffer.into_octets())
-        }
-        Job::Canonicalise => {
-            let reader = &mut readers.normal;
-            canonical::<R, L>(alloc, reader, work, position, source, buffer.into_octets())
-        }
+        Job::Show => wants(work.compares, true),
+        Job::Json => wants(true, true),
+        Job::Check | Job::CheckJson | Job::DigestJson => wants(true, false),
+        Job::Digest | Job::Canonicalise => wants(work.compares, false),
     }
 }
 
-fn shown<R: Source, L: Lookahead<R>>(
-    alloc: Global,
-    readers: &mut Readers,
-    work: JobOptions<'_>,
-    position: MessagePlace,
-    source: &mut R,
-    buffer: JobOutput,
-) -> Result<Option<RenderedMessage<JobOutput>>, ReadFailure>
-    ensures { ReadsNextIn (profile_of work.entry.profile) (R.left source.old) (R.left source.new)
-        (R.is_broken source.old) (R.is_broken source.new)
-        (IsPieceMade Job.Show work.entry position) result }
+#[inline(always)]
+fn wants(spelled: bool, outline: bool) -> Wants
+    ensures { result ≡ wants spelled outline }
 {
-    let (octets, outline) = buffer.into_both(alloc);
-    let Some(found) = outlined::<R, L>(
-        alloc,
-        readers,
-        work.profile,
-        work.compares,
-        source,
-        outline,
-    )?
-    else {
-        return Ok(None);
-    };
-    let CheckedOutline {
-        outline,
-        octets: size,
+    Wants { spelled, outline }
+}
+
+/// Makes the output of a job for a message, in the memory of both. Their contents are forgotten.
+#[inline(always)]
+fn render_message(
+    alloc: Global,
+    work: JobOptions<'_>,
+    place: MessagePlace,
+    message: &mut ReadMessage,
+    buffer: JobOutput,
+) -> Result<RenderedMessage<JobOutput>, AllocError>
+    ensures { Renders work.entry.job work.entry place message.old result }
+{
+    match work.job {
+        Job::Show => show_message(alloc, work, place, message, buffer),
+        Job::Json => json_message(alloc, work, place, message, buffer.into_octets()),
+        Job::Check => check_message(work, place, message, buffer.into_octets()),
+        Job::CheckJson => check_json_message(alloc, work, place, message, buffer.into_octets()),
+        Job::Digest => digest_message(alloc, work, place, message, buffer.into_octets()),
+        Job::DigestJson => digest_json_message(alloc, work, place, message, buffer.into_octets()),
+        Job::Canonicalise => canonical_message(alloc, work, message, buffer.into_octets()),
+    }
+}
+
+/// Tells whether a message is its normal form, whose octets were kept.
+#[inline(always)]
+fn is_normal(message: &ReadMessage) -> bool
+    ensures { IsTrue result ↔ (message.now.spelled.items ≡ message.now.normal.items) }
+{
+    message.spelled.as_slice() == message.normal.as_slice()
+}
+
+/// Tells whether a message counts as good, which is compared with its normal form or not.
+#[inline(always)]
+fn is_good_if(compares: bool, message: &ReadMessage) -> bool
+    ensures { (profile : Named) (wants : Wanted) (octets : List ℕ)
+        → (h : IsMessage (profile_of profile) wants message.now octets) → wants.spelled ≡ compares
+        → result ≡ good_if (profile_of profile) compares (spelling h.apdu octets) }
+{
+    if compares { is_normal(message) } else { true }
+}
+
+/// The facts of a message whose octets were kept.
+#[inline(always)]
+pub(crate) fn checked_of(message: &ReadMessage) -> Checked
+    ensures { (profile : Named) (wants : Wanted) (octets : List ℕ)
+        → IsMessage (profile_of profile) wants message.now octets → IsTrue wants.spelled
+        → DescribesIn (profile_of profile) result octets }
+{
+    let size = message.normal.as_slice().len();
+    Checked {
+        apdu: apdu_number(&message.normal),
+        octets: message.len,
+        normal: size.min(LIMIT as usize) as u32,
+        is_normal: is_normal(message),
+    }
+}
+
+fn show_message(
+    alloc: Global,
+    work: JobOptions<'_>,
+    place: MessagePlace,
+    message: &mut ReadMessage,
+    buffer: JobOutput,
+) -> Result<RenderedMessage<JobOutput>, AllocError>
+    ensures { Renders Task.Show work.entry place message.old result }
+{
+    let is_good = is_good_if(work.compares, message);
+    let (label, memory) = buffer.into_both(alloc);
+    let outline = mem::replace(&mut message.outline, memory);
+    let text = labelled_text(alloc, label, work, place.number, outline)?;
+    Ok(RenderedMessage {
+        text,
         is_good,
-    } = found;
-    match labelled_text(alloc, octets, work, position.number, outline) {
-        Ok(text) => Ok(Some(RenderedMessage {
-            text,
-            is_good,
-            octets: size,
-        })),
-        Err(AllocError) => Err(ReadFailure::OutOfMemory),
-    }
+        octets: message.len,
+    })
 }
 
-fn json<R: Source, L: Lookahead<R>>(
+fn json_message(
     alloc: Global,
-    readers: &mut Readers,
     work: JobOptions<'_>,
-    position: MessagePlace,
-    source: &mut R,
-    buffer: JobOutput,
-) -> Result<Option<RenderedMessage<JobOutput>>, ReadFailure>
-    ensures { ReadsNextIn (profile_of work.entry.profile) (R.left source.old) (R.left source.new)
-        (R.is_broken source.old) (R.is_broken source.new)
-        (IsPieceMade Job.Json work.entry position) result }
+    place: MessagePlace,
+    message: &mut ReadMessage,
+    buffer: Vec<u8>,
+) -> Result<RenderedMessage<JobOutput>, AllocError>
+    ensures { Renders Task.Json work.entry place message.old result }
 {
-    let (octets, outline) = buffer.into_both(alloc);
-    let Some(found) = outlined::<R, L>(alloc, readers, work.profile, true, source, outline)? else {
-        return Ok(None);
-    };
-    let head = head(position, found.octets, found.is_good);
-    match json_line_as(
-        alloc,
-        work.profile,
-        octets,
-        file_of(work),
-        head,
-        &found.outline,
-    ) {
-        Ok(line) => Ok(Some(RenderedMessage {
-            text: JobOutput::Octets(line),
-            is_good: found.is_good,
-            octets: found.octets,
-        })),
-        Err(AllocError) => Err(ReadFailure::OutOfMemory),
-    }
+    let is_good = is_normal(message);
+    let head = head(place, message.len, is_good);
+    let outline = &message.outline;
+    let line = json_line_as(alloc, work.profile, buffer, file_of(work), head, outline)?;
+    Ok(RenderedMessage {
+        text: JobOutput::Octets(line),
+        is_good,
+        octets: message.len,
+    })
 }
 
 /// The name of the file that a line of JSON has, if there are several files.
@@ -202,53 +205,6 @@ pub(crate) fn head(position: MessagePlace, octets: u32, is_normal: bool) -> Line
         offset: position.offset,
         octets,
         is_normal,
-    }
-}
-
-/// A message that was read: its outline, how many octets it has in the input, and whether it counts as good.
-#[derive(Drop)]
-struct CheckedOutline {
-    outline: Outline,
-    octets: u32,
-    is_good: bool,
-}
-
-/// Reads the outline of the next message, which is compared with its normal form or not; None at the end of the input.
-fn outlined<R: Source, L: Lookahead<R>>(
-    alloc: Global,
-    readers: &mut Readers,
-    profile: Profile,
-    compares: bool,
-    source: &mut R,
-    buffer: Outline,
-) -> Result<Option<CheckedOutline>, ReadFailure>
-    ensures { ReadsNextIn (profile_of profile) (R.left source.old) (R.left source.new)
-        (R.is_broken source.old) (R.is_broken source.new)
-        (IsFound (profile_of profile) compares) result }
-{
-    if !compares {
-        return match readers.outline.read_as::<R, L>(profile, source, buffer) {
-            Ok(Some(read)) => Ok(Some(CheckedOutline {
-                outline: read.outline,
-                octets: read.input_len,
-                is_good: true,
-            })),
-            Ok(None) => Ok(None),
-            Err(failure) => Err(failure),
-        };
-    }
-    let (reader, octets) = (&mut readers.normal, Vec::new(alloc));
-    let Some((found, normal)) = check_one_in_as::<R, L>(alloc, profile, reader, source, octets)?
-    else {
-        return Ok(None);
-    };
-    match outline_as(&mut readers.outline, profile, &normal, buffer) {
-        Ok(outline) => Ok(Some(CheckedOutline {
-            outline,
-            octets: found.octets,
-            is_good: found.is_normal,
-        })),
-        Err(AllocError) => Err(ReadFailure::OutOfMemory),
     }
 }
 
@@ -292,36 +248,21 @@ fn label(buffer: Vec<u8>, work: JobOptions<'_>) -> Result<Vec<u8>, AllocError>
     Ok(line)
 }
 
-fn checked<R: Source, L: Lookahead<R>>(
-    alloc: Global,
-    reader: &mut NormalReader,
+fn check_message(
     work: JobOptions<'_>,
-    position: MessagePlace,
-    source: &mut R,
+    place: MessagePlace,
+    message: &mut ReadMessage,
     buffer: Vec<u8>,
-) -> Result<Option<RenderedMessage<JobOutput>>, ReadFailure>
-    ensures { ReadsNextIn (profile_of work.entry.profile) (R.left source.old) (R.left source.new)
-        (R.is_broken source.old) (R.is_broken source.new)
-        (IsPieceMade Job.Check work.entry position) result }
+) -> Result<RenderedMessage<JobOutput>, AllocError>
+    ensures { Renders Task.Check work.entry place message.old result }
 {
-    let Some((found, normal)) = check_one_in_as::<R, L>(
-        alloc,
-        work.profile,
-        reader,
-        source,
-        buffer,
-    )?
-    else {
-        return Ok(None);
-    };
-    match check_line(normal, work, position.number, found) {
-        Ok(text) => Ok(Some(RenderedMessage {
-            text: JobOutput::Octets(text),
-            is_good: found.is_normal,
-            octets: found.octets,
-        })),
-        Err(AllocError) => Err(ReadFailure::OutOfMemory),
-    }
+    let found = checked_of(message);
+    let line = check_line(buffer, work, place.number, found)?;
+    Ok(RenderedMessage {
+        text: JobOutput::Octets(line),
+        is_good: found.is_normal,
+        octets: found.octets,
+    })
 }
 
 /// The line that says whether a message is its normal form, in the memory of `buffer`, whose octets are forgotten.
@@ -353,43 +294,23 @@ fn check_line(
     Ok(line)
 }
 
-fn digested<R: Source, L: Lookahead<R>>(
+fn digest_message(
     alloc: Global,
-    reader: &mut NormalReader,
     work: JobOptions<'_>,
-    position: MessagePlace,
-    source: &mut R,
+    place: MessagePlace,
+    message: &mut ReadMessage,
     buffer: Vec<u8>,
-) -> Result<Option<RenderedMessage<JobOutput>>, ReadFailure>
-    ensures { ReadsNextIn (profile_of work.entry.profile) (R.left source.old) (R.left source.new)
-        (R.is_broken source.old) (R.is_broken source.new)
-        (IsPieceMade Job.Digest work.entry position) result }
+) -> Result<RenderedMessage<JobOutput>, AllocError>
+    ensures { Renders Task.Digest work.entry place message.old result }
 {
-    let Some(normal) = normal_form::<R, L>(
-        alloc,
-        reader,
-        work.profile,
-        work.compares,
-        source,
-        buffer,
-    )?
-    else {
-        return Ok(None);
-    };
-    let RenderedMessage {
-        text,
+    let is_good = is_good_if(work.compares, message);
+    let digest = normal_digest(&message.normal);
+    let line = digest_line(alloc, buffer, &digest, work.name, place.number)?;
+    Ok(RenderedMessage {
+        text: JobOutput::Octets(line),
         is_good,
-        octets,
-    } = normal;
-    let digest = normal_digest(&text);
-    match digest_line(alloc, text, &digest, work.name, position.number) {
-        Ok(text) => Ok(Some(RenderedMessage {
-            text: JobOutput::Octets(text),
-            is_good,
-            octets,
-        })),
-        Err(AllocError) => Err(ReadFailure::OutOfMemory),
-    }
+        octets: message.len,
+    })
 }
 
 /// The line of a message with this digest, in the memory of `buffer`, whose octets are forgotten.
@@ -414,77 +335,30 @@ fn digest_line(
     Ok(line)
 }
 
-fn canonical<R: Source, L: Lookahead<R>>(
+/// Most messages pass here, so it is a part of the loop.
+#[inline(always)]
+fn canonical_message(
     alloc: Global,
-    reader: &mut NormalReader,
     work: JobOptions<'_>,
-    position: MessagePlace,
-    source: &mut R,
+    message: &mut ReadMessage,
     buffer: Vec<u8>,
-) -> Result<Option<RenderedMessage<JobOutput>>, ReadFailure>
-    ensures { ReadsNextIn (profile_of work.entry.profile) (R.left source.old) (R.left source.new)
-        (R.is_broken source.old) (R.is_broken source.new)
-        (IsPieceMade Job.Canonicalise work.entry position) result }
+) -> Result<RenderedMessage<JobOutput>, AllocError>
+    ensures { (place : Place) → Renders Task.Canonicalise work.entry place message.old result }
 {
-    let _ = position;
-    let Some(normal) = normal_form::<R, L>(
-        alloc,
-        reader,
-        work.profile,
-        work.compares,
-        source,
-        buffer,
-    )?
-    else {
-        return Ok(None);
-    };
+    let is_good = is_good_if(work.compares, message);
     if !work.hex {
-        return Ok(Some(RenderedMessage {
-            text: JobOutput::Octets(normal.text),
-            is_good: normal.is_good,
-            octets: normal.octets,
-        }));
+        return Ok(RenderedMessage {
+            text: JobOutput::Octets(mem::replace(&mut message.normal, buffer)),
+            is_good,
+            octets: message.len,
+        });
     }
-    match hex_line(alloc, &normal.text) {
-        Ok(text) => Ok(Some(RenderedMessage {
-            text: JobOutput::Octets(text),
-            is_good: normal.is_good,
-            octets: normal.octets,
-        })),
-        Err(AllocError) => Err(ReadFailure::OutOfMemory),
-    }
-}
-
-/// Reads the normal form of the next message, which is compared with its octets or not; None at the end of the input.
-fn normal_form<R: Source, L: Lookahead<R>>(
-    alloc: Global,
-    reader: &mut NormalReader,
-    profile: Profile,
-    compares: bool,
-    source: &mut R,
-    buffer: Vec<u8>,
-) -> Result<Option<RenderedMessage<Vec<u8>>>, ReadFailure>
-    ensures { ReadsNextIn (profile_of profile) (R.left source.old) (R.left source.new)
-        (R.is_broken source.old) (R.is_broken source.new)
-        (IsMadeForm profile compares) result }
-{
-    if !compares {
-        let position = MessagePlace {
-            number: 1,
-            offset: 0,
-        };
-        let forms = NormalFormsIn { profile };
-        return forms.next::<R, L>(alloc, reader, position, source, buffer);
-    }
-    let Some((found, text)) = check_one_in_as::<R, L>(alloc, profile, reader, source, buffer)?
-    else {
-        return Ok(None);
-    };
-    Ok(Some(RenderedMessage {
-        text,
-        is_good: found.is_normal,
-        octets: found.octets,
-    }))
+    let line = hex_line(alloc, &message.normal)?;
+    Ok(RenderedMessage {
+        text: JobOutput::Octets(line),
+        is_good,
+        octets: message.len,
+    })
 }
 
 fn hex_line(alloc: Global, octets: &[u8]) -> Result<Vec<u8>, AllocError>

@@ -18,6 +18,7 @@ pub enum JobOutput {
 
 impl JobOutput {
     /// Memory for octets.
+    #[inline(always)]
     pub fn into_octets(self) -> Vec<u8> {
         match self {
             JobOutput::Octets(octets) => octets,

@@ -14,13 +14,18 @@ use crate::rest::take_rest;
 use crate::skipping::fault_of_end;
 use ber_core::{Buffered, FromSlice, Lookahead, Sink, Source};
 use ill_normal::{
-    EndError, MessageCounts, NoReports, ReportRefusals, RunFault, VisitMessages, Visited, read_hex,
-    visit_messages,
+    EndError, MessageCounts, MessageReader, NoReports, ReadFailure, ReadMessage, ReportRefusals,
+    RunFault, VisitMessages, Visited, Wants, read_hex, visit_messages,
 };
-use ill_read::{NormalReader, ReadFailure};
 use ill_schema::Profile;
 use ill_walk::DumpFormat;
 use std::alloc::Global;
+
+/// What is kept of each message.
+const WANTS: Wants = Wants {
+    spelled: true,
+    outline: false,
+};
 
 /// The options of a dump: how an input is read, which of its messages are written, and how the first line of each names it.
 #[derive(Clone, Copy, Debug)]
@@ -114,8 +119,7 @@ fn dump_messages<R: Source, L: Lookahead<R>, W: Sink>(
         alloc,
         dump,
         out: DumpSink::new(alloc, dump.format),
-        reader: NormalReader::new(alloc),
-        recorded: Vec::new(alloc),
+        reader: MessageReader::new(alloc),
     };
     match visit_messages::<StoppingDumper<'_>, R, L, W, NoReports>(
         alloc,
@@ -135,13 +139,11 @@ struct StoppingDumper<'a> {
     alloc: Global,
     dump: DumpOptions<'a>,
     out: DumpSink,
-    reader: NormalReader,
-    /// The octets of a message.
-    recorded: Vec<u8>,
+    reader: MessageReader,
 }
 
 impl VisitMessages for StoppingDumper<'_> {
-    type Buffer = Vec<u8>;
+    type Buffer = ();
 
     type Error = RunFault;
 
@@ -155,9 +157,7 @@ impl VisitMessages for StoppingDumper<'_> {
 
     ghost fails = { λ start from to fault. StopsDump start.dump (taking_of from to) (putting_of from to) fault };
 
-    fn empty_buffer(alloc: Global) -> Vec<u8> {
-        Vec::new(alloc)
-    }
+    fn empty_buffer(_alloc: Global) {}
 
     fn is_enough(&self, counts: MessageCounts) -> bool {
         self.dump.is_enough(counts.messages)
@@ -169,30 +169,34 @@ impl VisitMessages for StoppingDumper<'_> {
         source: &mut R,
         sink: &mut W,
         _reports: &mut T,
-        buffer: Vec<u8>,
-    ) -> Result<Visited<Vec<u8>>, RunFault> {
+        _buffer: (),
+    ) -> Result<Visited<()>, RunFault> {
         let StoppingDumper {
             alloc,
             dump,
             out,
             reader,
-            recorded,
         } = self;
-        let message = counts.messages + 1;
-        recorded.clear();
-        match reader.read_recording_as::<R, L>(dump.profile, source, buffer, recorded) {
-            Ok(Some(normal)) => {
-                put_message(*alloc, *dump, message, recorded, &normal.octets, out, sink)?;
+        let number = counts.messages + 1;
+        match reader.read::<R, L>(dump.profile, WANTS, source) {
+            Ok(Some(octets)) => {
+                let ReadMessage {
+                    spelled,
+                    normal,
+                    ..
+                } = &reader.message;
+                put_message(*alloc, *dump, number, spelled, normal, out, sink)?;
                 Ok(Visited::Accepted {
-                    octets: u64::from(normal.input_len),
+                    octets: u64::from(octets),
                     is_good: true,
-                    buffer: normal.octets,
+                    buffer: (),
                 })
             }
             Ok(None) => Ok(Visited::End),
-            Err(failure) => Err(put_failure(
-                *alloc, *dump, message, source, recorded, failure, out, sink,
-            )),
+            Err(failure) => {
+                let recorded = &mut reader.message.spelled;
+                Err(put_failure(*alloc, *dump, number, source, recorded, failure, out, sink))
+            }
         }
     }
 

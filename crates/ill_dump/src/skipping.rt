@@ -11,7 +11,7 @@ use crate::put::{DumpSink, put_message, put_refused};
 use crate::run::DumpOptions;
 use ber_core::{Buffered, FromSlice, Lookahead, Sink, Source};
 use ill_normal::{
-    EndError, MessageCounts, NextMessage, NormalFormsIn, NormalReader, NotReported, RefusalReport,
+    EndError, MessageCounts, MessageReader, NextMessage, NormalFormsIn, NotReported, RefusalReport,
     ReportRefusals, RunFault, TakeError, VisitMessages, Visited, read_hex, take_message,
     visit_messages,
 };
@@ -85,7 +85,7 @@ fn dump_messages_skipping<R: Source, L: Lookahead<R>, W: Sink, T: ReportRefusals
         alloc,
         dump,
         out: DumpSink::new(alloc, dump.format),
-        reader: NormalReader::new(alloc),
+        reader: MessageReader::new(alloc),
         recorded: Vec::new(alloc),
     };
     match visit_messages::<SkippingDumper<'_>, R, L, W, T>(
@@ -106,7 +106,7 @@ struct SkippingDumper<'a> {
     alloc: Global,
     dump: DumpOptions<'a>,
     out: DumpSink,
-    reader: NormalReader,
+    reader: MessageReader,
     /// The first octets of a message.
     recorded: Vec<u8>,
 }

@@ -9,8 +9,6 @@ use std::alloc::Global;
 #[derive(Drop)]
 pub struct Outline {
     marks: Vec<Mark>,
-    /// Memory for the next one.
-    octets: Vec<u8>,
 }
 
 impl Outline {
@@ -20,28 +18,26 @@ impl Outline {
     {
         Outline {
             marks: Vec::new(alloc),
-            octets: Vec::new(alloc),
         }
     }
 
-    /// The outline of these marks, with memory for the next one.
+    /// The outline of these marks.
     ///
     /// ```
-    /// let (marks, memory) = outline.into_parts();
-    /// let outline = Outline::from_parts(marks, memory);
+    /// let outline = Outline::of_marks(marks);
     /// ```
-    pub fn from_parts(marks: Vec<Mark>, octets: Vec<u8>) -> Outline
+    pub fn of_marks(marks: Vec<Mark>) -> Outline
         ensures { result.marks ≡ marks }
     {
-        Outline { marks, octets }
+        Outline { marks }
     }
 
-    /// Its marks, and memory for the next one.
-    pub fn into_parts(self) -> (Vec<Mark>, Vec<u8>)
-        ensures { result.0 ≡ self.marks }
+    /// Its marks, whose memory can be used again.
+    pub fn into_marks(self) -> Vec<Mark>
+        ensures { result ≡ self.marks }
     {
-        let Outline { marks, octets } = self;
-        (marks, octets)
+        let Outline { marks } = self;
+        marks
     }
 
     /// Its marks.

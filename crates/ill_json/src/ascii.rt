@@ -31,12 +31,12 @@ pub fn into_ascii(alloc: Global, text: Vec<u8>) -> Result<Vec<u8>, AllocError>
 fn is_plain(text: &[u8]) -> bool
     ensures { result ≡ list_all (λ octet. nat_lt octet 0x7F) text.now }
 {
+    let mut is_plain = true;
     for octet in text {
-        if *octet >= DEL as u8 {
-            return false;
-        }
+        // A loop with no way out takes many octets at once.
+        is_plain &= *octet < DEL as u8;
     }
-    true
+    is_plain
 }
 
 /// The octets as text.

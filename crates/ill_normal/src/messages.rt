@@ -7,15 +7,19 @@ ghost use Rattle.ill_read.specs.Answers.{ReadsNextIn};
 ghost use Rattle.ill_normal.specs.Visiting.{putting_of, taking_of};
 ghost use Rattle.ill_normal.specs.Calls.{taking, putting};
 ghost use Rattle.ill_normal.specs.Messages.{EndsAfterIn, MakesIn, PassesAllIn, Spelling};
+ghost use Rattle.ill_normal.specs.ReadMessages.{IsMessage};
+ghost use Rattle.ill_normal.specs.declared.message_reader.Wants.{Wants};
 ghost use Rattle.ill_normal.specs.declared.messages.MessagePlace.{MessagePlace};
 ghost use Rattle.ill_normal.specs.code.Ending.{HasWritten, all_passed, ended_at, why_of_end};
 
+use crate::message_reader::{MessageReader, ReadMessage, Wants};
 use crate::report::{NoReports, ReportRefusals};
 use crate::visit::{MessageCounts, VisitMessages, Visited, visit_messages};
 use ber_core::{Lookahead, Sink, Source, put_all};
 use ill_inputs::EndError;
 use ill_read::ReadFailure;
-use std::alloc::Global;
+use ill_schema::Profile;
+use std::alloc::{AllocError, Global};
 
 /// The number of messages that an input may have.
 pub const MAX_MESSAGES: u32 = 1_000_000;
@@ -86,39 +90,76 @@ pub trait Render {
     /// The output for a message, not yet written.
     type Out: Rendered;
 
-    /// The reader of one message after another.
-    type Reader: Drop;
+    // The profile that messages are read in.
+    ghost reads: { Self → Named };
 
-    // The profile of the messages that it reads.
-    ghost profile: { Self → Named };
+    // What is kept of each message.
+    ghost needs: { Self → Wants };
 
-    // The octets that are written of the message at this position.
+    // The octets that are written of the message at this place.
     ghost text: { Self → MessagePlace → Spelling → List ℕ };
 
     // True if a message is as it should be.
     ghost is_good: { Self → Spelling → Bool };
 
-    /// A reader that has read nothing. That takes no memory.
-    fn reader(alloc: Global) -> Self::Reader;
+    /// The profile that messages are read in.
+    fn profile(&self) -> Profile
+        ensures { result ≡ reads self.now };
 
-    /// Reads the message that the source begins with, as [`read_message`](crate::read_message) does, and makes the output for it. This
-    /// may use the memory of `buffer`, whose contents are forgotten. What the reader read before makes no difference.
+    /// What is kept of each message.
+    fn wants(&self) -> Wants
+        ensures { result ≡ needs self.now };
+
+    /// Makes the output for the message at a place. This may use the memory of the message and that of `buffer`, whose contents are forgotten.
     ///
     /// # Errors
     ///
-    /// Those of [`read_message`](crate::read_message), or out of memory.
-    fn next<R: Source, L: Lookahead<R>>(
+    /// Out of memory.
+    fn render(
         &self,
         alloc: Global,
-        reader: &mut Self::Reader,
-        position: MessagePlace,
-        source: &mut R,
+        place: MessagePlace,
+        message: &mut ReadMessage,
         buffer: Self::Out,
-    ) -> Result<Option<RenderedMessage<Self::Out>>, ReadFailure>
-        ensures { ReadsNextIn (profile_of (profile self.now)) (R.left source.old)
-            (R.left source.new) (R.is_broken source.old) (R.is_broken source.new)
-            (MakesIn (profile_of (profile self.now)) Self.Out.is (text self.now position)
-            (is_good self.now)) result };
+    ) -> Result<RenderedMessage<Self::Out>, AllocError>
+        ensures { (octets : List ℕ)
+            → IsMessage (profile_of (reads self.now)) (needs self.now) message.old octets
+            → IfOk result (λ piece. MakesIn (profile_of (reads self.now)) Self.Out.is
+            (text self.now place) (is_good self.now) piece octets) };
+}
+
+/// Reads the next message once, and makes the output for it, in the memory of `buffer`; None at the end of the input.
+///
+/// ```
+/// let piece = render_next::<M, R, L>(alloc, &maker, &mut reader, place, source, buffer)?;
+/// ```
+///
+/// # Errors
+///
+/// Those of [`read_message`](crate::read_message), in the profile, or out of memory.
+#[inline(always)]
+pub fn render_next<M: Render, R: Source, L: Lookahead<R>>(
+    alloc: Global,
+    maker: &M,
+    reader: &mut MessageReader,
+    place: MessagePlace,
+    source: &mut R,
+    buffer: M::Out,
+) -> Result<Option<RenderedMessage<M::Out>>, ReadFailure>
+    ensures { ReadsNextIn (profile_of (M.reads maker.now)) (R.left source.old)
+        (R.left source.new) (R.is_broken source.old) (R.is_broken source.new)
+        (MakesIn (profile_of (M.reads maker.now)) M.Out.is (M.text maker.now place)
+        (M.is_good maker.now)) result }
+{
+    match reader.read::<R, L>(maker.profile(), maker.wants(), source) {
+        Ok(Some(_)) => {}
+        Ok(None) => return Ok(None),
+        Err(failure) => return Err(failure),
+    }
+    match maker.render(alloc, place, &mut reader.message, buffer) {
+        Ok(piece) => Ok(Some(piece)),
+        Err(AllocError) => Err(ReadFailure::OutOfMemory),
+    }
 }
 
 /// Messages to the end of an input.
@@ -173,10 +214,10 @@ pub fn for_each_message<M: Render, R: Source, L: Lookahead<R>, W: Sink>(
     source: &mut R,
     sink: &mut W,
 ) -> Result<StreamCounts, StreamError>
-    ensures passes { IfOk result (PassesAllIn (profile_of (M.profile maker.now)) (M.text maker.now)
+    ensures passes { IfOk result (PassesAllIn (profile_of (M.reads maker.now)) (M.text maker.now)
         (M.is_good maker.now) (R.left source.old) (R.left source.new)
         (W.contents sink.old) (W.contents sink.new)) }
-    ensures ends { IfErr result (EndsAfterIn (profile_of (M.profile maker.now)) (M.text maker.now)
+    ensures ends { IfErr result (EndsAfterIn (profile_of (M.reads maker.now)) (M.text maker.now)
         (M.is_good maker.now) (taking (R.left source.old) (R.left source.new)
         (R.is_broken source.new))
         (putting (W.contents sink.old) (W.contents sink.new) (W.is_broken sink.new))) }
@@ -186,7 +227,7 @@ pub fn for_each_message<M: Render, R: Source, L: Lookahead<R>, W: Sink>(
     let mut writer = MessageWriter {
         alloc,
         maker,
-        reader: M::reader(alloc),
+        reader: MessageReader::new(alloc),
         written: 0,
     };
     match visit_messages::<MessageWriter<'_, M>, R, L, W, NoReports>(
@@ -206,7 +247,7 @@ pub fn for_each_message<M: Render, R: Source, L: Lookahead<R>, W: Sink>(
 struct MessageWriter<'a, M: Render> {
     alloc: Global,
     maker: &'a M,
-    reader: M::Reader,
+    reader: MessageReader,
     /// The number of octets that were written.
     written: u128,
 }
@@ -238,16 +279,16 @@ impl<M: Render> VisitMessages for MessageWriter<'_, M> {
 
     ghost has_visited = { λ start now from to counts.
         (now.maker ≡ start.maker)
-        × HasWritten (profile_of (M.profile now.maker.now)) (M.text now.maker.now)
+        × HasWritten (profile_of (M.reads now.maker.now)) (M.text now.maker.now)
         (M.is_good now.maker.now) (taking_of from to) (putting_of from to) now.written counts };
 
     ghost ends = { λ start from to counts.
-        PassesAllIn (profile_of (M.profile start.maker.now)) (M.text start.maker.now)
+        PassesAllIn (profile_of (M.reads start.maker.now)) (M.text start.maker.now)
         (M.is_good start.maker.now) from.left to.left from.held to.held
         (all_passed counts) };
 
     ghost fails = { λ start from to error.
-        EndsAfterIn (profile_of (M.profile start.maker.now)) (M.text start.maker.now)
+        EndsAfterIn (profile_of (M.reads start.maker.now)) (M.text start.maker.now)
         (M.is_good start.maker.now) (taking_of from to) (putting_of from to) error };
 
     fn empty_buffer(alloc: Global) -> M::Out {
@@ -268,9 +309,14 @@ impl<M: Render> VisitMessages for MessageWriter<'_, M> {
         buffer: M::Out,
     ) -> Result<Visited<M::Out>, StreamError> {
         let place = counts.next_place();
-        let next = self
-            .maker
-            .next::<R, L>(self.alloc, &mut self.reader, place, source, buffer);
+        let next = render_next::<M, R, L>(
+            self.alloc,
+            self.maker,
+            &mut self.reader,
+            place,
+            source,
+            buffer,
+        );
         let piece = match next {
             Ok(Some(piece)) => piece,
             Ok(None) => return Ok(Visited::End),

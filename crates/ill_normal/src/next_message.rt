@@ -8,7 +8,8 @@ ghost use Rattle.ber_framing.specs.declared.framer.Framing.{Framing};
 ghost use Rattle.ill_normal.specs.Next.{IsNext, TakesPart};
 ghost use Rattle.ill_normal.specs.code.Taking.{end_of, Takes, TakesElement, TakesOctet, TakesUnframed, TakesWhereCut, Took};
 
-use crate::messages::{MessagePlace, Render, Rendered, RenderedMessage};
+use crate::message_reader::MessageReader;
+use crate::messages::{MessagePlace, Render, Rendered, RenderedMessage, render_next};
 use crate::skipping::SkippingErrorKind;
 use ber_core::{Buffered, FromSlice, Lookahead, Source};
 use ber_framing::{Framer, Framing};
@@ -64,7 +65,7 @@ impl TakeError {
 pub fn take_message<M: Render, R: Source, L: Lookahead<R>>(
     alloc: Global,
     maker: &M,
-    reader: &mut M::Reader,
+    reader: &mut MessageReader,
     position: MessagePlace,
     source: &mut R,
     recorded: &mut Vec<u8>,
@@ -72,7 +73,7 @@ pub fn take_message<M: Render, R: Source, L: Lookahead<R>>(
 ) -> Result<Option<NextMessage<M::Out>>, TakeError>
     ensures next { IfOk result (λ found. MatchOption found
         (Consumes (R.left source.old) (R.left source.new) [] × IsAtEnd (R.left source.new))
-        (IsNext (profile_of (M.profile maker.now)) M.Out.is (M.text maker.now position)
+        (IsNext (profile_of (M.reads maker.now)) M.Out.is (M.text maker.now position)
         (M.is_good maker.now) (R.left source.old) (R.left source.new)
         recorded.new.items)) }
     ensures broken { IfErr result (λ e. e ≡ TakeError.Broken → IsTrue (R.is_broken source.new)
@@ -86,8 +87,9 @@ pub fn take_message<M: Render, R: Source, L: Lookahead<R>>(
     let mut buffer = buffer;
     'judged: loop {
         let mut octets = FromSlice::new(recorded.as_slice());
-        let refusal = match maker.next::<FromSlice<'_>, Buffered>(
+        let refusal = match render_next::<M, FromSlice<'_>, Buffered>(
             alloc,
+            maker,
             reader,
             position,
             &mut octets,

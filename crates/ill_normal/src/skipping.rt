@@ -7,6 +7,7 @@ ghost use Rattle.ill_normal.specs.Calls.{taking, putting};
 ghost use Rattle.ill_normal.specs.Skipping.{SkipsToEnd, SkipsAndStops, reporting};
 ghost use Rattle.ill_normal.specs.code.SkippingEnds.{HasSkipped, error_at, skipping_counts, why_of_end};
 
+use crate::message_reader::MessageReader;
 use crate::messages::{Render, Rendered};
 use crate::next_message::{NextMessage, take_message};
 use crate::report::{NotReported, RefusalReport, ReportRefusals};
@@ -77,12 +78,12 @@ pub fn for_each_accepted_message<M: Render, R: Source, L: Lookahead<R>, W: Sink,
     sink: &mut W,
     reports: &mut T,
 ) -> Result<SkippingCounts, SkippingError>
-    ensures through { IfOk result (SkipsToEnd (profile_of (M.profile maker.now)) (M.text maker.now)
+    ensures through { IfOk result (SkipsToEnd (profile_of (M.reads maker.now)) (M.text maker.now)
         (M.is_good maker.now) (taking (R.left source.old) (R.left source.new)
         (R.is_broken source.new))
         (putting (W.contents sink.old) (W.contents sink.new) (W.is_broken sink.new))
         (reporting (T.reported reports.old) (T.reported reports.new))) }
-    ensures stops { IfErr result (SkipsAndStops (profile_of (M.profile maker.now))
+    ensures stops { IfErr result (SkipsAndStops (profile_of (M.reads maker.now))
         (M.text maker.now) (M.is_good maker.now)
         (taking (R.left source.old) (R.left source.new) (R.is_broken source.new))
         (putting (W.contents sink.old) (W.contents sink.new) (W.is_broken sink.new))
@@ -93,7 +94,7 @@ pub fn for_each_accepted_message<M: Render, R: Source, L: Lookahead<R>, W: Sink,
     let mut writer = AcceptedWriter {
         alloc,
         maker,
-        reader: M::reader(alloc),
+        reader: MessageReader::new(alloc),
         recorded: Vec::new(alloc),
         written: 0,
     };
@@ -114,7 +115,7 @@ pub fn for_each_accepted_message<M: Render, R: Source, L: Lookahead<R>, W: Sink,
 struct AcceptedWriter<'a, M: Render> {
     alloc: Global,
     maker: &'a M,
-    reader: M::Reader,
+    reader: MessageReader,
     /// The first octets of a message.
     recorded: Vec<u8>,
     /// The number of octets that were written.
@@ -148,17 +149,17 @@ impl<M: Render> VisitMessages for AcceptedWriter<'_, M> {
 
     ghost has_visited = { λ start now from to counts.
         (now.maker ≡ start.maker)
-        × HasSkipped (profile_of (M.profile now.maker.now)) (M.text now.maker.now)
+        × HasSkipped (profile_of (M.reads now.maker.now)) (M.text now.maker.now)
         (M.is_good now.maker.now) (taking_of from to) (putting_of from to)
         (reporting_of from to) now.written counts };
 
     ghost ends = { λ start from to counts.
-        SkipsToEnd (profile_of (M.profile start.maker.now)) (M.text start.maker.now)
+        SkipsToEnd (profile_of (M.reads start.maker.now)) (M.text start.maker.now)
         (M.is_good start.maker.now) (taking_of from to) (putting_of from to)
         (reporting_of from to) (skipping_counts counts) };
 
     ghost fails = { λ start from to error.
-        SkipsAndStops (profile_of (M.profile start.maker.now)) (M.text start.maker.now)
+        SkipsAndStops (profile_of (M.reads start.maker.now)) (M.text start.maker.now)
         (M.is_good start.maker.now) (taking_of from to) (putting_of from to)
         (reporting_of from to) error };
 

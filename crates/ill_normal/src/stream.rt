@@ -1,5 +1,5 @@
 //! Messages one after another.
-ghost use Rattle.std.specs.Prelude.{◌≡◌, ◌<◌, ◌≤◌, ℕ, List, [], true, length, IfOk, IfErr, IfSome, IsTrue};
+ghost use Rattle.std.specs.Prelude.{◌≡◌, ◌<◌, ◌≤◌, ℕ, List, [], true, false, length, IfOk, IfErr, IfSome, IsTrue};
 ghost use Rattle.std.specs.Io.KnownBytes.{IsAtEnd};
 ghost use Rattle.ber_leaf.specs.Profile.{profile_two};
 ghost use Rattle.ill_schema.specs.Apdu.{Apdu, IsStream, normal_form, normal_form_in};
@@ -9,15 +9,18 @@ ghost use Rattle.ill_refusals.specs.Fault.{Fault};
 ghost use Rattle.ill_refusals.specs.Outcome.{OnlyRefuses};
 ghost use Rattle.ill_normal.specs.Calls.{taking, putting};
 ghost use Rattle.ill_normal.specs.Messages.{part_written};
+ghost use Rattle.ill_normal.specs.ReadMessages.{wants};
 ghost use Rattle.ill_normal.specs.code.Ending.{stream_cause};
 ghost use Rattle.ill_normal.specs.Streamed.{Passes, PassesIn, StopsAfter, StopsAfterIn, AnswersCount, AnswersRefusedAfter, AnswersTooMany};
 
 use crate::failure::{NormalFailure, StreamCause, StreamFailure};
+use crate::message_reader::{ReadMessage, Wants};
 use crate::messages::{MessagePlace, Render, RenderedMessage, StreamErrorKind, for_each_message};
 use ber_core::{Lookahead, Sink, Source, Unbuffered};
-use ill_read::{NormalReader, ReadFailure};
+use ill_read::ReadFailure;
 use ill_schema::Profile;
-use std::alloc::Global;
+use std::alloc::{AllocError, Global};
+use std::mem;
 
 /// Makes the normal form of each message.
 pub struct NormalForms;
@@ -25,30 +28,36 @@ pub struct NormalForms;
 impl Render for NormalForms {
     type Out = Vec<u8>;
 
-    type Reader = NormalReader;
+    ghost reads = { λ _. Named.Two };
 
-    ghost profile = { λ _. Named.Two };
+    ghost needs = { λ _. wants false false };
 
     ghost text = { λ _ p m. normal_form m.apdu };
 
     ghost is_good = { λ _ m. true };
 
-    fn reader(alloc: Global) -> NormalReader {
-        NormalReader::new(alloc)
+    fn profile(&self) -> Profile {
+        Profile::Two
     }
 
-    fn next<R: Source, L: Lookahead<R>>(
+    fn wants(&self) -> Wants {
+        Wants {
+            spelled: false,
+            outline: false,
+        }
+    }
+
+    fn render(
         &self,
         alloc: Global,
-        reader: &mut NormalReader,
-        position: MessagePlace,
-        source: &mut R,
+        place: MessagePlace,
+        message: &mut ReadMessage,
         buffer: Vec<u8>,
-    ) -> Result<Option<RenderedMessage<Vec<u8>>>, ReadFailure> {
+    ) -> Result<RenderedMessage<Vec<u8>>, AllocError> {
         let forms = NormalFormsIn {
             profile: Profile::Two,
         };
-        forms.next::<R, L>(alloc, reader, position, source, buffer)
+        forms.render(alloc, place, message, buffer)
     }
 }
 
@@ -61,35 +70,37 @@ pub struct NormalFormsIn {
 impl Render for NormalFormsIn {
     type Out = Vec<u8>;
 
-    type Reader = NormalReader;
+    ghost reads = { λ forms. forms.profile };
 
-    ghost profile = { λ forms. forms.profile };
+    ghost needs = { λ _. wants false false };
 
     ghost text = { λ forms p m. normal_form_in (profile_of forms.profile) m.apdu };
 
     ghost is_good = { λ _ m. true };
 
-    fn reader(alloc: Global) -> NormalReader {
-        NormalReader::new(alloc)
+    fn profile(&self) -> Profile {
+        self.profile
     }
 
-    fn next<R: Source, L: Lookahead<R>>(
+    fn wants(&self) -> Wants {
+        Wants {
+            spelled: false,
+            outline: false,
+        }
+    }
+
+    fn render(
         &self,
-        alloc: Global,
-        reader: &mut NormalReader,
-        position: MessagePlace,
-        source: &mut R,
+        _alloc: Global,
+        _place: MessagePlace,
+        message: &mut ReadMessage,
         buffer: Vec<u8>,
-    ) -> Result<Option<RenderedMessage<Vec<u8>>>, ReadFailure> {
-        let (_, _) = (alloc, position);
-        let Some(normal) = reader.read_as::<R, L>(self.profile, source, buffer)? else {
-            return Ok(None);
-        };
-        Ok(Some(RenderedMessage {
-            text: normal.octets,
+    ) -> Result<RenderedMessage<Vec<u8>>, AllocError> {
+        Ok(RenderedMessage {
+            text: mem::replace(&mut message.normal, buffer),
             is_good: true,
-            octets: normal.input_len,
-        }))
+            octets: message.len,
+        })
     }
 }
 

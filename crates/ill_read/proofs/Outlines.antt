@@ -48,7 +48,7 @@ use Rattle.ill_read.specs.code.Drafts.{HasBits, HasModuleElement, IsModuleElemen
 use Rattle.ill_grammar.specs.Due.{due_with}
 use Rattle.ill_read.specs.code.OctetDrafts.{AreNormal, AreOctets, AreWritten, IsBehind, innermost, written}
 use Rattle.ill_grammar.specs.Cells.{is_any}
-use Rattle.ill_read.specs.code.Outlines.{AreFronts, ArePreceded, AreOutlined, AreOwn, AreOwnAs, AreAbsent, HasPreceding, HasOutline, HasAbsent, HasEnding, IsPreceded, alternative_marks, first_marks, foreign_marks, held_marks, is_open_type, last_marks, late_marks, start_marks, text_marks}
+use Rattle.ill_read.specs.code.Outlines.{AreFronts, ArePreceded, AreOutlined, AreOwn, AreOwnAs, AreAbsent, HasPreceding, HasMarksAndForm, HasAbsent, HasEnding, IsPreceded, alternative_marks, first_marks, foreign_marks, held_marks, is_open_type, last_marks, late_marks, start_marks, text_marks}
 use Rattle.ill_grammar.specs.declared.due.Next.{Next}
 use Rattle.ill_grammar.specs.declared.due.Next.TheVariants.{Rows, Inner, Items, Either, Segments, BitSegments, Foreigns, Nothing, Root}
 use Rattle.ill_grammar.specs.declared.due.Slot.{Slot}
@@ -543,11 +543,11 @@ top_closed Two = refl
 top_closed Module = refl
 
 pub outline_ended : (p : Named) (old new : OutlineDraft) (a : Apdu) (b : List ℕ) (n : ℕ) (within : Bool) → HoldsApdu p AreOutlined old a b → new.marks.items ≡ old.marks.items
-    → HasEnded p AreNormal new.octets a n within → HasEnded p (λ q draft x m. HasOutline draft x) new a n within
+    → HasEnded p AreNormal new.octets a n within → HasEnded p HasMarksAndForm new a n within
 outline_ended p old new a b n true h same has =
     let f = h.0.are in
     let marks = same ∙ h.0.joined ∙ append-nil h.0.front ∙ f.3 ∙ ap (λ ms. ms ++ f.2) (f.4 ∙ f.6) in
-    (subst (IsMarked (choice_of a)) (sym marks) (only_entry (choice_of a) f.2 (subst (λ x. AreOwnAs x (Some (choice_of a) ∷ []) f.2) (top_closed p) f.5)), has.1)
+    ((subst (IsMarked (choice_of a)) (sym marks) (only_entry (choice_of a) f.2 (subst (λ x. AreOwnAs x (Some (choice_of a) ∷ []) f.2) (top_closed p) f.5)), has.0), has.1)
 outline_ended p old new a b n false h same has = has
 
 -- ---- the calls

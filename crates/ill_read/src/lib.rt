@@ -41,7 +41,7 @@ pub use normal::{
     NormalForm, NormalReader, decode_normal, decode_normal_as, read_normal_as, read_normal_in,
     read_normal_peeking, read_normal_recording_peeking,
 };
-pub use outlined::{OutlineReader, OutlinedMessage, read_outline_as, read_outline_in};
+pub use outlined::{OutlineReader, OutlinedMessage, read_outline_as};
 pub use read::{
     decode, read_message, read_message_peeking, read_recording, read_recording_peeking,
 };

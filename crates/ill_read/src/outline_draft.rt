@@ -9,7 +9,7 @@ ghost use Rattle.ill_grammar.specs.Standing.{top_level};
 ghost use Rattle.ill_read.specs.code.Drafts.{rows_before, rows_left};
 ghost use Rattle.ill_grammar.specs.declared.outline.Mark.{Mark};
 ghost use Rattle.ill_grammar.specs.Cells.{is_any};
-ghost use Rattle.ill_read.specs.code.Outlines.{AreOutlined, HasPreceding, HasOutline, HasAbsent, HasEnding, alternative_marks, first_marks, held_marks, late_marks, start_marks};
+ghost use Rattle.ill_read.specs.code.Outlines.{AreOutlined, HasPreceding, HasMarksAndForm, HasAbsent, HasEnding, alternative_marks, first_marks, held_marks, late_marks, start_marks};
 
 use crate::draft::Draft;
 use crate::failure::Failure;
@@ -29,14 +29,14 @@ pub struct OutlineDraft {
 }
 
 impl OutlineDraft {
-    /// Holds nothing, in the memory of `buffer`, whose marks are forgotten.
-    pub fn new(alloc: Global, buffer: Outline) -> OutlineDraft
+    /// Holds nothing, in the memory of an outline and of a normal form, which are forgotten.
+    pub fn new(alloc: Global, outline: Outline, normal: Vec<u8>) -> OutlineDraft
         ensures { (p : Named) → AreOutlined result (top_level p ∷ []) [] }
     {
-        let (mut marks, octets) = buffer.into_parts();
+        let mut marks = outline.into_marks();
         marks.clear();
         OutlineDraft {
-            octets: NormalFormDraft::new(alloc, octets),
+            octets: NormalFormDraft::new(alloc, normal),
             marks,
         }
     }
@@ -64,12 +64,13 @@ impl OutlineDraft {
         }
     }
 
-    /// The result of the draft.
-    pub fn into_outline(self) -> Outline
-        ensures { result.marks.items ≡ self.marks.items }
+    /// The marks, and the normal form.
+    pub fn into_parts(self) -> (Vec<Mark>, Vec<u8>)
+        ensures marks { result.0 ≡ self.marks }
+        ensures octets { result.1.items ≡ self.octets.octets }
     {
         let OutlineDraft { octets, marks } = self;
-        Outline::from_parts(marks, octets.into_octets())
+        (marks, octets.into_octets())
     }
 }
 
@@ -212,7 +213,7 @@ impl Draft for OutlineDraft {
 
     ghost holds = { λ draft levels text. AreOutlined draft levels text };
 
-    ghost has = { λ p draft a octets. HasOutline draft a };
+    ghost has = { λ p draft a octets. HasMarksAndForm p draft a octets };
 
     #[inline(always)]
     fn open(

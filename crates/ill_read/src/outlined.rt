@@ -1,24 +1,27 @@
-//! Messages as their outlines.
-ghost use Rattle.std.specs.Prelude.{◌≡◌, ◌≤◌};
+//! Messages as their outlines, beside their normal forms.
+ghost use Rattle.std.specs.Prelude.{◌≡◌, ◌≤◌, ◌++◌};
+ghost use Rattle.std.specs.Io.KnownBytes.{Appends};
 ghost use Rattle.ill_schema.specs.Profiles.{profile_of};
-ghost use Rattle.ill_read.specs.Answers.{ReadsNext, ReadsNextIn};
-ghost use Rattle.ill_read.specs.Outlined.{IsOutlined, IsOutlinedIn};
+ghost use Rattle.ill_read.specs.Answers.{ReadsNextIn};
+ghost use Rattle.ill_read.specs.Outlined.{IsOutlinedIn};
 
 use crate::failure::ReadFailure;
 use crate::outline_draft::OutlineDraft;
 use crate::read::read_draft;
 use crate::reader::Reader;
-use crate::recorder::NoRecorder;
+use crate::recorder::{NoRecorder, Recorder};
 use ber_core::{Lookahead, Source};
 use ill_grammar::Outline;
 use ill_schema::Profile;
 use std::alloc::Global;
 
-/// The outline of a message that was read.
+/// A message that was read: its outline and its normal form.
 #[derive(Drop)]
 pub struct OutlinedMessage {
     /// Its value, as marks.
     pub outline: Outline,
+    /// Its normal form.
+    pub normal: Vec<u8>,
     /// The number of octets that the message had in the input.
     pub input_len: u32,
 }
@@ -28,9 +31,9 @@ pub struct OutlinedMessage {
 ///
 /// ```text
 /// let mut reader = OutlineReader::new(alloc);
-/// while let Some(read) = reader.read::<R, L>(source, buffer)? {
+/// while let Some(read) = reader.read_as::<R, L>(Profile::Two, source, outline, normal)? {
 ///     show(read.outline.marks())?;
-///     buffer = read.outline;
+///     (outline, normal) = (read.outline, read.normal);
 /// }
 /// ```
 #[derive(Drop)]
@@ -50,30 +53,13 @@ impl OutlineReader {
             reader: Reader::new(
                 alloc,
                 Profile::Two,
-                OutlineDraft::new(alloc, Outline::new(alloc)),
+                OutlineDraft::new(alloc, Outline::new(alloc), Vec::new(alloc)),
             ),
         }
     }
 
-    /// Reads the outline of the message at the front of what is left, as [`read_outline_in`] does. What was read before makes no difference.
-    ///
-    /// # Errors
-    ///
-    /// Those of [`read_message`](crate::read_message).
-    #[inline(always)]
-    pub fn read<R: Source, L: Lookahead<R>>(
-        &mut self,
-        source: &mut R,
-        buffer: Outline,
-    ) -> Result<Option<OutlinedMessage>, ReadFailure>
-        ensures next { ReadsNext (R.left source.old) (R.left source.new) (R.is_broken source.old)
-            (R.is_broken source.new) IsOutlined result }
-        ensures few { open_count self.new.reader ≤ 32 }
-    {
-        self.read_as::<R, L>(Profile::Two, source, buffer)
-    }
-
-    /// Reads an outline as [`OutlineReader::read`] does, of a message in the profile.
+    /// Reads the outline of the message in the profile at the front of what is left, in the memory of an outline and of a normal form, which
+    /// are forgotten. What was read before makes no difference. An outline takes two to four octets of memory for each octet of most messages.
     ///
     /// # Errors
     ///
@@ -83,20 +69,59 @@ impl OutlineReader {
         &mut self,
         profile: Profile,
         source: &mut R,
-        buffer: Outline,
+        outline: Outline,
+        normal: Vec<u8>,
     ) -> Result<Option<OutlinedMessage>, ReadFailure>
         ensures next { ReadsNextIn (profile_of profile) (R.left source.old) (R.left source.new)
             (R.is_broken source.old) (R.is_broken source.new)
             (IsOutlinedIn (profile_of profile)) result }
         ensures few { open_count self.new.reader ≤ 32 }
     {
+        self.read_into::<R, L, NoRecorder>(profile, source, outline, normal, &mut NoRecorder)
+    }
+
+    /// Reads an outline as [`OutlineReader::read_as`] does, and appends the octets that the message had to `recorded`.
+    ///
+    /// # Errors
+    ///
+    /// Those of [`read_message`](crate::read_message), in the profile; some octets may have been recorded then.
+    #[inline(always)]
+    pub fn read_recording_as<R: Source, L: Lookahead<R>>(
+        &mut self,
+        profile: Profile,
+        source: &mut R,
+        outline: Outline,
+        normal: Vec<u8>,
+        recorded: &mut Vec<u8>,
+    ) -> Result<Option<OutlinedMessage>, ReadFailure>
+        ensures next { ReadsNextIn (profile_of profile) (R.left source.old) (R.left source.new)
+            (R.is_broken source.old) (R.is_broken source.new)
+            (λ o octets. IsOutlinedIn (profile_of profile) o octets
+            × (recorded.new.items ≡ recorded.old.items ++ octets)) result }
+        ensures few { open_count self.new.reader ≤ 32 }
+    {
+        self.read_into::<R, L, Vec<u8>>(profile, source, outline, normal, recorded)
+    }
+
+    /// Reads an outline in the memory of an outline and of a normal form, and hands the octets that the message had to what keeps them.
+    #[inline(always)]
+    fn read_into<R: Source, L: Lookahead<R>, K: Recorder>(
+        &mut self,
+        profile: Profile,
+        source: &mut R,
+        outline: Outline,
+        normal: Vec<u8>,
+        recorder: &mut K,
+    ) -> Result<Option<OutlinedMessage>, ReadFailure>
+        ensures next { ReadsNextIn (profile_of profile) (R.left source.old) (R.left source.new)
+            (R.is_broken source.old) (R.is_broken source.new)
+            (λ o octets. IsOutlinedIn (profile_of profile) o octets
+            × Appends (K.recorded recorder.old) (K.recorded recorder.new) octets) result }
+        ensures few { open_count self.new.reader ≤ 32 }
+    {
         self.reader
-            .restart(profile, OutlineDraft::new(self.alloc, buffer));
-        match read_draft::<OutlineDraft, R, L, NoRecorder>(
-            &mut self.reader,
-            source,
-            &mut NoRecorder,
-        ) {
+            .restart(profile, OutlineDraft::new(self.alloc, outline, normal));
+        match read_draft::<OutlineDraft, R, L, K>(&mut self.reader, source, recorder) {
             Ok(Some(read)) => Ok(Some(self.outlined(read))),
             Ok(None) => Ok(None),
             Err(failure) => Err(failure),
@@ -108,33 +133,20 @@ impl OutlineReader {
     fn outlined(&mut self, input_len: u32) -> OutlinedMessage
         ensures outline { result.outline.marks.items ≡ self.old.reader.path.draft.marks.items }
         ensures input_len { result.input_len ≡ input_len }
+        ensures normal { result.normal.items ≡ self.old.reader.path.draft.octets.octets }
     {
-        let blank = OutlineDraft::new(self.alloc, Outline::new(self.alloc));
+        let blank = OutlineDraft::new(self.alloc, Outline::new(self.alloc), Vec::new(self.alloc));
+        let (marks, normal) = self.reader.exchange_draft(blank).into_parts();
         OutlinedMessage {
-            outline: self.reader.exchange_draft(blank).into_outline(),
+            outline: Outline::of_marks(marks),
+            normal,
             input_len,
         }
     }
 }
 
-/// Reads the outline of the message at the front of what is left, as [`read_message_peeking`](crate::read_message_peeking) reads the message, in
-/// the memory of `buffer`, whose marks are forgotten. An outline takes two to four octets of memory for each octet of most messages.
-///
-/// # Errors
-///
-/// Those of [`read_message`](crate::read_message).
-pub fn read_outline_in<R: Source, L: Lookahead<R>>(
-    alloc: Global,
-    source: &mut R,
-    buffer: Outline,
-) -> Result<Option<OutlinedMessage>, ReadFailure>
-    ensures { ReadsNext (R.left source.old) (R.left source.new) (R.is_broken source.old)
-        (R.is_broken source.new) IsOutlined result }
-{
-    OutlineReader::new(alloc).read::<R, L>(source, buffer)
-}
-
-/// Reads an outline as [`read_outline_in`] does, of a message in the profile.
+/// Reads the outline of the message in the profile at the front of what is left, as
+/// [`read_message_peeking`](crate::read_message_peeking) reads the message, in the memory of `buffer`, whose marks are forgotten.
 ///
 /// ```text
 /// let outlined = read_outline_as::<_, Unbuffered>(alloc, Profile::Module, source, buffer)?;
@@ -153,5 +165,5 @@ pub fn read_outline_as<R: Source, L: Lookahead<R>>(
         (R.is_broken source.old) (R.is_broken source.new)
         (IsOutlinedIn (profile_of profile)) result }
 {
-    OutlineReader::new(alloc).read_as::<R, L>(profile, source, buffer)
+    OutlineReader::new(alloc).read_as::<R, L>(profile, source, buffer, Vec::new(alloc))
 }

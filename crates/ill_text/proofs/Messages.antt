@@ -10,7 +10,10 @@ use Rattle.ill_schema.proofs.Streams.{parts_accept, spells_some}
 use Rattle.ill_grammar.specs.Outline.{IsOutlineOf}
 use Rattle.ill_read.specs.Outlined.{IsOutlinedIn}
 use Rattle.ill_read.specs.declared.outlined.OutlinedMessage.{OutlinedMessage}
-use Rattle.ill_text.specs.TextOf.{IsSpellingIn}
+
+-- the octets spell an APDU in the profile
+abbrev pub IsSpelling : Profile → List ℕ → Type 0
+IsSpelling p octets = (a : Apdu) × SpellsApdu p a octets
 
 front_of : (s b : List ℕ) (left : Option (List ℕ)) → Consumes (Some s) left b → (rest : List ℕ) × (s ≡ b ++ rest)
 front_of s b (Some rest) h = (rest, h)
@@ -27,9 +30,9 @@ pub message_spells : (a : Apdu) → FitsApdu profile_two a → length (normal_fo
 message_spells a fit le = normal_spells profile_two a fit (omega arith) le
 
 -- octets that spell an APDU are some
-pub spelling_is_some : (p : Profile) (s left : List ℕ) → IsSpellingIn p s → Consumes (Some s) (Some left) [] → IsAtEnd (Some left) → ⊥
+pub spelling_is_some : (p : Profile) (s left : List ℕ) → IsSpelling p s → Consumes (Some s) (Some left) [] → IsAtEnd (Some left) → ⊥
 spelling_is_some p s left spelling taken end = spells_some p spelling.0 s spelling.1.encodes (taken ∙ end)
 
 -- and they are accepted
-pub spelling_is_accepted : (p : Profile) (s : List ℕ) → (spelling : IsSpellingIn p s) → Accepts p s spelling.0 (length s)
+pub spelling_is_accepted : (p : Profile) (s : List ℕ) → (spelling : IsSpelling p s) → Accepts p s spelling.0 (length s)
 spelling_is_accepted p s spelling = parts_accept p s spelling.0 s [] (sym (append-nil s)) spelling.1

@@ -1,19 +1,10 @@
 -- What the text of a message is.
 use Rattle.std.specs.Prelude.{◌≡◌, ℕ, ◌^◌, ◌<◌, List, length}
-use Rattle.ber_leaf.specs.Profile.{Profile, profile_two}
-use Rattle.ill_schema.specs.Apdu.{Apdu, SpellsApdu}
+use Rattle.ill_schema.specs.Apdu.{Apdu}
 use Rattle.ill_schema.specs.Profiles.{profile_of}
 use Rattle.ill_grammar.specs.Outline.{IsOutlineOf}
 use Rattle.ill_text.specs.Shown.{shown_text_in}
 use Rattle.ill_text.specs.declared.text.Text.{Text}
-
--- the octets spell an APDU in the profile
-abbrev pub IsSpellingIn : Profile → List ℕ → Type 0
-IsSpellingIn p octets = (a : Apdu) × SpellsApdu p a octets
-
--- the same in profile 2
-abbrev pub IsSpelling : List ℕ → Type 0
-IsSpelling octets = IsSpellingIn profile_two octets
 
 -- these octets are the text
 abbrev pub IsTextOf : Text → List ℕ → Type 0

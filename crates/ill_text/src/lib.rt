@@ -18,5 +18,5 @@ mod text;
 mod text_sink;
 
 pub use laws::lifted_texts_are_the_same;
-pub use message::{outline_as, outline_of, show_text};
+pub use message::show_text;
 pub use text::Text;

@@ -42,8 +42,8 @@ impl Text {
     /// # Examples
     ///
     /// ```
-    /// let outline = outline_as(&mut reader, Profile::Module, &octets, Outline::new(alloc))?;
-    /// let text = Text::new_as(Profile::Module, 1, outline).octets(alloc)?;
+    /// let read = reader.read_as::<R, L>(Profile::Module, &mut source, outline, normal)?;
+    /// let text = Text::new_as(Profile::Module, 1, read.outline).octets(alloc)?;
     /// ```
     pub fn new_as(profile: Profile, number: u32, outline: Outline) -> Text
         ensures { (a : Apdu) (octets : List ℕ) → SpellsApdu (profile_of profile) a octets

@@ -1,4 +1,5 @@
 -- What the draft of an outline holds of the elements that have been read.
+use Rattle.ill_tables.specs.declared.profile.Profile.{Profile as Named}
 use Rattle.std.specs.Prelude.{◌≡◌, ℕ, Bool, true, false, List, [], ◌∷◌, ◌++◌, drop, map, Option, Some, None, slice_get}
 use Rattle.ber_tree.specs.Identifier.{Tag}
 use Rattle.ill_tables.specs.declared.part.PartId.{PartId}
@@ -12,7 +13,7 @@ use Rattle.ill_grammar.specs.Cells.{is_any}
 use Rattle.ill_grammar.specs.Due.{IsDueIn}
 use Rattle.ill_read.specs.code.Drafts.{rows_before, rows_left}
 use Rattle.ill_grammar.specs.Due.{due_with}
-use Rattle.ill_read.specs.code.OctetDrafts.{AreOctets, innermost}
+use Rattle.ill_read.specs.code.OctetDrafts.{AreOctets, innermost, AreNormal}
 use Rattle.ill_read.specs.declared.normal_form_draft.NormalFormDraft.{NormalFormDraft}
 use Rattle.ill_schema.specs.Content.{Content}
 use Rattle.ill_grammar.specs.declared.due.Next.{Next}
@@ -135,3 +136,7 @@ pub record AreOutlined (draft : OutlineDraft) (levels : List Level) (text : List
 -- the marks are the APDU's
 abbrev pub HasOutline : OutlineDraft → Apdu → Type 0
 HasOutline draft a = IsMarked (choice_of a) draft.marks.items
+
+-- and its octets are its normal form
+abbrev pub HasMarksAndForm : Named → OutlineDraft → Apdu → ℕ → Type 0
+HasMarksAndForm p draft a n = HasOutline draft a × AreNormal p draft.octets a n

@@ -10,11 +10,11 @@ ghost use Rattle.ill_normal.specs.Messages.{AreSpelled, Spelling, spelling};
 
 use ber_core::{Buffered, FromSlice, Pieces, Room, Sink, Source, Unbuffered};
 use ill_normal::{
-    Checked, Failure, Message, MessagePlace, NormalFailure, NormalForm, NormalForms, NormalReader,
-    ReadFailure, Refusal, Render, RenderedMessage, Side, StreamCounts, StreamError, StreamFailure,
-    check_one, check_one_in, decode, decode_normal, for_each_message, is_normal, normalise,
-    normalise_stream, read_message, read_message_peeking, read_normal_in, read_normal_peeking,
-    read_normal_recording_peeking, same_message,
+    Checked, Failure, Message, MessagePlace, MessageReader, NormalFailure, NormalForm, NormalForms,
+    NormalReader, ReadFailure, Refusal, Render, RenderedMessage, Side, StreamCounts, StreamError,
+    StreamFailure, check_one, check_one_in, decode, decode_normal, for_each_message, is_normal,
+    normalise, normalise_stream, read_message, read_message_peeking, read_normal_in,
+    read_normal_peeking, read_normal_recording_peeking, render_next, same_message,
 };
 use std::alloc::Global;
 
@@ -171,20 +171,20 @@ fn kept_normal_forms_have_nothing_of_the_room(
 /// Nothing that is in the buffer, or that the reader read before, comes into what is written of a message, whatever is made of it.
 fn pieces_have_nothing_of_the_room<M: Render>(
     maker: &M,
-    reader: &mut M::Reader,
+    reader: &mut MessageReader,
     position: MessagePlace,
     source: &mut Pieces,
     buffer: M::Out,
     alloc: Global,
 ) -> Result<Option<RenderedMessage<M::Out>>, ReadFailure>
-    ensures { (a : Apdu) (n : ℕ) → Accepts (profile_of (M.profile maker.now)) source.old.octets a n
+    ensures { (a : Apdu) (n : ℕ) → Accepts (profile_of (M.reads maker.now)) source.old.octets a n
         → IfOk result (λ found. elim found as (λ _. Type 0) [
           | Some x ↦ M.Out.is x.text (M.text maker.now position
               (spelling a (take n source.old.octets))) × (x.octets ≡ n)
           | None ↦ ⊥
         ]) }
 {
-    maker.next::<Pieces, Unbuffered>(alloc, reader, position, source, buffer)
+    render_next::<M, Pieces, Unbuffered>(alloc, maker, reader, position, source, buffer)
 }
 
 /// The message at the front is checked, and the result describes it.

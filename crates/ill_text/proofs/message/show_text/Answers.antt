@@ -16,4 +16,4 @@ returns c =
     let a = apdu_of c.args.message.now in
     let spells = message_spells a c.body.ensures.fits c.body.ensures.within in
     let outline = c.in_ok-outline.ensures a (subst (SpellsApdu profile_two a) (sym (c.deref.ensures.value ∙ c.in_ok-normal.ensures)) spells) in
-    c.octets.ensures (shown_text c.args.number a) (c.new-2.ensures a (normal_form a) spells outline)
+    c.octets.ensures (shown_text c.args.number a) (c.new.ensures a (normal_form a) spells outline)

@@ -4,9 +4,9 @@ use Rattle.ill_dump.proofs.run.StoppingDumperVisitMessages.visit.Goals as goal
 
 pub returns-in_ok-put_message-in-Ok-Some-clause-visits : goal.returns-in_ok-put_message-in-Ok-Some-clause-visits
 returns-in_ok-put_message-in-Ok-Some-clause-visits g c = λ start.
-    let message = rw c.in-Ok-Some.field-0-is at c.in-Ok-Some.ensures.next.message in
+    let message = rw c.in-Ok-Some.field-0-is at c.in-Ok-Some.ensures.message in
     record {
-      next = λ from h. (h.0, dumped_more _ from.left _ _ from.held _ _ _ _ _ _ c.args.counts _ _ _ true h.1 message.1 message.2.0.1 c.in_ok-put_message-in-Ok-Some.ensures.begins);
+      next = λ from h. (h.0, dumped_more _ from.left _ _ from.held _ _ _ _ _ _ c.args.counts _ _ _ true h.1 message.1 message.2.1.spells c.in_ok-put_message-in-Ok-Some.ensures.begins);
       last = λ from h. tt;
       stops = λ from h. tt;
     }
@@ -14,7 +14,7 @@ returns-in_ok-put_message-in-Ok-Some-clause-visits g c = λ start.
 pub returns-in-Err-clause-visits : goal.returns-in-Err-clause-visits
 returns-in-Err-clause-visits g c = λ start.
     let put = c.put_failure.ensures in
-    let next = c.in-Err.ensures.next in
+    let next = c.in-Err.ensures in
     record {
       next = λ from h. tt;
       last = λ from h. tt;

@@ -62,9 +62,9 @@ returns-in-Ok-report-clause-visits g c = λ start.
     let held' = g.W.Sink.contents c.args.sink.now in
     let sink_broken = g.W.Sink.is_broken c.args.sink.now in
     let reported' = g.T.ReportRefusals.reported c.report.new.self in
-    let Next : Streams → MessageCounts → Type 0 = λ from k. (now ≡ start.maker) × HasSkipped (profile_of (g.M.Render.profile now.now)) (g.M.Render.text now.now) (g.M.Render.is_good now.now)
+    let Next : Streams → MessageCounts → Type 0 = λ from k. (now ≡ start.maker) × HasSkipped (profile_of (g.M.Render.reads now.now)) (g.M.Render.text now.now) (g.M.Render.is_good now.now)
     (taking from.left left' broken) (putting from.held held' sink_broken) (reporting from.reported reported') c.args.self.now.written k in
-    let Last : Streams → MessageCounts → Type 0 = λ from k. SkipsToEnd (profile_of (g.M.Render.profile start.maker.now)) (g.M.Render.text start.maker.now) (g.M.Render.is_good start.maker.now)
+    let Last : Streams → MessageCounts → Type 0 = λ from k. SkipsToEnd (profile_of (g.M.Render.reads start.maker.now)) (g.M.Render.text start.maker.now) (g.M.Render.is_good start.maker.now)
     (taking from.left left' broken) (putting from.held held' sink_broken) (reporting from.reported reported') (skipping_counts k) in
     record {
       next = λ from h. on_next (Next from) c.args.counts _ _ c.in-Refused.end bad.3
@@ -78,7 +78,7 @@ pub report-requires : goal.report-requires
 report-requires g c =
     let next = rw c.in-Ok-Some.field-0-is at c.in-Ok-Some.ensures.next in
     let refused = rw c.in-Refused.is at next in
-    rw (c.new-report.ensures, c.as_slice.ensures.value) (comes_with (g.M.Render.profile c.args.self.now.maker.now) _ _ _ c.next_place-place.result c.in-Refused.refusal c.in-Refused.end refused)
+    rw (c.new-report.ensures, c.as_slice.ensures.value) (comes_with (g.M.Render.reads c.args.self.now.maker.now) _ _ _ c.next_place-place.result c.in-Refused.refusal c.in-Refused.end refused)
 
 pub returns-in-Err-report-clause-visits : goal.returns-in-Err-report-clause-visits
 returns-in-Err-report-clause-visits g c = λ start.

@@ -8,9 +8,9 @@ use Rattle.test_messages.proofs.normal.contracts.pieces_have_nothing_of_the_room
 pub returns : goal.returns
 returns g c a n h =
     let s = c.args.source.now.octets in
-    let p = profile_of (g.M.Render.profile c.args.maker.now) in
+    let p = profile_of (g.M.Render.reads c.args.maker.now) in
     let text = g.M.Render.text c.args.maker.now c.args.position in
-    front p (MakesIn p _ text (g.M.Render.is_good c.args.maker.now)) _ s c.next.new.source.octets _ _ a n c.next.result
+    front p (MakesIn p _ text (g.M.Render.is_good c.args.maker.now)) _ s c.render_next.new.source.octets _ _ a n c.render_next.result
     (λ x b is. (is.apdu, is.spells))
     (λ x is size rest. (rw (spells_once is.apdu a (take n s) is.spells h.1) at is.text, is.size ∙ size))
-    h c.next.ensures
+    h c.render_next.ensures

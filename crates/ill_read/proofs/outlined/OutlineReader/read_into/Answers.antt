@@ -1,14 +1,15 @@
-use Rattle.std.proofs.Common.{◌≡◌, ◌∙◌, ℕ, List, Ok, None, length, subst, sym}
+use Rattle.std.proofs.Common.{◌≡◌, ◌∙◌, ℕ, List, Ok, length, subst, sym}
 use Rattle.std.specs.Io.KnownBytes.{Appends}
 use Rattle.ill_schema.specs.Apdu.{choice_of}
 use Rattle.ill_schema.specs.Profiles.{profile_of}
 use Rattle.ill_read.specs.Answers.{ReadsNextIn}
 use Rattle.ill_grammar.specs.Outline.{IsMarked}
 use Rattle.ill_read.specs.Outlined.{IsOutlinedIn}
-use Rattle.ill_read.specs.code.Outlines.{HasOutline}
+use Rattle.ill_read.specs.code.Outlines.{HasMarksAndForm}
 use Rattle.ill_read.specs.code.ReaderCode.{IsReadOf}
+use Rattle.ill_read.specs.declared.outlined.OutlinedMessage.{OutlinedMessage}
 use Rattle.ill_read.proofs.NextRead.{reads_as, reads_fails, reads_none}
-use Rattle.ill_read.proofs.outlined.OutlineReader.read_as.Goals as goal
+use Rattle.ill_read.proofs.outlined.OutlineReader.read_into.Goals as goal
 
 pub read_draft-requires : goal.read_draft-requires
 read_draft-requires g c = record { takes = tt }
@@ -16,15 +17,17 @@ read_draft-requires g c = record { takes = tt }
 pub returns-in-Ok-Some-clause-next : goal.returns-in-Ok-Some-clause-next
 returns-in-Ok-Some-clause-next g c =
     let p = c.args.profile in
-    let Is : ℕ → List ℕ → Type 0 = λ n octets. (n ≡ length octets) × IsReadOf p (λ q draft a octets. HasOutline draft a) c.read_draft.new.reader.path.draft octets × Appends None None octets in
+    let Is : ℕ → List ℕ → Type 0 = λ n octets. (n ≡ length octets) × IsReadOf p HasMarksAndForm c.read_draft.new.reader.path.draft octets × Appends (g.K.Recorder.recorded c.args.recorder.now) (g.K.Recorder.recorded c.read_draft.new.recorder) octets in
+    let Js : OutlinedMessage → List ℕ → Type 0 = λ o octets. IsOutlinedIn (profile_of p) o octets × Appends (g.K.Recorder.recorded c.args.recorder.now) (g.K.Recorder.recorded c.read_draft.new.recorder) octets in
     let was = subst (λ o. ReadsNextIn (profile_of p) {T = ℕ} (g.R.Source.left c.args.source.now) (g.R.Source.left c.read_draft.new.source) (g.R.Source.is_broken c.args.source.now) (g.R.Source.is_broken c.read_draft.new.source) Is (Ok o)) c.in-Ok-Some.field-0-is
     (c.in-Ok-Some.ensures p (c.restart.ensures.«open» (c.new.ensures p))) in
-    reads_as Is (IsOutlinedIn (profile_of p)) _ _ _ _ c.in-Ok-Some.read c.outlined.result (λ b h. (h.1.0, h.1.1, subst (IsMarked (choice_of h.1.0)) (sym c.outlined.ensures.outline) h.1.2, c.outlined.ensures.input_len ∙ h.0)) was
+    reads_as Is Js _ _ _ _ c.in-Ok-Some.read c.outlined.result
+    (λ b h. ((h.1.0, h.1.1, subst (IsMarked (choice_of h.1.0)) (sym c.outlined.ensures.outline) h.1.2.0, c.outlined.ensures.input_len ∙ h.0, c.outlined.ensures.normal ∙ h.1.2.1), h.2)) was
 
 pub returns-in-Ok-None-clause-next : goal.returns-in-Ok-None-clause-next
 returns-in-Ok-None-clause-next g c =
     let p = c.args.profile in
-    let Is : ℕ → List ℕ → Type 0 = λ n octets. (n ≡ length octets) × IsReadOf p (λ q draft a octets. HasOutline draft a) c.read_draft.new.reader.path.draft octets × Appends None None octets in
+    let Is : ℕ → List ℕ → Type 0 = λ n octets. (n ≡ length octets) × IsReadOf p HasMarksAndForm c.read_draft.new.reader.path.draft octets × Appends (g.K.Recorder.recorded c.args.recorder.now) (g.K.Recorder.recorded c.read_draft.new.recorder) octets in
     let was = subst (λ o. ReadsNextIn (profile_of p) {T = ℕ} (g.R.Source.left c.args.source.now) (g.R.Source.left c.read_draft.new.source) (g.R.Source.is_broken c.args.source.now) (g.R.Source.is_broken c.read_draft.new.source) Is (Ok o)) c.in-Ok-None.field-0-is
     (c.in-Ok-None.ensures p (c.restart.ensures.«open» (c.new.ensures p))) in
     reads_none Is _ _ _ _ _ was
