@@ -265,7 +265,7 @@ COLUMNS = [
         ("ill_json", "result_line"),
         ("ill_json", "refused_line"),
     ]),
-    ("L", "The program's lines", [("ill_lines", "run_lines_as")]),
+    ("L", "The program's lines", [("ill_commands", "run_lines_as")]),
     ("O", "From words to plan and exit status", [
         ("ill_args", "order"),
         ("ill_cli", "Plan::new"),
@@ -306,7 +306,7 @@ READING = "Rattle.ber_core.specs.Reading"
 LAWS = {(READING, name): ("ber_core", "headers_are_read") for name in ("class_of", "tagged", "read_digits", "read_number", "read_identifier", "read_length")}
 FEEDING = "Rattle.ill_read.specs.Feeding"
 LAWS.update({(FEEDING, name): ("ill_read", "decoders_are_apart") for name in ("IsOpenAt", "IsOpenAfter", "IsWholeWith", "HasFailedWith")})
-PRODUCT = "ber_tree ber_core ber_framing ber_leaf ill_tables ill_schema ill_refusals ill_inputs ill_read ill_write ill_normal ill_marks ill_text ill_json ill_commands ill_walk ill_dump ill_lines ill_args ill_files ill_batch ill_cli ill_c ill_parts ill_apdu".split()
+PRODUCT = "ber_tree ber_core ber_framing ber_leaf ill_tables ill_schema ill_refusals ill_inputs ill_read ill_write ill_normal ill_text ill_json ill_commands ill_walk ill_dump ill_args ill_files ill_batch ill_cli ill_c ill_parts ill_apdu".split()
 
 
 def columns():

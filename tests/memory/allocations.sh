@@ -42,7 +42,7 @@ add_program() {
     done
 }
 
-add_program allocations_calls "ber_core ber_leaf ill_schema ill_read ill_write ill_normal ill_text ill_commands ill_lines test_support"
+add_program allocations_calls "ber_core ber_leaf ill_schema ill_read ill_write ill_normal ill_text ill_commands test_support"
 # The calls in the module profile are those of a test in the gate.
 cp test_commands/src/memory/module.rt "$copy/crates/allocations_calls/src" || exit 2
 add_program allocations_typed "ber_leaf ill_schema ill_parts ill_apdu test_support"

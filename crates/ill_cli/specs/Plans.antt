@@ -6,8 +6,8 @@ use Rattle.ill_commands.specs.declared.job.JobOptions.{JobOptions}
 use Rattle.ill_walk.specs.declared.markup.DumpFormat.{DumpFormat}
 use Rattle.ill_walk.specs.declared.markup.DumpFormat.TheVariants.{Html, Text}
 use Rattle.ill_dump.specs.declared.run.DumpOptions.{DumpOptions}
-use Rattle.ill_lines.specs.Lines.{line_options}
-use Rattle.ill_lines.specs.declared.job.LineJob.{LineJob}
+use Rattle.ill_commands.specs.Lines.{line_options}
+use Rattle.ill_commands.specs.declared.lines.job.LineJob.{LineJob}
 use Rattle.ill_args.specs.declared.orders.FileJob.{FileJob}
 use Rattle.ill_args.specs.declared.orders.Order.{Order}
 use Rattle.ill_args.specs.declared.orders.Task.{Task}

@@ -11,16 +11,18 @@ ghost use Rattle.ill_inputs.specs.declared.verdict.Verdict.{Verdict};
 ghost use Rattle.ill_dump.specs.Dumped.{DumpDone};
 ghost use Rattle.ill_dump.specs.Skipping.{DumpOnDone};
 ghost use Rattle.ill_dump.specs.declared.skipping.DumpCounts.{DumpCounts};
-ghost use Rattle.ill_lines.specs.Lines.{LinesDone};
+ghost use Rattle.ill_commands.specs.Lines.{LinesDone};
 
 use crate::plan::InputAction;
 use crate::results::{has_json_result, put_first_results, put_results};
 use ber_core::{Buffered, BufferedSource, Sink, ToWrite};
 use ill_batch::{KeepRefused, LeftAt, PrintReports, Tally};
-use ill_commands::{JobOptions, RunFault, Verdict, run_counting, run_skipping_peeking, verdict_of};
+use ill_commands::{
+    JobOptions, LineOptions, LinesFault, RunFault, Verdict, run_counting, run_lines_as,
+    run_skipping_peeking, verdict_of,
+};
 use ill_dump::{DumpOptions, run_dump, run_dump_skipping};
 use ill_files::{MissingMessage, Output, ProgramError, ToOutput};
-use ill_lines::{LineOptions, LinesFault, run_lines_as};
 use std::alloc::Global;
 use std::io::Write;
 

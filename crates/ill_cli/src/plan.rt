@@ -3,9 +3,8 @@ ghost use Rattle.std.specs.Prelude.{◌≡◌};
 ghost use Rattle.ill_cli.specs.Plans.{action_of, by_line, format_if, has_json_results, input_action_of, is_document, names_inputs, plan_of};
 
 use ill_args::{FileJob, Inputs, Order, Task};
-use ill_commands::{Job, JobOptions};
+use ill_commands::{Job, JobOptions, LineJob, LineOptions};
 use ill_dump::{DumpFormat, DumpOptions};
-use ill_lines::{LineJob, LineOptions};
 use ill_schema::Profile;
 
 /// The options of reading messages.

@@ -4,3 +4,5 @@ pub mod JobEndings
 pub mod JobAnswers
 pub mod TextAnswers
 pub mod PairAnswers
+pub mod LineEnds
+pub mod MadeResults

@@ -1,4 +1,6 @@
 pub mod Output
+pub mod Words
+pub mod Lines
 pub mod Refusals
 pub mod Runs
 pub mod Compared

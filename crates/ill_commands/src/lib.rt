@@ -7,6 +7,7 @@
 #![tactic(auto)]
 
 mod job;
+mod lines;
 mod messages;
 mod piece;
 mod refused;
@@ -21,6 +22,7 @@ pub use ill_normal::{
     Verdict, read_at_most, read_hex, text_octets,
 };
 pub use job::{Counts, Job, JobOptions, JobOutcome};
+pub use lines::{LineJob, LineOptions, LinesFault, run_lines, run_lines_as};
 pub use messages::{run, run_as, run_counting, run_with};
 pub use refused::{RefusedLine, refused_json};
 pub use same::{run_same, run_same_as};

@@ -22,3 +22,6 @@ pub mod OfTwo
 pub mod BitSegments
 pub mod Judgements
 pub mod PlaceNeeds
+pub mod MarkedValues
+pub mod Identifiers
+pub mod OctetTexts

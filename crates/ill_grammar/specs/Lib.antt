@@ -2,6 +2,8 @@ pub mod Cells
 pub mod Places
 pub mod LeafTypes
 pub mod Outline
+pub mod Marks
+pub mod Identifiers
 pub mod Begun
 pub mod Elements
 pub mod Due

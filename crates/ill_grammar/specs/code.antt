@@ -2,3 +2,5 @@ pub mod Meant
 pub mod Starts
 pub mod ByTag
 pub mod Judging
+pub mod MarkedOctets
+pub mod Identifiers

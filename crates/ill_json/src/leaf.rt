@@ -10,13 +10,12 @@ ghost use Rattle.ill_tables.specs.declared.node.NodeId.{NodeId};
 ghost use Rattle.ill_grammar.specs.LeafTypes.{IsContentIn, leaf_is};
 ghost use Rattle.ill_grammar.specs.Outline.{IsAbsent};
 ghost use Rattle.ill_tables.specs.Numbers.{number_name};
-ghost use Rattle.ill_marks.specs.Marks.{octets_in};
+ghost use Rattle.ill_grammar.specs.Marks.{octets_in};
 ghost use Rattle.ill_json.specs.Json.{leaf_json, number_json, text_json};
 ghost use Rattle.ill_json.specs.code.Adding.{Adds, value_tokens};
 
 use crate::writing::LineWriter;
-use ill_grammar::{LeafType, Mark};
-use ill_marks::{is_set, number_in};
+use ill_grammar::{LeafType, Mark, is_set, number_in};
 use ill_schema::{Kind, LeafKind, NodeId, PartId, Presence, kind, number_name, row};
 use json::Token;
 

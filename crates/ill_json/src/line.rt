@@ -9,8 +9,7 @@ ghost use Rattle.ill_json.specs.code.Adding.{Adds, file_tokens, head_tokens};
 
 use crate::value::put_value;
 use crate::writing::LineWriter;
-use ill_grammar::{Mark, Outline};
-use ill_marks::{after_leading_mark, alternative};
+use ill_grammar::{Mark, Outline, after_leading_mark, alternative};
 use ill_schema::{Profile, root_as, row_name, row_node};
 use json::Token;
 use std::alloc::{AllocError, Global};

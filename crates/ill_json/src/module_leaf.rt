@@ -11,7 +11,7 @@ ghost use Rattle.ill_schema.specs.Content.{foreign};
 ghost use Rattle.ill_tables.specs.declared.node.NodeId.{NodeId};
 ghost use Rattle.ill_tables.specs.declared.profile.Profile.{Profile as Named};
 ghost use Rattle.ill_grammar.specs.LeafTypes.{IsContentIn, module_leaf_is};
-ghost use Rattle.ill_marks.specs.Marks.{octets_in};
+ghost use Rattle.ill_grammar.specs.Marks.{octets_in};
 ghost use Rattle.ill_schema.specs.Texts.{hexadecimal};
 ghost use Rattle.ill_json.specs.Json.{leaf_json, value_json};
 ghost use Rattle.ill_json.specs.code.Adding.{Adds};

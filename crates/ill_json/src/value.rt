@@ -2,13 +2,13 @@
 ghost use Rattle.std.specs.Prelude.{◌≡◌, ◌<◌, ◌≤◌, ℕ, List, ◌∷◌, ◌++◌, length, map, Option};
 ghost use Rattle.ill_tables.specs.declared.node.NodeId.{NodeId};
 ghost use Rattle.ill_tables.specs.declared.profile.Profile.{Profile as Named};
-ghost use Rattle.ill_marks.specs.code.MarkedOctets.{SaysOctets};
+ghost use Rattle.ill_grammar.specs.code.MarkedOctets.{SaysOctets};
 ghost use Rattle.ber_leaf.specs.Leaf.{value};
 ghost use Rattle.ill_schema.specs.Content.{Content, Entries, Items, alternative, list, sequence};
 ghost use Rattle.ill_grammar.specs.LeafTypes.{IsContentIn, leaf_is};
 ghost use Rattle.ill_grammar.specs.Outline.{AreEntries, AreItems, IsMarked, IsAbsent};
 ghost use Rattle.ill_grammar.specs.declared.outline.Mark.{Mark};
-ghost use Rattle.ill_marks.specs.Marks.{IsEntry, octets_in};
+ghost use Rattle.ill_grammar.specs.Marks.{IsEntry, octets_in};
 ghost use Rattle.json.specs.Tree.{json_tokens};
 ghost use Rattle.ill_json.specs.Json.{leaf_json, value_json};
 ghost use Rattle.ill_json.specs.code.Adding.{Adds, entry_tokens, part_tokens};
@@ -16,9 +16,9 @@ ghost use Rattle.ill_json.specs.code.Adding.{Adds, entry_tokens, part_tokens};
 use crate::leaf::{put_default, put_leaf};
 use crate::module_leaf::{put_bits, put_foreign, put_module_leaf};
 use crate::writing::LineWriter;
-use ill_grammar::{LeafType, Mark};
-use ill_marks::{
-    absent_row, after_leading_mark, has_default, is_at_end, leading_mark, leading_octets,
+use ill_grammar::{
+    LeafType, Mark, absent_row, after_leading_mark, has_default, is_at_end, leading_mark,
+    leading_octets,
 };
 use ill_schema::{NodeId, PartId, row_name, row_node};
 use json::Token;

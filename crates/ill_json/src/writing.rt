@@ -5,13 +5,12 @@ ghost use Rattle.std.specs.Str.{chars};
 ghost use Rattle.json.specs.Print.{IsPrintable, print};
 ghost use Rattle.json.specs.Reads.{token_of};
 ghost use Rattle.json.specs.Token.{Token as Put, number, string};
-ghost use Rattle.ill_marks.specs.Marks.{octets_in};
+ghost use Rattle.ill_grammar.specs.Marks.{octets_in};
 ghost use Rattle.ill_schema.specs.Texts.{hexadecimal, oid_text};
 ghost use Rattle.ill_json.specs.Json.{characters, plain};
 
 use crate::ascii::into_ascii;
-use ill_grammar::Mark;
-use ill_marks::{add_hexadecimal, add_identifier, add_octets};
+use ill_grammar::{Mark, add_hexadecimal, add_identifier, add_octets};
 use itoa::Buffer;
 use json::{Token, Writer};
 use std::alloc::{AllocError, Global};

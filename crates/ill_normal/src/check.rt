@@ -67,30 +67,8 @@ pub fn check_one_as<R: Source>(
     Ok(Some(found.0))
 }
 
-/// Checks a message as [`check_one`] does, with the lookahead `L`.
-///
-/// # Errors
-///
-/// Those of [`check_one`].
-pub fn check_one_peeking<R: Source, L: Lookahead<R>>(
-    alloc: Global,
-    source: &mut R,
-) -> Result<Option<Checked>, ReadFailure>
-    ensures next { ReadsNext (R.left source.old) (R.left source.new) (R.is_broken source.old)
-        (R.is_broken source.new) Describes result }
-    // A spelling at the front is checked, unless memory or the source failed.
-    ensures accepts { IfSome (R.left source.old)
-        (λ s. (a : Apdu) (n : ℕ) → Accepts profile_two s a n → AnswersSome result) }
-{
-    let mut reader = NormalReader::new(alloc);
-    let Some(found) = check_one_in::<R, L>(alloc, &mut reader, source, Vec::new(alloc))? else {
-        return Ok(None);
-    };
-    Ok(Some(found.0))
-}
-
-/// Checks a message as [`check_one_peeking`] does, by a reader of one message after another, and returns its normal form besides, in the
-/// memory of `buffer`, whose octets are forgotten. What the reader read before makes no difference.
+/// Checks a message as [`check_one`] does, with the lookahead `L`, by a reader of one message after another, and returns its normal form
+/// besides, in the memory of `buffer`, whose octets are forgotten. What the reader read before makes no difference.
 ///
 /// # Errors
 ///

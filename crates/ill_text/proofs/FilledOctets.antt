@@ -9,11 +9,11 @@ use Rattle.ill_grammar.specs.LeafTypes.{IsContentIn}
 use Rattle.ill_tables.specs.declared.profile.Profile.{Profile as Named}
 use Rattle.ill_grammar.specs.declared.outline.Mark.{Mark}
 use Rattle.ill_grammar.specs.declared.outline.Mark.TheVariants as mark
-use Rattle.ill_marks.specs.Marks.{octets_in}
+use Rattle.ill_grammar.specs.Marks.{octets_in}
 use Rattle.ill_schema.specs.Texts.{digits, hexadecimal}
 use Rattle.ill_text.specs.Shown.{leaf_text}
 use Rattle.ill_text.specs.code.Bits.{filled_text}
-use Rattle.ill_marks.proofs.MarkedValues.{octets_back}
+use Rattle.ill_grammar.proofs.MarkedValues.{octets_back}
 
 -- octets before the last, and the last
 pub record IsSplit (octets : List ℕ) (front : List Mark) (final : Mark) : Type 0 where

@@ -14,12 +14,12 @@ use Rattle.ber_core.proofs.Identifiers.{cases}
 use Rattle.ber_core.proofs.Shortest.{is_long, is_short}
 use Rattle.ill_grammar.specs.declared.outline.Mark.{Mark}
 use Rattle.ill_grammar.specs.declared.outline.Mark.TheVariants as mark
-use Rattle.ill_marks.specs.Marks.{octets_in}
+use Rattle.ill_grammar.specs.Marks.{octets_in}
 use Rattle.ill_schema.specs.Texts.{hexadecimal}
 use Rattle.ill_text.specs.Shown.{content_text, tree_text, trees_text}
 use Rattle.ill_text.specs.code.Elements.{blank}
 use Rattle.ill_text.specs.code.Sending.{Adds, Sending, counted}
-use Rattle.ill_marks.proofs.MarkedValues.{marks_length}
+use Rattle.ill_grammar.proofs.MarkedValues.{marks_length}
 use Rattle.ill_text.proofs.Sent.{adds_as, adds_nothing, adds_then}
 
 -- ---- lengths

@@ -12,7 +12,7 @@ use Rattle.ill_grammar.specs.declared.outline.Mark.{Mark}
 use Rattle.ill_grammar.specs.declared.outline.Mark.TheVariants as mark
 use Rattle.ill_text.specs.Shown.{Place, entry_lines, is_empty, item_lines, item_of, line, lines_of, part, within}
 use Rattle.ill_text.specs.Shown.{entry_text}
-use Rattle.ill_marks.specs.Marks.{IsEntry, is_at_end, is_there, octets_in}
+use Rattle.ill_grammar.specs.Marks.{IsEntry, is_at_end, is_there, octets_in}
 use Rattle.ill_tables.specs.Names.{row_name, row_node}
 use Rattle.ill_text.specs.code.FieldPaths.{head_line, place_at}
 use Rattle.ill_text.specs.Shown.{shown_text_in}
@@ -22,7 +22,7 @@ use Rattle.ill_text.specs.code.Sending.{Adds, Sending}
 use Rattle.ill_text.specs.code.FieldPaths.{is_nothing, path_of}
 use Rattle.ill_text.specs.declared.field_path.FieldPath.{FieldPath, Start, Row, Item, the_lemmas}
 use Rattle.ill_text.proofs.Sent.{adds_then, adds_as}
-use Rattle.ill_marks.proofs.MarkedValues.{no_entry, no_item, mark_step}
+use Rattle.ill_grammar.proofs.MarkedValues.{no_entry, no_item, mark_step}
 
 -- ---- paths
 

@@ -11,7 +11,7 @@ use Rattle.ber_tree.specs.Tree.{Tree, Trees, primitive, constructed, none, more}
 use Rattle.ber_leaf.specs.Profile.{is_graphic}
 use Rattle.ill_schema.specs.Texts.{after_dot, digits, hexadecimal, numbers_after, oid_components, oid_text, with_dots}
 use Rattle.ill_text.specs.Shown.{content_text, escaped, quoted, tree_text, trees_text}
-use Rattle.ill_marks.specs.Identifiers.{are_short}
+use Rattle.ill_grammar.specs.Identifiers.{are_short}
 use Rattle.ill_text.proofs.Subidentifiers.{two_and_others}
 
 -- ---- in quotes, and in hexadecimal

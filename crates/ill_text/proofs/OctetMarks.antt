@@ -8,8 +8,8 @@ use Rattle.ill_grammar.specs.declared.outline.Mark.{Mark}
 use Rattle.ill_grammar.specs.declared.outline.Mark.TheVariants as mark
 use Rattle.ill_schema.specs.Texts.{hexadecimal}
 use Rattle.ill_text.specs.Shown.{content_text, line, quoted}
-use Rattle.ill_marks.specs.Marks.{leading_octets, octets_in}
-use Rattle.ill_marks.proofs.MarkedValues.{mark_step}
+use Rattle.ill_grammar.specs.Marks.{leading_octets, octets_in}
+use Rattle.ill_grammar.proofs.MarkedValues.{mark_step}
 
 -- what is put of each octet, one octet further
 pub octets_step : (f : ℕ → List ℕ) (xs : List Mark) (i : ℕ) (d : Mark) → i < length xs

@@ -2,7 +2,7 @@
 use Rattle.std.proofs.Common.{◌≡◌, ℕ, ◌-◌, ◌*◌, ◌/◌, min, true, false, List, ◌∷◌, ◌++◌, codes, decimal, refl, append_assoc}
 use Rattle.std.specs.Prelude.{flat_map}
 use Rattle.ill_schema.specs.Texts.{after_dot, hexadecimal, numbers_after, oid_components, oid_text, with_dots}
-use Rattle.ill_marks.specs.Identifiers.{are_short}
+use Rattle.ill_grammar.specs.Identifiers.{are_short}
 
 -- the first number is put as two components, and then each of the others
 pub two_and_others : (n : ℕ) (numbers : List ℕ)

@@ -8,7 +8,7 @@ ghost use Rattle.ber_tree.specs.Length.{shortest_length};
 ghost use Rattle.ber_tree.specs.Tree.{Tree, Trees};
 ghost use Rattle.ill_grammar.specs.declared.outline.Mark.{Mark};
 ghost use Rattle.ill_text.specs.Shown.{line, tree_text, trees_text};
-ghost use Rattle.ill_marks.specs.Marks.{leading_octets, octets_in};
+ghost use Rattle.ill_grammar.specs.Marks.{leading_octets, octets_in};
 ghost use Rattle.ill_text.specs.code.Elements.{blank, up_to_last};
 ghost use Rattle.ill_text.specs.code.Sending.{Adds, counted, sending};
 ghost use Rattle.ill_text.specs.code.FieldPaths.{path_of};
@@ -17,7 +17,7 @@ use crate::field_path::{FieldPath, put_path};
 use crate::module_leaf::{put_content, put_hexadecimal};
 use crate::text_sink::TextSink;
 use ber_core::Sink;
-use ill_marks::{ends_number, leading_octets};
+use ill_grammar::{ends_number, leading_octets};
 use ill_read::Mark;
 
 /// The most levels that a foreign tree may have.

@@ -13,14 +13,14 @@ ghost use Rattle.ill_grammar.specs.Outline.{IsAbsent};
 ghost use Rattle.ill_tables.specs.Numbers.{number_name};
 ghost use Rattle.ill_text.specs.Shown.{escaped, in_brackets, leaf_text, line};
 ghost use Rattle.ill_text.specs.Shown.{entry_text};
-ghost use Rattle.ill_marks.specs.Marks.{leading_octets, is_octet, octets_in};
+ghost use Rattle.ill_grammar.specs.Marks.{leading_octets, is_octet, octets_in};
 ghost use Rattle.ill_text.specs.code.Sending.{Adds, sending};
 ghost use Rattle.ill_text.specs.code.FieldPaths.{path_of, place_at};
 
 use crate::field_path::{FieldPath, put_line, put_path};
 use crate::text_sink::TextSink;
 use ber_core::Sink;
-use ill_marks::{is_octet, is_set, leading_octets, number_in};
+use ill_grammar::{is_octet, is_set, leading_octets, number_in};
 use ill_read::{LeafType, Mark};
 use ill_schema::{
     Kind, LeafKind, NodeId, PartId, Presence, hexadecimal_digits, kind, number_name, row,

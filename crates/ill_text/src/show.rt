@@ -4,12 +4,12 @@ ghost use Rattle.ill_schema.specs.Content.{Content, Entries, Items, sequence, li
 ghost use Rattle.ill_grammar.specs.Outline.{AreEntries, AreItems, IsMarked};
 ghost use Rattle.ill_grammar.specs.declared.outline.Mark.{Mark};
 ghost use Rattle.ill_text.specs.Shown.{entry_text};
-ghost use Rattle.ill_marks.specs.Marks.{IsEntry, is_there};
+ghost use Rattle.ill_grammar.specs.Marks.{IsEntry, is_there};
 ghost use Rattle.ill_text.specs.code.Sending.{Adds, sending};
 ghost use Rattle.ill_text.specs.code.FieldPaths.{path_of, place_at};
 ghost use Rattle.ill_text.specs.Shown.{Place, item_of, leaf_text, line, lines_of, part};
 ghost use Rattle.ill_tables.specs.declared.profile.Profile.{Profile as Named};
-ghost use Rattle.ill_marks.specs.code.MarkedOctets.{SaysOctets};
+ghost use Rattle.ill_grammar.specs.code.MarkedOctets.{SaysOctets};
 ghost use Rattle.ber_leaf.specs.Leaf.{value};
 ghost use Rattle.ill_grammar.specs.LeafTypes.{IsContentIn, leaf_is};
 
@@ -19,7 +19,7 @@ use crate::leaf::{put_default, put_leaf};
 use crate::module_leaf::{put_bits, put_module_leaf};
 use crate::text_sink::TextSink;
 use ber_core::Sink;
-use ill_marks::{absent_row, after_leading_mark, has_default, is_at_end, leading_mark};
+use ill_grammar::{absent_row, after_leading_mark, has_default, is_at_end, leading_mark};
 use ill_read::{LeafType, Mark};
 use ill_schema::{NodeId, PartId, row_name, row_node};
 

@@ -14,7 +14,7 @@ use crate::field_path::FieldPath;
 use crate::show::put_value;
 use crate::text_sink::TextSink;
 use ber_core::{Sink, VecSink};
-use ill_marks::{after_leading_mark, alternative};
+use ill_grammar::{after_leading_mark, alternative};
 use ill_read::{Mark, Outline};
 use ill_schema::{Profile, root_as, row_name, row_node};
 use itoa::Buffer;

@@ -1,8 +1,7 @@
 //! The values of leaves.
 use crate::lines::LineBuffer;
 use ber_leaf::{BitString, Leaf, ObjectIdentifier};
-use ill_grammar::{Element, ModuleLeaf};
-use ill_marks::add_identifier;
+use ill_grammar::{Element, ModuleLeaf, add_identifier};
 use ill_read::{LeafType, Mark};
 use ill_schema::{PartId, Profile, Value, is_default, row};
 use std::alloc::{AllocError, Global};

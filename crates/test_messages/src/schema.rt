@@ -14,10 +14,10 @@ use ill_schema::{
 };
 use std::alloc::Global;
 use std::test::Fail;
-use test_values::value;
+use test_support::value;
 
 /// A row a line: its name, the APDU's number, the size of the normal form or why there is no message, and the parts of the body,
-/// as [`test_values::message`] reads them.
+/// as [`test_support::message`] reads them.
 const ROWS: &str = "\
 message-new-of-expired 20 33 head - seq:6
 message-new-of-no-such-apdu 21 NotCarried head - seq:6

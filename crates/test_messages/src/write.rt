@@ -8,11 +8,10 @@ use ill_schema::Message;
 use ill_write::{Sizes, WriteFailure, normal_bytes, normal_size_counts_normal_forms, write_normal};
 use std::alloc::{AllocError, Global};
 use std::test::Fail;
-use test_support::octets_of;
-use test_values::message;
+use test_support::{message, octets_of};
 
 /// A row a line: its name, the APDU's number, the normal form in hexadecimal, and the parts of the
-/// body, as [`test_values::message`] reads them. `..*n` in place of octets is `41`, n times.
+/// body, as [`test_support::message`] reads them. `..*n` in place of octets is `41`, n times.
 const ROWS: &str = "\
 expired-normal-form 20 741f301d800102a10aa1031b0147a2031b0151a20ca00a80083230323430323239 head - seq:6
 group-qualifier-visible 20 741f301d800102a10aa1031a0147a2031b0151a20ca00a80083230323430323239 2 - visible:G general:Q - seq:4 date:20240229 - seq:2 - seq:2 - - - seq:6

@@ -1,7 +1,7 @@
 -- What code reads of the elements in a foreign tree.
 use Rattle.std.specs.Prelude.{ℕ, suc, List, [], ◌∷◌, codes, if◌then◌else◌}
 use Rattle.ill_grammar.specs.declared.outline.Mark.{Mark}
-use Rattle.ill_marks.specs.Marks.{ends_number}
+use Rattle.ill_grammar.specs.Marks.{ends_number}
 
 -- how many marks there are up to the first octet that ends a number
 abbrev pub up_to_last : List Mark → ℕ

@@ -3,9 +3,8 @@
 use ber_core::{Pieces, Source};
 use ill_args::{FileJob, Inputs, Order, Task};
 use ill_cli::{Action, InputAction, Plan, ReadOptions};
-use ill_commands::{Job, Verdict};
+use ill_commands::{Job, LineJob, LineOptions, Verdict};
 use ill_files::{Opened, ProgramError, is_output_lost, keeps_output, status_of};
-use ill_lines::{LineJob, LineOptions};
 
 /// The end has one status, which is 0 only where all is well.
 fn ends_have_one_status(done: &Result<Verdict, ProgramError>) {

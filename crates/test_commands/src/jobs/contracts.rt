@@ -12,11 +12,10 @@ ghost use Rattle.ill_schema.specs.Message.{apdu_of};
 
 use ber_core::{Pieces, Room, Sink, Source, Unbuffered};
 use ill_commands::{
-    Job, JobOptions, JobOutcome, ReportRefusals, RunFault, Verdict, run_as, run_counting,
-    run_same_as, run_skipping, run_with,
+    Job, JobOptions, JobOutcome, LineJob, LinesFault, ReportRefusals, RunFault, Verdict, run_as,
+    run_counting, run_lines_as, run_same_as, run_skipping, run_with,
 };
 use ill_json::{LineHead, json_line, json_line_as};
-use ill_lines::{LineJob, LinesFault, run_lines_as};
 use ill_normal::{Refusal, Side};
 use ill_read::Outline;
 use ill_schema::{Message, Profile};

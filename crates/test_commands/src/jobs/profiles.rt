@@ -1,8 +1,9 @@
 //! Jobs with messages of the module profile, row by row, and of the same messages in profile 2. The digests are by `sha256sum`.
 use super::gives;
 use ber_core::{Pieces, ToWrite};
-use ill_commands::{Job, JobOptions, RunFault, Verdict, run_as, run_same_as};
-use ill_lines::{LineJob, run_lines_as};
+use ill_commands::{
+    Job, JobOptions, LineJob, RunFault, Verdict, run_as, run_lines_as, run_same_as,
+};
 use ill_normal::{Cause, NodeId, PartId, Profile, Refusal};
 use std::alloc::{AllocError, Global};
 use std::test::Fail;

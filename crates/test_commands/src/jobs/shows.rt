@@ -6,8 +6,7 @@ use ill_schema::Profile;
 use ill_text::{Text, show_text};
 use std::alloc::Global;
 use std::test::Fail;
-use test_support::octets_of;
-use test_values::message;
+use test_support::{message, octets_of};
 
 /// The whole text, or one of its lines.
 enum Wanted {

@@ -1,8 +1,9 @@
 //! Calls in the module profile. Nothing is written where there is no memory. `tests/memory/allocations.sh` makes these calls, too, in a program of its own.
 use super::Row;
 use ber_core::{Pieces, Room};
-use ill_commands::{Job, RunFault, Verdict, run_as, run_same_as};
-use ill_lines::{LineJob, LinesFault, run_lines_as};
+use ill_commands::{
+    Job, LineJob, LinesFault, RunFault, Verdict, run_as, run_lines_as, run_same_as,
+};
 use ill_normal::{
     Failure, NormalFailure, ReadFailure, StreamCause, check_one_as, is_normal_as, normalise_as,
     normalise_stream_as, same_message_as,

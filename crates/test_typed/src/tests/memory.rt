@@ -6,10 +6,9 @@ use ill_parts::{Part, TransactionId, Typed, optional_value, required_value};
 use ill_schema::{Message, Value};
 use std::alloc::{AllocError, Global};
 use std::test::Fail;
-use test_support::{MemoryHog, Outcome};
-use test_values::{message, value};
+use test_support::{MemoryHog, Outcome, message, value};
 
-/// A message of each APDU: its number, and the parts of its body, as [`test_values::message`] reads them.
+/// A message of each APDU: its number, and the parts of its body, as [`test_support::message`] reads them.
 const EACH_APDU: &str = "\
 1 head 1 none:3 1 list:1 - false false 1 1 seq:4 none:2 3 - none:23 seq:23 none:4 false false none:3 seq:26
 3 head none:4 1 - 1 - none:9 seq:9 none:3 seq:17

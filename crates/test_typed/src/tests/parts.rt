@@ -8,8 +8,7 @@ use ill_parts::{
 use ill_schema::{NodeId, Value, equal};
 use std::alloc::Global;
 use std::test::Fail;
-use test_support::{date_text, general_string};
-use test_values::value;
+use test_support::{date_text, general_string, value};
 
 /// Tells whether the words write a value that is no `T`.
 fn is_no<T: Typed>(alloc: Global, words: &str) -> Result<bool, Fail> {

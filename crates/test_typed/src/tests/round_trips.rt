@@ -8,11 +8,10 @@ use ill_schema::{Message, Value, equal};
 use ill_write::normal_bytes;
 use std::alloc::{AllocError, Global};
 use std::test::Fail;
-use test_support::general_text;
-use test_values::{message, value};
+use test_support::{general_text, message, value};
 
 /// A message a line, of each APDU and with each result, in which every part is there: the APDU's number, and the
-/// parts of the body, as [`test_values::message`] reads them.
+/// parts of the body, as [`test_support::message`] reads them.
 const WHOLE_MESSAGES: &str = "\
 1 whole 21 general:g22 alt:0 general:g23 visible:v24 general:g25 general:g26 visible:v27 general:g28 general:g29 seq:8 visible:v30 general:g31 seq:2 seq:2 general:g32 alt:0 visible:v33 alt:0 general:g34 general:g35 visible:v36 general:g37 general:g38 visible:v39 general:g40 seq:8 general:g41 visible:v42 seq:2 seq:2 43 44 list:2 - true false 47 48 seq:4 general:g49 date:20240323 51 date:20240525 seq:4 53 visible:v54 seq:2 55 general:g56 seq:2 list:2 57 general:g58 general:g59 visible:v60 seq:3 61 62 visible:v63 general:g64 general:g65 visible:v66 general:g67 general:g68 visible:v69 general:g70 general:g71 visible:v72 general:g73 general:g74 visible:v75 general:g76 general:g77 - visible:v78 general:g79 - general:g80 visible:v81 seq:23 - general:g82 print:83.5 print:84.5 seq:2 true false true seq:5 general:g88 true false true false visible:v93 general:g94 seq:2 95 visible:v96 alt:0 general:g97 alt:0 seq:2 general:g98 visible:v99 general:g100 seq:2 seq:3 list:1 general:g101 alt:0 visible:v102 alt:0 seq:2 list:1 seq:8 true false visible:v105 general:g106 - seq:26
 3 whole visible:v21 general:g22 seq:2 general:g23 alt:0 visible:v24 alt:0 seq:2 general:g25 alt:0 general:g26 alt:0 seq:2 visible:v27 general:g28 general:g29 seq:3 30 - 31 false true 34 35 seq:4 date:20240109 date:20240210 false seq:2 39 print:40.5 print:41.5 seq:2 42 general:g43 alt:0 print:44.5 print:45.5 seq:2 print:46.5 print:47.5 seq:2 48 49 seq:2 50 51 seq:2 list:2 seq:9 general:g52 alt:0 general:g53 visible:v54 general:g55 general:g56 visible:v57 general:g58 general:g59 seq:8 visible:v60 - seq:17

@@ -1,6 +1,6 @@
 use Rattle.std.proofs.Common.{◌≡◌, ◌∙◌, ap, sym, None}
 use Rattle.ill_grammar.specs.Contents.{absent_content}
-use Rattle.ill_marks.proofs.MarkedValues.{no_default, same_row}
+use Rattle.ill_grammar.proofs.MarkedValues.{no_default, same_row}
 use Rattle.ill_json.specs.code.Adding.{value_tokens}
 use Rattle.ill_json.proofs.Added.{adds_as, adds_nothing}
 use Rattle.ill_json.proofs.leaf.put_default.Goals as goal

@@ -4,8 +4,8 @@ use Rattle.ber_leaf.specs.Leaf.{value}
 use Rattle.ber_leaf.specs.Simple.{whole}
 use Rattle.json.specs.Tree.{json_tokens}
 use Rattle.ill_grammar.specs.LeafTypes.{IsContentIn, leaf_is}
-use Rattle.ill_marks.specs.Marks.{octets_in}
-use Rattle.ill_marks.proofs.MarkedValues.{few_enumerated, few_octets}
+use Rattle.ill_grammar.specs.Marks.{octets_in}
+use Rattle.ill_grammar.proofs.MarkedValues.{few_enumerated, few_octets}
 use Rattle.ill_json.specs.Json.{leaf_json}
 use Rattle.ill_json.proofs.Added.{adds_as}
 use Rattle.ill_json.proofs.leaf.put_leaf.Goals as goal

@@ -1,6 +1,6 @@
 use Rattle.std.proofs.Common.{◌≡◌, ◌∙◌, ◌-◌, [], ap, sym, append-nil, Some, None, drop}
 use Rattle.ill_schema.specs.Profiles.{profile_of}
-use Rattle.ill_marks.specs.Marks.{alternative_in}
+use Rattle.ill_grammar.specs.Marks.{alternative_in}
 use Rattle.ill_tables.specs.Names.{row_name, row_node}
 use Rattle.ill_json.proofs.Added.{adds_as, adds_then}
 use Rattle.ill_json.proofs.Tokens.{line_same}

@@ -1,6 +1,6 @@
 use Rattle.std.proofs.Common.{[]}
-use Rattle.ill_marks.proofs.MarkedValues.{mark_step}
-use Rattle.ill_marks.proofs.OctetTexts.{one_more}
+use Rattle.ill_grammar.proofs.MarkedValues.{mark_step}
+use Rattle.ill_grammar.proofs.OctetTexts.{one_more}
 use Rattle.ill_json.proofs.module_leaf.octets_of.Goals as goal
 
 pub loop-mark-preserved : goal.loop-mark-preserved

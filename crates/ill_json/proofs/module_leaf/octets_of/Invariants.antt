@@ -1,5 +1,5 @@
 use Rattle.std.proofs.Common.{◌≡◌, take}
-use Rattle.ill_marks.specs.Marks.{octets_in}
+use Rattle.ill_grammar.specs.Marks.{octets_in}
 use Rattle.ill_json.proofs.module_leaf.octets_of.Given as goal
 
 abbrev pub invariant-loop-mark : goal.invariant-loop-mark

@@ -1,8 +1,8 @@
 use Rattle.std.proofs.Common.{inl, inr, ◌≡◌, ◌∙◌, refl, ap, sym, true, false, ◌∷◌, [], Some, drop, arith, rules}
-use Rattle.ill_marks.specs.code.MarkedOctets.{is_of_module}
+use Rattle.ill_grammar.specs.code.MarkedOctets.{is_of_module}
 use Rattle.json.specs.Token.{begin_array, begin_object}
 use Rattle.ill_grammar.specs.declared.outline.Mark.TheVariants as mark
-use Rattle.ill_marks.proofs.MarkedValues.{alternative_first, entry_absent_first, entry_value, leaf_first, list_first, module_first, no_mark, none_begins, not_some, nothing_begins, absent_first, sequence_first, some_left, starts}
+use Rattle.ill_grammar.proofs.MarkedValues.{alternative_first, entry_absent_first, entry_value, leaf_first, list_first, module_first, no_mark, none_begins, not_some, nothing_begins, absent_first, sequence_first, some_left, starts}
 use Rattle.json.specs.Tree.{items_tokens, json_tokens}
 use Rattle.ill_json.specs.Json.{item_values, value_json}
 use Rattle.ill_json.specs.code.Adding.{entry_tokens}

@@ -1,7 +1,7 @@
 use Rattle.std.proofs.Common.{◌≡◌, ◌+◌, ◌-◌, ◌∙◌, ap, sym, subst, ℕ, length, take, drop, arith}
 use Rattle.ber_leaf.specs.Leaf.{value}
 use Rattle.ill_grammar.specs.LeafTypes.{IsContentIn, leaf_is}
-use Rattle.ill_marks.proofs.MarkedValues.{leaf_parts, whole_rest}
+use Rattle.ill_grammar.proofs.MarkedValues.{leaf_parts, whole_rest}
 use Rattle.json.specs.Tree.{json_tokens}
 use Rattle.ill_json.specs.Json.{leaf_json}
 use Rattle.ill_json.proofs.Added.{adds_as}

@@ -1,8 +1,8 @@
 use Rattle.std.proofs.Common.{ap, sym, subst}
 use Rattle.json.specs.Tree.{json_tokens}
-use Rattle.ill_marks.specs.Marks.{octets_in}
-use Rattle.ill_marks.specs.code.MarkedOctets.{SaysOctets}
-use Rattle.ill_marks.proofs.MarkedValues.{says_nothing}
+use Rattle.ill_grammar.specs.Marks.{octets_in}
+use Rattle.ill_grammar.specs.code.MarkedOctets.{SaysOctets}
+use Rattle.ill_grammar.proofs.MarkedValues.{says_nothing}
 use Rattle.ill_json.specs.Json.{value_json}
 use Rattle.ill_json.proofs.Added.{adds_as}
 use Rattle.ill_json.proofs.value.put_module_octets.Goals as goal

@@ -1,6 +1,6 @@
 use Rattle.std.proofs.Common.{◌≡◌, ◌+◌, ◌-◌, ◌∙◌, ap, sym, subst, ℕ, length, take, drop, arith}
-use Rattle.ill_marks.specs.code.MarkedOctets.{SaysOctets}
-use Rattle.ill_marks.proofs.MarkedValues.{leaf_parts, whole_rest}
+use Rattle.ill_grammar.specs.code.MarkedOctets.{SaysOctets}
+use Rattle.ill_grammar.proofs.MarkedValues.{leaf_parts, whole_rest}
 use Rattle.ill_json.proofs.value.put_module_value.Goals as goal
 
 pub returns-clause-adds : goal.returns-clause-adds

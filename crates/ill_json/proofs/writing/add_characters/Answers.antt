@@ -1,5 +1,5 @@
 use Rattle.ill_json.proofs.Tokens.{character_step}
-use Rattle.ill_marks.proofs.OctetTexts.{one_more}
+use Rattle.ill_grammar.proofs.OctetTexts.{one_more}
 use Rattle.ill_json.proofs.writing.add_characters.Goals as goal
 
 pub loop-mark-preserved : goal.loop-mark-preserved

@@ -1,7 +1,7 @@
 use Rattle.std.proofs.Common.{◌≡◌, ◌∙◌, ◌++◌, ap, sym, codes, List, ℕ, rules, true, false, subst₂}
 use Rattle.ill_text.specs.code.Sending.{Adds, sending}
 use Rattle.ill_text.specs.code.FieldPaths.{path_of, is_nothing}
-use Rattle.ill_marks.proofs.MarkedValues.{not_false, not_true}
+use Rattle.ill_grammar.proofs.MarkedValues.{not_false, not_true}
 use Rattle.ill_text.proofs.Lines.{path_of-Start, path_of-Row, path_of-Item, some_name, within_some, within_none}
 use Rattle.ill_text.proofs.Sent.{adds_as, adds_nothing, adds_then}
 use Rattle.ill_text.proofs.field_path.+path.Goals as goal

@@ -4,9 +4,9 @@ use Rattle.ber_tree.specs.Length.{shortest_length}
 use Rattle.ill_grammar.specs.declared.outline.Mark.TheVariants as mark
 use Rattle.ill_schema.specs.Texts.{hexadecimal}
 use Rattle.ill_text.specs.Shown.{content_text, trees_text}
-use Rattle.ill_marks.specs.Marks.{octets_in}
+use Rattle.ill_grammar.specs.Marks.{octets_in}
 use Rattle.ill_text.proofs.ForeignTrees.{element, no_levels, trees_end, trees_more}
-use Rattle.ill_marks.proofs.MarkedValues.{octets_back}
+use Rattle.ill_grammar.proofs.MarkedValues.{octets_back}
 use Rattle.ill_text.proofs.Sent.{adds_as, adds_nothing, adds_then}
 use Rattle.ill_text.proofs.foreign.+trees.Goals as goal
 

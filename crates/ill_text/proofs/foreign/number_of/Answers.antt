@@ -1,7 +1,7 @@
 use Rattle.std.proofs.Common.{◌≡◌, ◌∙◌, sym, arith, drop}
 use Rattle.std.specs.Int.Digits.{number_from_digits_after}
 use Rattle.std.proofs.lemmas.List.{at_drop_all}
-use Rattle.ill_marks.specs.Marks.{octets_in}
+use Rattle.ill_grammar.specs.Marks.{octets_in}
 use Rattle.ill_text.specs.code.Sending.{counted}
 use Rattle.ill_text.proofs.ForeignTrees.{number_step}
 use Rattle.ill_text.proofs.foreign.number_of.Goals as goal

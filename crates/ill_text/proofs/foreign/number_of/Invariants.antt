@@ -1,6 +1,6 @@
 use Rattle.std.proofs.Common.{◌≡◌, ◌^◌, ◌<◌, drop}
 use Rattle.std.specs.Int.Digits.{number_from_digits, number_from_digits_after}
-use Rattle.ill_marks.specs.Marks.{octets_in}
+use Rattle.ill_grammar.specs.Marks.{octets_in}
 use Rattle.ill_text.specs.code.Sending.{counted}
 use Rattle.ill_text.proofs.foreign.number_of.Given as goal
 

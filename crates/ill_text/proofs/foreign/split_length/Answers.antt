@@ -3,9 +3,9 @@ use Rattle.std.specs.Int.Digits.{digits_of, number_from_digits}
 use Rattle.std.proofs.lemmas.Int.Digits.{number_digits_of}
 use Rattle.std.proofs.lemmas.List.{take_at, drop_at}
 use Rattle.ill_grammar.specs.declared.outline.Mark.TheVariants as mark
-use Rattle.ill_marks.specs.Marks.{octets_in}
+use Rattle.ill_grammar.specs.Marks.{octets_in}
 use Rattle.ill_text.specs.code.Sending.{counted}
-use Rattle.ill_marks.proofs.MarkedValues.{marks_length, octets_back}
+use Rattle.ill_grammar.proofs.MarkedValues.{marks_length, octets_back}
 use Rattle.ill_text.proofs.ForeignTrees.{long_length}
 use Rattle.ill_text.proofs.foreign.split_length.Goals as goal
 

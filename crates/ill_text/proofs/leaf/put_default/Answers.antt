@@ -4,7 +4,7 @@ use Rattle.ill_grammar.specs.Contents.{absent_content}
 use Rattle.ill_grammar.specs.Outline.{IsAbsent}
 use Rattle.ill_text.specs.Shown.{entry_text}
 use Rattle.ill_text.specs.code.FieldPaths.{place_at}
-use Rattle.ill_marks.proofs.MarkedValues.{no_default, same_row}
+use Rattle.ill_grammar.proofs.MarkedValues.{no_default, same_row}
 use Rattle.ill_text.proofs.Sent.{adds_as, adds_nothing}
 use Rattle.ill_text.proofs.leaf.put_default.Goals as goal
 

@@ -1,7 +1,7 @@
 use Rattle.std.proofs.Common.{◌≡◌, ◌+◌, IsTrue, drop, take}
 use Rattle.std.specs.Prelude.{flat_map}
 use Rattle.ill_text.specs.Shown.{escaped}
-use Rattle.ill_marks.specs.Marks.{leading_octets, octets_in}
+use Rattle.ill_grammar.specs.Marks.{leading_octets, octets_in}
 use Rattle.ill_text.specs.code.Sending.{Adds, sending}
 use Rattle.ill_text.proofs.leaf.put_escaped.Given as goal
 

@@ -1,7 +1,7 @@
 use Rattle.std.proofs.Common.{sym, ap}
 use Rattle.std.specs.Prelude.{flat_map}
 use Rattle.ill_text.specs.Shown.{escaped}
-use Rattle.ill_marks.proofs.MarkedValues.{other_mark}
+use Rattle.ill_grammar.proofs.MarkedValues.{other_mark}
 use Rattle.ill_text.proofs.Sent.{adds_as, adds_nothing}
 use Rattle.ill_text.proofs.leaf.put_escaped_mark.Goals as goal
 

@@ -2,9 +2,9 @@ use Rattle.std.proofs.Common.{ap, sym, subst, take}
 use Rattle.ber_leaf.specs.Leaf.{value}
 use Rattle.ill_grammar.specs.LeafTypes.{IsContentIn, leaf_is}
 use Rattle.ill_text.specs.Shown.{leaf_text, line}
-use Rattle.ill_marks.specs.Marks.{octets_in}
+use Rattle.ill_grammar.specs.Marks.{octets_in}
 use Rattle.ill_text.specs.code.FieldPaths.{path_of}
-use Rattle.ill_marks.proofs.MarkedValues.{few_enumerated, few_octets}
+use Rattle.ill_grammar.proofs.MarkedValues.{few_enumerated, few_octets}
 use Rattle.ill_text.proofs.Sent.{adds_as}
 use Rattle.ill_text.proofs.leaf.put_leaf.Goals as goal
 

@@ -1,5 +1,5 @@
 use Rattle.std.proofs.Common.{sym}
-use Rattle.ill_marks.proofs.MarkedValues.{other_mark}
+use Rattle.ill_grammar.proofs.MarkedValues.{other_mark}
 use Rattle.ill_text.proofs.Sent.{adds_as, adds_nothing}
 use Rattle.ill_text.proofs.leaf.put_mark.Goals as goal
 

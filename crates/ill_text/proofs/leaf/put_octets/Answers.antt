@@ -1,6 +1,6 @@
 use Rattle.std.proofs.Common.{refl, sym, arith}
 use Rattle.std.proofs.lemmas.Grind.{common_steps}
-use Rattle.ill_marks.proofs.MarkedValues.{mark_step}
+use Rattle.ill_grammar.proofs.MarkedValues.{mark_step}
 use Rattle.ill_text.proofs.Sent.{adds_as, adds_nothing, adds_then}
 use Rattle.ill_text.proofs.leaf.put_octets.Goals as goal
 

@@ -1,5 +1,5 @@
 use Rattle.std.proofs.Common.{◌≡◌, ◌+◌, IsTrue, drop, take}
-use Rattle.ill_marks.specs.Marks.{leading_octets, octets_in}
+use Rattle.ill_grammar.specs.Marks.{leading_octets, octets_in}
 use Rattle.ill_text.specs.code.Sending.{Adds, sending}
 use Rattle.ill_text.proofs.leaf.put_octets.Given as goal
 

@@ -1,7 +1,7 @@
 use Rattle.std.proofs.Common.{◌∙◌, ◌++◌, ap, List, ℕ, codes, take}
 use Rattle.std.specs.Prelude.{flat_map}
 use Rattle.ill_text.specs.Shown.{escaped}
-use Rattle.ill_marks.specs.Marks.{octets_in}
+use Rattle.ill_grammar.specs.Marks.{octets_in}
 use Rattle.ill_text.specs.code.FieldPaths.{path_of}
 use Rattle.ill_text.proofs.Lines.{line_quoted}
 use Rattle.ill_text.proofs.Sent.{adds_as, adds_then}

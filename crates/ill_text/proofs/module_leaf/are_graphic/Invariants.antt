@@ -1,7 +1,7 @@
 use Rattle.std.proofs.Common.{◌≡◌, drop}
 use Rattle.std.specs.List.{list_all}
 use Rattle.ber_leaf.specs.Profile.{is_graphic}
-use Rattle.ill_marks.specs.Marks.{octets_in}
+use Rattle.ill_grammar.specs.Marks.{octets_in}
 use Rattle.ill_text.proofs.module_leaf.are_graphic.Given as goal
 
 abbrev pub invariant-loop-mark : goal.invariant-loop-mark

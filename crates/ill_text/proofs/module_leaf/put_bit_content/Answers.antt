@@ -2,7 +2,7 @@ use Rattle.std.proofs.Common.{◌≡◌, ◌∙◌, ◌++◌, ◌-◌, ◌*◌, 
 use Rattle.ber_leaf.specs.Leaf.{bit_count, bit_octets, cleared_last, is_bits}
 use Rattle.ill_text.specs.code.Bits.{filled_text}
 use Rattle.ill_text.proofs.FilledOctets.{unused_few}
-use Rattle.ill_marks.proofs.MarkedValues.{marks_length}
+use Rattle.ill_grammar.proofs.MarkedValues.{marks_length}
 use Rattle.ill_text.proofs.OctetMarks.{first_octet}
 use Rattle.ill_text.proofs.Sent.{adds_as, adds_then}
 use Rattle.ill_text.proofs.module_leaf.put_bit_content.Goals as goal

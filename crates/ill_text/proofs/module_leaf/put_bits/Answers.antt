@@ -1,7 +1,7 @@
 use Rattle.std.proofs.Common.{◌∙◌, ◌++◌, ap, codes, decimal, take}
 use Rattle.ber_leaf.specs.Leaf.{bit_count, bit_octets}
 use Rattle.ill_text.specs.Shown.{line}
-use Rattle.ill_marks.specs.Marks.{octets_in}
+use Rattle.ill_grammar.specs.Marks.{octets_in}
 use Rattle.ill_text.specs.code.Bits.{filled_text}
 use Rattle.ill_text.specs.code.FieldPaths.{path_of}
 use Rattle.ill_text.proofs.FilledOctets.{are_bits, bits_text}

@@ -1,9 +1,9 @@
 use Rattle.std.proofs.Common.{◌≡◌, ◌∙◌, ap, sym, []}
 use Rattle.ill_schema.specs.Texts.{oid_components, with_dots}
-use Rattle.ill_marks.specs.Identifiers.{numbers_in}
+use Rattle.ill_grammar.specs.Identifiers.{numbers_in}
 use Rattle.ill_text.proofs.Sent.{adds_as, adds_nothing, adds_then}
-use Rattle.ill_marks.specs.Marks.{octets_in}
-use Rattle.ill_marks.proofs.Identifiers.{exact_next}
+use Rattle.ill_grammar.specs.Marks.{octets_in}
+use Rattle.ill_grammar.proofs.Identifiers.{exact_next}
 use Rattle.ill_text.proofs.Subidentifiers.{two_and_others}
 use Rattle.ill_text.proofs.module_leaf.put_components.Goals as goal
 

@@ -4,8 +4,8 @@ use Rattle.std.specs.List.{list_all}
 use Rattle.ber_leaf.specs.Profile.{is_graphic}
 use Rattle.ill_schema.specs.Texts.{hexadecimal}
 use Rattle.ill_text.specs.Shown.{escaped}
-use Rattle.ill_marks.specs.Marks.{leading_octets, octets_in}
-use Rattle.ill_marks.proofs.MarkedValues.{octets_back}
+use Rattle.ill_grammar.specs.Marks.{leading_octets, octets_in}
+use Rattle.ill_grammar.proofs.MarkedValues.{octets_back}
 use Rattle.ill_text.proofs.OctetMarks.{content_hexadecimal, content_quoted, front_all}
 use Rattle.ill_text.proofs.Sent.{adds_as, adds_then}
 use Rattle.ill_text.proofs.module_leaf.put_content.Goals as goal

@@ -1,6 +1,6 @@
 use Rattle.std.proofs.Common.{IsTrue, take}
 use Rattle.ill_schema.specs.Texts.{hexadecimal}
-use Rattle.ill_marks.specs.Marks.{octets_in}
+use Rattle.ill_grammar.specs.Marks.{octets_in}
 use Rattle.ill_text.specs.code.Sending.{Adds, sending}
 use Rattle.ill_text.proofs.module_leaf.put_hexadecimal.Given as goal
 

@@ -1,6 +1,6 @@
 use Rattle.std.proofs.Common.{sym, ap}
 use Rattle.ill_schema.specs.Texts.{hexadecimal}
-use Rattle.ill_marks.proofs.MarkedValues.{other_mark}
+use Rattle.ill_grammar.proofs.MarkedValues.{other_mark}
 use Rattle.ill_text.proofs.Sent.{adds_as, adds_nothing}
 use Rattle.ill_text.proofs.module_leaf.put_mark_digits.Goals as goal
 

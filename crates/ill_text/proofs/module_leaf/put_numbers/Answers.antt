@@ -1,10 +1,10 @@
 use Rattle.std.proofs.Common.{◌≡◌, ap, sym, []}
 use Rattle.std.specs.Prelude.{flat_map}
 use Rattle.ill_schema.specs.Texts.{after_dot}
-use Rattle.ill_marks.specs.Identifiers.{numbers_in}
+use Rattle.ill_grammar.specs.Identifiers.{numbers_in}
 use Rattle.ill_text.proofs.Sent.{adds_as, adds_nothing, adds_then}
-use Rattle.ill_marks.specs.Marks.{octets_in}
-use Rattle.ill_marks.proofs.Identifiers.{exact_next}
+use Rattle.ill_grammar.specs.Marks.{octets_in}
+use Rattle.ill_grammar.proofs.Identifiers.{exact_next}
 use Rattle.ill_text.proofs.module_leaf.put_numbers.Goals as goal
 
 pub numbers-preserved : goal.numbers-preserved

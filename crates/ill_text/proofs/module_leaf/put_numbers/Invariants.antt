@@ -1,7 +1,7 @@
 use Rattle.std.proofs.Common.{◌≡◌, true, length, IsTrue}
 use Rattle.std.specs.Prelude.{flat_map}
 use Rattle.ill_schema.specs.Texts.{after_dot}
-use Rattle.ill_marks.specs.Identifiers.{are_short, numbers_in}
+use Rattle.ill_grammar.specs.Identifiers.{are_short, numbers_in}
 use Rattle.ill_text.specs.code.Sending.{Adds, Sending, sending}
 use Rattle.ill_text.proofs.module_leaf.put_numbers.Given as goal
 

@@ -1,6 +1,6 @@
 use Rattle.std.proofs.Common.{codes, take}
 use Rattle.ill_text.specs.Shown.{content_text}
-use Rattle.ill_marks.specs.Marks.{octets_in}
+use Rattle.ill_grammar.specs.Marks.{octets_in}
 use Rattle.ill_text.specs.code.FieldPaths.{path_of}
 use Rattle.ill_text.proofs.OctetMarks.{front_are, line_opened}
 use Rattle.ill_text.proofs.Sent.{adds_as, adds_then}

@@ -1,5 +1,5 @@
 use Rattle.std.proofs.Common.{◌≡◌, ◌∙◌, sym, true, false, rules}
-use Rattle.ill_marks.specs.Marks.{octets_in}
+use Rattle.ill_grammar.specs.Marks.{octets_in}
 use Rattle.ill_text.proofs.Sent.{adds_as, adds_then}
 use Rattle.ill_text.proofs.Subidentifiers.{great_text, small_text}
 use Rattle.ill_text.proofs.module_leaf.put_oid.Goals as goal

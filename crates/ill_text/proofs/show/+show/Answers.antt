@@ -1,11 +1,11 @@
 use Rattle.std.proofs.Common.{inl, inr, ◌≡◌, ◌∙◌, refl, ap, sym, true, false, not, ◌∷◌, [], Some, drop, arith, rules, Bool}
 use Rattle.ill_grammar.specs.declared.outline.Mark.TheVariants as mark
 use Rattle.ill_text.specs.Shown.{lines_of, part}
-use Rattle.ill_marks.specs.code.MarkedOctets.{is_of_module}
+use Rattle.ill_grammar.specs.code.MarkedOctets.{is_of_module}
 use Rattle.ill_text.specs.Shown.{entry_text}
-use Rattle.ill_marks.specs.Marks.{is_there}
+use Rattle.ill_grammar.specs.Marks.{is_there}
 use Rattle.ill_text.specs.code.FieldPaths.{place_at}
-use Rattle.ill_marks.proofs.MarkedValues.{alternative_first, entry_absent, entry_there, leaf_first, list_first, module_first, no_mark, none_begins, not_false, not_some, not_true, nothing_begins, absent_first, sequence_first, some_left, starts}
+use Rattle.ill_grammar.proofs.MarkedValues.{alternative_first, entry_absent, entry_there, leaf_first, list_first, module_first, no_mark, none_begins, not_false, not_some, not_true, nothing_begins, absent_first, sequence_first, some_left, starts}
 use Rattle.ill_text.proofs.Lines.{entries_ended, entries_more, entries_none, item_place, items_end, items_line, items_more, items_none, items_some, part_place, sequence_none, sequence_some}
 use Rattle.ill_text.proofs.Sent.{adds_as, adds_nothing}
 use Rattle.ill_text.proofs.show.+show.Goals as goal

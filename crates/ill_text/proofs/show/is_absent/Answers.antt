@@ -1,6 +1,6 @@
 use Rattle.std.proofs.Common.{◌∙◌, ap, sym, not}
-use Rattle.ill_marks.specs.Marks.{is_there}
-use Rattle.ill_marks.proofs.MarkedValues.{entry_absent_first, entry_value}
+use Rattle.ill_grammar.specs.Marks.{is_there}
+use Rattle.ill_grammar.proofs.MarkedValues.{entry_absent_first, entry_value}
 use Rattle.ill_text.proofs.show.is_absent.Goals as goal
 
 pub returns-in-Some : goal.returns-in-Some

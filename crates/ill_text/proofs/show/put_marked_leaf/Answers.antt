@@ -3,7 +3,7 @@ use Rattle.ber_leaf.specs.Leaf.{value}
 use Rattle.ill_grammar.specs.LeafTypes.{IsContentIn, leaf_is}
 use Rattle.ill_text.specs.Shown.{leaf_text, line}
 use Rattle.ill_text.specs.code.FieldPaths.{path_of}
-use Rattle.ill_marks.proofs.MarkedValues.{leaf_parts, whole_rest}
+use Rattle.ill_grammar.proofs.MarkedValues.{leaf_parts, whole_rest}
 use Rattle.ill_text.proofs.Sent.{adds_as}
 use Rattle.ill_text.proofs.show.put_marked_leaf.Goals as goal
 

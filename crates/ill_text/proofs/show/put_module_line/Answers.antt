@@ -1,13 +1,13 @@
 use Rattle.std.proofs.Common.{◌≡◌, ◌+◌, ◌-◌, ◌∙◌, ◌++◌, ap, ap₂, sym, subst, subst₂, ℕ, List, length, take, drop, arith, codes}
 use Rattle.ber_leaf.specs.Leaf.{Leaf, bit_string, value}
 use Rattle.ill_grammar.specs.LeafTypes.{IsContentIn, module_leaf_is}
-use Rattle.ill_marks.specs.Marks.{leading_octets}
+use Rattle.ill_grammar.specs.Marks.{leading_octets}
 use Rattle.ill_text.specs.Shown.{Place, leaf_text, line, lines_of, tree_text}
-use Rattle.ill_marks.specs.code.MarkedOctets.{IsLeafOf, SaysOctets}
+use Rattle.ill_grammar.specs.code.MarkedOctets.{IsLeafOf, SaysOctets}
 use Rattle.ill_schema.specs.Content.{Content}
 use Rattle.ill_text.specs.code.Sending.{Adds, Sending, sending}
 use Rattle.ill_text.specs.code.FieldPaths.{path_of}
-use Rattle.ill_marks.proofs.MarkedValues.{leaf_parts, says_nothing, whole_rest}
+use Rattle.ill_grammar.proofs.MarkedValues.{leaf_parts, says_nothing, whole_rest}
 use Rattle.ill_text.proofs.Sent.{adds_as}
 use Rattle.ill_text.proofs.show.put_module_line.Goals as goal
 use Rattle.ill_text.proofs.show.put_module_line.Goals.{in-ModuleLeaf, in-BitString, in-Foreign, in_default}

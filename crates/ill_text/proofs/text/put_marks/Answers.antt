@@ -2,7 +2,7 @@ use Rattle.std.proofs.Common.{◌≡◌, ◌∙◌, ◌++◌, ◌-◌, ap, ap₂
 use Rattle.ill_tables.specs.declared.node.NodeId.{NodeId}
 use Rattle.ill_schema.specs.Profiles.{profile_of}
 use Rattle.ill_text.specs.Shown.{Place, lines_of}
-use Rattle.ill_marks.specs.Marks.{alternative_in}
+use Rattle.ill_grammar.specs.Marks.{alternative_in}
 use Rattle.ill_text.specs.code.FieldPaths.{head_line, place_at}
 use Rattle.ill_text.specs.declared.field_path.FieldPath.{Start}
 use Rattle.ill_text.proofs.Lines.{body_lines, path_of-Start}

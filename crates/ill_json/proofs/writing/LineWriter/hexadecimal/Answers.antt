@@ -1,6 +1,6 @@
 use Rattle.std.proofs.Common.{◌∙◌, ◌++◌, ap, refl}
 use Rattle.std.proofs.lemmas.Result.{on_ok_weaker}
-use Rattle.ill_marks.specs.Marks.{octets_in}
+use Rattle.ill_grammar.specs.Marks.{octets_in}
 use Rattle.ill_schema.specs.Texts.{hexadecimal}
 use Rattle.ill_json.proofs.Added.{adds_from}
 use Rattle.ill_json.proofs.writing.LineWriter.hexadecimal.Goals as goal

@@ -4,10 +4,10 @@ use Rattle.ill_schema.specs.Profiles.{profile_of}
 use Rattle.ill_normal.specs.Messages.{spelling}
 use Rattle.ill_inputs.specs.Hexadecimal.{hex_octets}
 use Rattle.ill_inputs.specs.declared.run_fault.RunFault.{RunFault}
-use Rattle.ill_lines.specs.Lines.{Answer, AreAnswers, IsResult, LinesDone, all_results_good, is_good_message, line_options, lines, message_words, result_lines}
-use Rattle.ill_lines.specs.Words.{refusal_words}
-use Rattle.ill_lines.specs.declared.job.LineOptions.{LineOptions}
-use Rattle.ill_lines.specs.declared.job.LinesFault.{LinesFault}
+use Rattle.ill_commands.specs.Lines.{Answer, AreAnswers, IsResult, LinesDone, all_results_good, is_good_message, line_options, lines, message_words, result_lines}
+use Rattle.ill_commands.specs.Words.{refusal_words}
+use Rattle.ill_commands.specs.declared.lines.job.LineOptions.{LineOptions}
+use Rattle.ill_commands.specs.declared.lines.job.LinesFault.{LinesFault}
 use Rattle.test_commands.proofs.jobs.contracts.lines_have_one_output.Goals as goal
 
 one_result : (work : LineOptions) (o : Result (List ℕ) RunFault) (r q : List ℕ) (g h : Bool) → IsResult work o r g → IsResult work o q h → (r ≡ q) × (g ≡ h)

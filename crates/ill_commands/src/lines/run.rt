@@ -1,0 +1,174 @@
+//! The lines of an input, from a source to a sink.
+ghost use Rattle.std.specs.Prelude.{◌≡◌, ◌++◌, ◌<◌, ℕ, Bool, List, [], Option, take, length, IfOk, IfErr, OnOk, IsTrue};
+ghost use Rattle.std.specs.Io.KnownBytes.{Appends, Consumes, IsAtEnd};
+ghost use Rattle.ill_normal.specs.Calls.{putting, taking};
+ghost use Rattle.ill_tables.specs.declared.profile.Profile.{Profile as Named};
+ghost use Rattle.ill_commands.specs.declared.lines.job.LinesFault.{LinesFault};
+ghost use Rattle.ill_commands.specs.Lines.{EndsWithin, LinesDone, LinesFail, line_options};
+ghost use Rattle.ill_commands.specs.code.After.{HasWritten};
+
+use crate::lines::job::{LineJob, LineOptions, LinesFault};
+use crate::lines::reader::LineReader;
+use ber_core::{Broken, Sink, Source, put_all};
+use ill_schema::Profile;
+use std::alloc::{AllocError, Global};
+
+/// The number of octets that are asked of the source at once.
+const READ_LEN: usize = 16_384;
+
+/// Reads each line of an input as a message in hexadecimal, and writes a line with its result: for `Canonicalise` the normal form and for
+/// `Digest` the digest, in lower case hexadecimal, for `Check` a line as `Expired, 33 octets, normal`. A line that is no message has
+/// `refused at 19: Missing Expired.service-date-time` or `hex: odd number of digits` in its place, and the next line is read.
+///
+/// Each line is ended by a line feed, the last also by the end of the input. Spaces, tabs and carriage returns are skipped. A line of
+/// more than 4,194,304 octets is `hex: too long`. Before more input is asked for, the results of all lines that ended are put into the
+/// sink. Memory doesn't grow with the number of lines.
+///
+/// Returns whether all lines are messages, and for `Check` in normal form.
+///
+/// # Errors
+///
+/// The reason why the input was not read to its end, or not all results were written.
+pub fn run_lines<R: Source, W: Sink>(
+    alloc: Global,
+    job: LineJob,
+    source: &mut R,
+    sink: &mut W,
+) -> Result<bool, LinesFault>
+    ensures done { IfOk result (LinesDone (line_options Named.Two job) (R.left source.old)
+        (R.left source.new) (W.contents sink.old) (W.contents sink.new)) }
+    ensures fails { IfErr result (LinesFail (line_options Named.Two job)
+        (taking (R.left source.old) (R.left source.new) (R.is_broken source.new))
+        (putting (W.contents sink.old) (W.contents sink.new) (W.is_broken sink.new))) }
+    ensures source_stays { IsTrue (R.is_broken source.old) → IsTrue (R.is_broken source.new) }
+    ensures sink_stays { IsTrue (W.is_broken sink.old) → IsTrue (W.is_broken sink.new) }
+{
+    run_lines_as(alloc, Profile::Two, job, source, sink)
+}
+
+/// Reads lines as [`run_lines`] does, of messages in the profile.
+///
+/// # Errors
+///
+/// Those of [`run_lines`].
+///
+/// # Examples
+///
+/// ```
+/// let all_good = run_lines_as(alloc, Profile::Module, LineJob::Check, &mut source, &mut sink)?;
+/// ```
+pub fn run_lines_as<R: Source, W: Sink>(
+    alloc: Global,
+    profile: Profile,
+    job: LineJob,
+    source: &mut R,
+    sink: &mut W,
+) -> Result<bool, LinesFault>
+    ensures done { IfOk result (LinesDone (line_options profile job) (R.left source.old)
+        (R.left source.new) (W.contents sink.old) (W.contents sink.new)) }
+    ensures fails { IfErr result (LinesFail (line_options profile job)
+        (taking (R.left source.old) (R.left source.new) (R.is_broken source.new))
+        (putting (W.contents sink.old) (W.contents sink.new) (W.is_broken sink.new))) }
+    ensures source_stays { IsTrue (R.is_broken source.old) → IsTrue (R.is_broken source.new) }
+    ensures sink_stays { IsTrue (W.is_broken sink.old) → IsTrue (W.is_broken sink.new) }
+{
+    run_with(alloc, LineOptions { profile, job }, source, sink)
+}
+
+/// Does the work with each line.
+fn run_with<R: Source, W: Sink>(
+    alloc: Global,
+    work: LineOptions,
+    source: &mut R,
+    sink: &mut W,
+) -> Result<bool, LinesFault>
+    ensures done { IfOk result (LinesDone work (R.left source.old) (R.left source.new)
+        (W.contents sink.old) (W.contents sink.new)) }
+    ensures fails { IfErr result
+        (LinesFail work (taking (R.left source.old) (R.left source.new) (R.is_broken source.new))
+        (putting (W.contents sink.old) (W.contents sink.new) (W.is_broken sink.new))) }
+    ensures source_stays { IsTrue (R.is_broken source.old) → IsTrue (R.is_broken source.new) }
+    ensures sink_stays { IsTrue (W.is_broken sink.old) → IsTrue (W.is_broken sink.new) }
+{
+    let mut lines = LineReader::new(alloc);
+    let mut buffer = [0; READ_LEN];
+    for _ in 0..u64::MAX {
+        let count = match source.take(&mut buffer) {
+            Ok(0) => return finish(alloc, work, &mut lines, sink),
+            Ok(count) => count,
+            Err(Broken) => return Err(LinesFault::ReadFault),
+        };
+        feed_and_put(alloc, work, &buffer[..count], &mut lines, sink)?;
+    }
+    // After 2^64 calls no more is asked for.
+    Err(LinesFault::OutOfMemory)
+}
+
+/// Reads octets, and writes the results of the lines that end in them.
+fn feed_and_put<W: Sink>(
+    alloc: Global,
+    work: LineOptions,
+    octets: &[u8],
+    lines: &mut LineReader,
+    sink: &mut W,
+) -> Result<(), LinesFault>
+    ensures done { (s : List ℕ) (first : Option (List ℕ))
+        → HasWritten work s first (W.contents sink.old) lines.old
+        → OnOk result (HasWritten work (s ++ octets.now) first (W.contents sink.new) lines.new) }
+    ensures fails { (s : List ℕ) (first : Option (List ℕ)) (x : Bool)
+        → HasWritten work s first (W.contents sink.old) lines.old
+        → IfErr result (EndsWithin work (s ++ octets.now) x
+        (putting first (W.contents sink.new) (W.is_broken sink.new))) }
+    ensures stays { IsTrue (W.is_broken sink.old) → IsTrue (W.is_broken sink.new) }
+{
+    let fed = lines.feed(alloc, work, octets);
+    put_ready(lines, sink)?;
+    match fed {
+        Ok(()) => Ok(()),
+        Err(AllocError) => Err(LinesFault::OutOfMemory),
+    }
+}
+
+/// Answers the last line, where it has no end, and writes its result.
+fn finish<W: Sink>(
+    alloc: Global,
+    work: LineOptions,
+    lines: &mut LineReader,
+    sink: &mut W,
+) -> Result<bool, LinesFault>
+    ensures done { (s : List ℕ) (first left left' : Option (List ℕ)) → Consumes left left' s
+        → IsAtEnd left' → HasWritten work s first (W.contents sink.old) lines.old
+        → IfOk result (LinesDone work left left' first (W.contents sink.new)) }
+    ensures fails { (s : List ℕ) (first : Option (List ℕ)) (x : Bool)
+        → HasWritten work s first (W.contents sink.old) lines.old
+        → IfErr result (EndsWithin work s x (putting first (W.contents sink.new)
+        (W.is_broken sink.new))) }
+    ensures stays { IsTrue (W.is_broken sink.old) → IsTrue (W.is_broken sink.new) }
+{
+    if lines.part.is_empty() {
+        return Ok(lines.is_good);
+    }
+    lines.end_line(alloc, work)?;
+    put_ready(lines, sink)?;
+    Ok(lines.is_good)
+}
+
+/// Writes the results that are there.
+fn put_ready<W: Sink>(lines: &mut LineReader, sink: &mut W) -> Result<(), LinesFault>
+    ensures all { OnOk result (Appends (W.contents sink.old) (W.contents sink.new)
+        lines.old.ready.items) }
+    ensures ready { OnOk result (lines.new.ready.items ≡ []) }
+    ensures some { IfErr result (λ fault. (fault ≡ LinesFault.WriteFault)
+        × IsTrue (W.is_broken sink.new)
+        × ((n : ℕ) × (n < length lines.old.ready.items)
+        × Appends (W.contents sink.old) (W.contents sink.new) (take n lines.old.ready.items))) }
+    ensures part { lines.new.part.items ≡ lines.old.part.items }
+    ensures good { lines.new.is_good ≡ lines.old.is_good }
+    ensures stays { IsTrue (W.is_broken sink.old) → IsTrue (W.is_broken sink.new) }
+{
+    if put_all(sink, &lines.ready).is_err() {
+        return Err(LinesFault::WriteFault);
+    }
+    lines.ready.clear();
+    Ok(())
+}

@@ -1,6 +1,0 @@
-use Rattle.std.proofs.Common.{◌≡◌, false, take}
-use Rattle.ill_lines.specs.Lines.{has_line_end}
-use Rattle.ill_lines.proofs.lines.line_size.Given as goal
-
-abbrev pub invariant-octets : goal.invariant-octets
-invariant-octets l = has_line_end (take l.i l.octets) ≡ false

@@ -1,3 +1,0 @@
-pub mod MarkedValues
-pub mod Identifiers
-pub mod OctetTexts

@@ -1,5 +1,0 @@
-use Rattle.ill_marks.proofs.Identifiers.{Numbering}
-use Rattle.ill_marks.proofs.identifier.next_number.Given as goal
-
-abbrev pub invariant-loop-i : goal.invariant-loop-i
-invariant-loop-i l = Numbering l.octets l.number l.i

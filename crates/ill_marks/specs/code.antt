@@ -1,2 +1,0 @@
-pub mod MarkedOctets
-pub mod Identifiers
