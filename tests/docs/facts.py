@@ -476,11 +476,22 @@ def check_results_schema(known):
             fault(RESULTS, f"{place} has {found}, and not {wanted}")
 
 
+def check_crates():
+    """Compares the crates that ARCHITECTURE names with the directories in crates/."""
+    named = set(re.findall(r"`((?:ber|der|example|ill|test)_\w+)`", read("docs/ARCHITECTURE.md")))
+    crates = {path.name for path in (ROOT / "crates").iterdir() if "_" in path.name and (path / "src").is_dir()}
+    for name in sorted(named - crates):
+        fault("docs/ARCHITECTURE.md", f"names {name}, which is no crate")
+    for name in sorted(crates - named):
+        fault("docs/ARCHITECTURE.md", f"doesn't name the crate {name}")
+
+
 def check(documents, program):
     """Compares all, and returns what is wrong, a line each."""
     known = check_limits(documents)
     check_counts()
     check_gate(documents)
+    check_crates()
     check_edits_and_laws()
     check_statuses()
     check_examples()
