@@ -6,6 +6,7 @@ use Rattle.clap.specs.Simple.{App, new_app, new_rule, with_rule, with_subcommand
 use Rattle.clap.specs.declared.builder.action.ArgAction.TheVariants.{Append, SetTrue}
 use Rattle.clap.specs.declared.builder.value_parser.ValueParser.TheVariants.{Names, Unsigned}
 use Rattle.ill_tables.specs.declared.profile.Profile.{Profile}
+use Rattle.ill_args.specs.declared.orders.Verb.{Verb}
 use Rattle.ill_args.specs.Orders.{profile_name}
 
 -- the flag `--NAME`
@@ -78,6 +79,10 @@ abbrev pub topic : Text → App
 topic name = let a = new_app name in
     record a { top = record a.top { subcommand_required = true; arg_required_else_help = true } }
 
+-- all commands
+abbrev pub all_verbs : List Verb
+all_verbs = Verb.Show ∷ Verb.Check ∷ Verb.Digest ∷ Verb.Dump ∷ Verb.Same ∷ Verb.Canonicalise ∷ []
+
 module _ (names : ProfileNames) where
   -- a command on any number of files; one that goes on after a message that is refused, counts messages and writes JSON; and one that has lines, too
 
@@ -122,15 +127,22 @@ module _ (names : ProfileNames) where
   abbrev pub into_one : Text → App
   into_one name = with_files (with_output name)
 
-  -- the commands that print what they make of each file
-  abbrev pub with_printing : App → App
-  with_printing a = with_subcommand (with_subcommand (with_subcommand (with_subcommand a
-      (each_json (codes "show")).top) (each_line (codes "check")).top) (each_line (codes "digest")).top) (each_dumped (codes "dump")).top
+  abbrev pub command_for : Verb → App
+  command_for Verb.Show = each_json (codes "show")
+  command_for Verb.Check = each_line (codes "check")
+  command_for Verb.Digest = each_line (codes "digest")
+  command_for Verb.Dump = each_dumped (codes "dump")
+  command_for Verb.Same = two_files (codes "same")
+  command_for Verb.Canonicalise = into_one (codes "canonicalise")
 
-  -- the program with its six commands, and two topics
+  -- a program with these commands, in turn
+  abbrev pub with_commands : App → List Verb → App
+  with_commands a [] = a
+  with_commands a (verb ∷ verbs) = with_commands (with_subcommand a (command_for verb).top) verbs
+
+  -- the program with its commands, and two topics
   abbrev pub program_of : App
-  program_of = with_subcommand (with_subcommand (with_subcommand (with_subcommand (with_printing bare_program)
-      (two_files (codes "same")).top) (into_one (codes "canonicalise")).top) (topic (codes "causes")).top) (topic (codes "profile")).top
+  program_of = with_subcommand (with_subcommand (with_commands bare_program all_verbs) (topic (codes "causes")).top) (topic (codes "profile")).top
 
 -- a reference, where the place in memory makes no difference
 abbrev pub reference : {X : Type 0} → X → Bor X

@@ -1,16 +1,27 @@
 //! The commands and their flags, as clap takes them.
-ghost use Rattle.std.specs.Prelude.{◌≡◌, codes, false, map, IfOk};
+ghost use Rattle.std.specs.Prelude.{◌≡◌, false, map, IfOk};
 ghost use Rattle.clap.specs.Words.{app_of, rule_of};
-ghost use Rattle.clap.specs.Simple.{App, new_app, with_subcommand};
+ghost use Rattle.clap.specs.Simple.{App, with_subcommand};
 ghost use Rattle.clap.specs.declared.builder.command.Command.TheViews.{out-Command as fields_of};
-ghost use Rattle.ill_args.specs.CommandLine.{bare_program, each_dumped, each_json, each_line, file_rule, filename_rule, files_rule, flag_rule, into_one, list_rule, max_refused_rule, message_rule, output_rule, profile_rule, program_of, refused_rule, topic, two_files, with_hex, with_printing};
+ghost use Rattle.ill_args.specs.CommandLine.{bare_program, command_for, file_rule, filename_rule, files_rule, flag_rule, list_rule, max_refused_rule, message_rule, output_rule, profile_rule, program_of, refused_rule, topic, with_commands, with_hex};
 ghost use Rattle.ill_args.specs.code.Commands.{AreAllNames};
 ghost use Rattle.ill_args.specs.code.Arguments.{rule_for, with_rules};
 
+use crate::orders::Verb;
 use crate::{help, topics};
 use clap::builder::ValueParser;
 use clap::{Arg, ArgAction, Command};
 use std::alloc::{AllocError, Global};
+
+/// All commands.
+static VERBS: [Verb; 6] = [
+    Verb::Show,
+    Verb::Check,
+    Verb::Digest,
+    Verb::Dump,
+    Verb::Same,
+    Verb::Canonicalise,
+];
 
 /// The names of all profiles.
 static PROFILES: [&str; 2] = ["2", "module"];
@@ -261,20 +272,26 @@ fn arg<'a>(alloc: Global, argument: Argument) -> Arg<'a>
     }
 }
 
+/// The texts of a command: what it does, and what its help says after the arguments.
+#[derive(Clone, Copy)]
+struct Texts {
+    about: &'static str,
+    after: &'static str,
+}
+
 /// A command that reads hexadecimal text, too, and any of these profiles.
 fn by_hex<'a>(
     alloc: Global,
     profiles: &'a [&'a str],
     name: &'a str,
-    about: &'a str,
-    after: &'a str,
+    texts: Texts,
 ) -> Result<Command<'a>, AllocError>
     ensures { IfOk result (λ c. (app_of c ≡ with_hex profiles.entry name.entry.now)
         × ((fields_of c).has_globals ≡ false)) }
 {
     Command::new(alloc, name)
-        .about(about)
-        .after_help(after)
+        .about(texts.about)
+        .after_help(texts.after)
         .arg(flag(alloc, "hex", HEX))?
         .arg(profile(alloc, profiles))
 }
@@ -301,69 +318,74 @@ fn command<'a>(
     alloc: Global,
     profiles: &'a [&'a str],
     name: &'a str,
-    about: &'a str,
-    after: &'a str,
+    texts: Texts,
     arguments: &[Argument],
 ) -> Result<Command<'a>, AllocError>
     ensures { IfOk result (λ c. (app_of c ≡ with_rules (with_hex profiles.entry name.entry.now)
         (map rule_for arguments.now)) × ((fields_of c).has_globals ≡ false)) }
 {
-    let command = by_hex(alloc, profiles, name, about, after)?;
+    let command = by_hex(alloc, profiles, name, texts)?;
     with_arguments(alloc, command, arguments)
 }
 
-pub fn show<'a>(alloc: Global, profiles: &'a [&'a str]) -> Result<Command<'a>, AllocError>
-    ensures { IfOk result (λ c. (app_of c ≡ each_json profiles.entry (codes "show"))
+/// A command as clap takes it.
+pub fn command_of<'a>(
+    alloc: Global,
+    profiles: &'a [&'a str],
+    verb: Verb,
+) -> Result<Command<'a>, AllocError>
+    ensures { IfOk result (λ c. (app_of c ≡ command_for profiles.entry verb)
         × ((fields_of c).has_globals ≡ false)) }
 {
-    let about = "Writes the messages as text";
-    command(alloc, profiles, "show", about, help::SHOW, &SHOW)
+    match verb {
+        Verb::Show => command(alloc, profiles, "show", SHOW_TEXTS, &SHOW),
+        Verb::Check => command(alloc, profiles, "check", CHECK_TEXTS, &CHECK),
+        Verb::Digest => command(alloc, profiles, "digest", DIGEST_TEXTS, &CHECK),
+        Verb::Dump => command(alloc, profiles, "dump", DUMP_TEXTS, &DUMP),
+        Verb::Same => command(alloc, profiles, "same", SAME_TEXTS, &SAME),
+        Verb::Canonicalise => canonicalise(alloc, profiles),
+    }
 }
 
-pub fn check<'a>(alloc: Global, profiles: &'a [&'a str]) -> Result<Command<'a>, AllocError>
-    ensures { IfOk result (λ c. (app_of c ≡ each_line profiles.entry (codes "check"))
-        × ((fields_of c).has_globals ≡ false)) }
-{
-    let about = "Reports for each message whether it is in normal form";
-    command(alloc, profiles, "check", about, help::CHECK, &CHECK)
-}
+const SHOW_TEXTS: Texts = Texts {
+    about: "Writes the messages as text",
+    after: help::SHOW,
+};
 
-pub fn digest<'a>(alloc: Global, profiles: &'a [&'a str]) -> Result<Command<'a>, AllocError>
-    ensures { IfOk result (λ c. (app_of c ≡ each_line profiles.entry (codes "digest"))
-        × ((fields_of c).has_globals ≡ false)) }
-{
-    let about = "Writes the digest of each message, the same however it is spelled";
-    command(alloc, profiles, "digest", about, help::DIGEST, &CHECK)
-}
+const CHECK_TEXTS: Texts = Texts {
+    about: "Reports for each message whether it is in normal form",
+    after: help::CHECK,
+};
 
-pub fn dump<'a>(alloc: Global, profiles: &'a [&'a str]) -> Result<Command<'a>, AllocError>
-    ensures { IfOk result (λ c. (app_of c ≡ each_dumped profiles.entry (codes "dump"))
-        × ((fields_of c).has_globals ≡ false)) }
-{
-    let about = "Writes each element of the messages as it is spelled, and why one is refused";
-    command(alloc, profiles, "dump", about, help::DUMP, &DUMP)
-}
+const DIGEST_TEXTS: Texts = Texts {
+    about: "Writes the digest of each message, the same however it is spelled",
+    after: help::DIGEST,
+};
 
-fn same<'a>(alloc: Global, profiles: &'a [&'a str]) -> Result<Command<'a>, AllocError>
-    ensures { IfOk result (λ c. (app_of c ≡ two_files profiles.entry (codes "same"))
-        × ((fields_of c).has_globals ≡ false)) }
-{
-    let about = "Reports whether two files hold the same message, however it is spelled";
-    command(alloc, profiles, "same", about, help::SAME, &SAME)
-}
+const DUMP_TEXTS: Texts = Texts {
+    about: "Writes each element of the messages as it is spelled, and why one is refused",
+    after: help::DUMP,
+};
 
-pub fn canonicalise<'a>(alloc: Global, profiles: &'a [&'a str]) -> Result<Command<'a>, AllocError>
-    ensures { IfOk result (λ c. (app_of c ≡ into_one profiles.entry (codes "canonicalise"))
+const SAME_TEXTS: Texts = Texts {
+    about: "Reports whether two files hold the same message, however it is spelled",
+    after: help::SAME,
+};
+
+const CANONICALISE_TEXTS: Texts = Texts {
+    about: "Writes the normal form (DER) of each message in IN, or in each FILE, to OUT",
+    after: help::CANONICALISE,
+};
+
+fn canonicalise<'a>(alloc: Global, profiles: &'a [&'a str]) -> Result<Command<'a>, AllocError>
+    ensures { IfOk result (λ c. (app_of c ≡ command_for profiles.entry Verb.Canonicalise)
         × ((fields_of c).has_globals ≡ false)) }
 {
-    let about = "Writes the normal form (DER) of each message in IN, or in each FILE, to OUT";
-    let name = "canonicalise";
     let command = command(
         alloc,
         profiles,
-        name,
-        about,
-        help::CANONICALISE,
+        "canonicalise",
+        CANONICALISE_TEXTS,
         &CANONICALISE,
     )?;
     Ok(command.override_usage(help::CANONICALISE_USAGE))
@@ -410,26 +432,34 @@ fn with_command<'a>(
     program.subcommand(command?)
 }
 
-/// The program with the commands that print what they make of each file.
-fn with_printing<'a>(
+/// The names of profiles.
+#[derive(Clone, Copy)]
+struct ProfileNames<'a> {
+    names: &'a [&'a str],
+}
+
+/// The program with these commands.
+fn with_commands<'a>(
     alloc: Global,
     program: Command<'a>,
-    profiles: &'a [&'a str],
+    profiles: ProfileNames<'a>,
+    verbs: &[Verb],
 ) -> Result<Command<'a>, AllocError>
-    ensures { IfOk result (λ c. app_of c ≡ with_printing profiles.entry (app_of program.entry)) }
+    ensures { IfOk result (λ c. app_of c
+        ≡ with_commands profiles.entry.names (app_of program.entry) verbs.now) }
 {
-    let program = with_command(program, show(alloc, profiles))?;
-    let program = with_command(program, check(alloc, profiles))?;
-    let program = with_command(program, digest(alloc, profiles))?;
-    with_command(program, dump(alloc, profiles))
+    let mut program = program;
+    for verb in verbs {
+        program = with_command(program, command_of(alloc, profiles.names, *verb))?;
+    }
+    Ok(program)
 }
 
 pub fn program<'a>(alloc: Global, profiles: &'a [&'a str]) -> Result<Command<'a>, AllocError>
     ensures { IfOk result (λ c. app_of c ≡ program_of profiles.entry) }
 {
-    let program = with_printing(alloc, bare_program(alloc)?, profiles)?;
-    let program = with_command(program, same(alloc, profiles))?;
-    let program = with_command(program, canonicalise(alloc, profiles))?;
+    let names = ProfileNames { names: profiles };
+    let program = with_commands(alloc, bare_program(alloc)?, names, &VERBS)?;
     program
         .subcommand(topic(alloc, "causes", topics::CAUSES))?
         .subcommand(topic(alloc, "profile", topics::PROFILE))
