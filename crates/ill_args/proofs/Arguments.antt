@@ -3,8 +3,8 @@ use Rattle.std.proofs.Common.{◌≡◌, ◌∙◌, ℕ, ◌+◌, ◌<◌, List,
 use Rattle.std.proofs.lemmas.List.{map-append, take_more}
 use Rattle.clap.specs.Simple.{App, with_rule, with_subcommand}
 use Rattle.clap.specs.Walk.{Rule}
-use Rattle.ill_args.specs.CommandLine.{command_for, with_commands, ProfileNames}
-use Rattle.ill_args.specs.code.Arguments.{rule_for, with_rules}
+use Rattle.ill_args.specs.CommandLine.{command_for, with_commands, with_rules, ProfileNames}
+use Rattle.ill_args.specs.code.Arguments.{rule_for}
 use Rattle.ill_args.specs.declared.commands.Argument.{Argument}
 use Rattle.ill_args.specs.declared.orders.Verb.{Verb}
 

@@ -1,6 +1,7 @@
 -- Which words give an order.
-use Rattle.std.specs.Prelude.{◌≡◌, ◌≢◌, ◌⊎◌, ◌<◌, ◌+◌, ◌^◌, ℕ, Bool, true, false, List, [], ◌∷◌, map, codes, count_by, Option, Some, None, option_map, unwrap_or, IsSomeAnd}
+use Rattle.std.specs.Prelude.{◌≡◌, ◌≢◌, ◌⊎◌, ◌<◌, ◌+◌, ◌^◌, ℕ, Bool, true, false, List, [], ◌∷◌, map, codes, count_by, Option, Some, None, option_and_then, option_map, unwrap_or, IsSomeAnd}
 use Rattle.std.specs.Option.{option_map_or}
+use Rattle.std.specs.Borrow.{Bor}
 use Rattle.std.specs.Str.{bytes_eq}
 use Rattle.std.specs.Str.Parse.{IsNumeral, digits_value, without_leading_plus}
 use Rattle.clap.specs.Walk.{Row, Text, all_of, first_of, one_of}
@@ -51,6 +52,33 @@ verb (Order.Write messages input output) = Verb.Canonicalise
 verb (Order.Collect messages inputs output) = Verb.Canonicalise
 verb (Order.Lines profile input results) = verb_of_results results
 verb (Order.Compare reading first second) = Verb.Same
+
+-- a line at the end says how many files and messages there were
+abbrev pub is_counted : Order → Bool
+is_counted (Order.Print job json with_filename messages inputs) = messages.summary
+is_counted (Order.Write messages input output) = messages.summary
+is_counted (Order.Collect messages inputs output) = messages.summary
+is_counted _ = false
+
+-- the file that gets the octets of refused messages
+abbrev pub refused_of : Messages → Option (Bor Text)
+refused_of messages = option_and_then (λ (going : KeepGoing). going.refused) messages.keep_going
+
+abbrev pub limit_of : Messages → Option ℕ
+limit_of messages = option_and_then (λ (going : KeepGoing). going.limit.max_refused) messages.keep_going
+
+-- the number of the refused message that ends the work
+abbrev pub max_refused_of : Order → Option ℕ
+max_refused_of (Order.Print job json with_filename messages inputs) = limit_of messages
+max_refused_of (Order.Dump elements with_filename inputs) = option_and_then (λ (limit : Limit). limit.max_refused) elements.keep_going
+max_refused_of (Order.Write messages input output) = limit_of messages
+max_refused_of (Order.Collect messages inputs output) = limit_of messages
+max_refused_of _ = None
+
+-- reports are lines of JSON
+abbrev pub has_json_reports : Order → Bool
+has_json_reports (Order.Print (FileJob.Report report) json with_filename messages inputs) = json
+has_json_reports _ = false
 
 -- ---- words
 

@@ -3,25 +3,16 @@ ghost use Rattle.std.specs.Prelude.{◌≡◌, false, map, IfOk};
 ghost use Rattle.clap.specs.Words.{app_of, rule_of};
 ghost use Rattle.clap.specs.Simple.{App, with_subcommand};
 ghost use Rattle.clap.specs.declared.builder.command.Command.TheViews.{out-Command as fields_of};
-ghost use Rattle.ill_args.specs.CommandLine.{bare_program, command_for, file_rule, filename_rule, files_rule, flag_rule, list_rule, max_refused_rule, message_rule, output_rule, profile_rule, program_of, refused_rule, topic, with_commands, with_hex};
+ghost use Rattle.ill_args.specs.CommandLine.{bare_program, command_for, file_rule, filename_rule, files_rule, flag_rule, list_rule, max_refused_rule, message_rule, output_rule, profile_rule, program_of, refused_rule, rules_of, topic, with_commands, with_hex, with_rules};
+ghost use Rattle.ill_args.specs.Orders.{verb_name};
 ghost use Rattle.ill_args.specs.code.Commands.{AreAllNames};
-ghost use Rattle.ill_args.specs.code.Arguments.{rule_for, with_rules};
+ghost use Rattle.ill_args.specs.code.Arguments.{rule_for};
 
 use crate::orders::Verb;
 use crate::{help, topics};
 use clap::builder::ValueParser;
 use clap::{Arg, ArgAction, Command};
 use std::alloc::{AllocError, Global};
-
-/// All commands.
-static VERBS: [Verb; 6] = [
-    Verb::Show,
-    Verb::Check,
-    Verb::Digest,
-    Verb::Dump,
-    Verb::Same,
-    Verb::Canonicalise,
-];
 
 /// The names of all profiles.
 static PROFILES: [&str; 2] = ["2", "module"];
@@ -215,7 +206,7 @@ static SHOW: [Argument; 8] = [
 ];
 
 /// The arguments of `check` and `digest`.
-static CHECK: [Argument; 9] = [
+static REPORT: [Argument; 9] = [
     KEEP_GOING_FLAG,
     Refused,
     MaxRefused,
@@ -272,28 +263,74 @@ fn arg<'a>(alloc: Global, argument: Argument) -> Arg<'a>
     }
 }
 
-/// The texts of a command: what it does, and what its help says after the arguments.
-#[derive(Clone, Copy)]
-struct Texts {
-    about: &'static str,
-    after: &'static str,
+/// A command as clap takes it.
+pub fn command_of<'a>(
+    alloc: Global,
+    profiles: &'a [&'a str],
+    verb: Verb,
+) -> Result<Command<'a>, AllocError>
+    ensures { IfOk result (λ c. (app_of c ≡ command_for profiles.entry verb)
+        × ((fields_of c).has_globals ≡ false)) }
+{
+    let command = by_hex(alloc, profiles, verb)?;
+    let command = with_arguments(alloc, command, arguments_of(verb))?;
+    match verb {
+        Verb::Canonicalise => Ok(command.override_usage(help::CANONICALISE_USAGE)),
+        _ => Ok(command),
+    }
 }
 
 /// A command that reads hexadecimal text, too, and any of these profiles.
-fn by_hex<'a>(
-    alloc: Global,
-    profiles: &'a [&'a str],
-    name: &'a str,
-    texts: Texts,
-) -> Result<Command<'a>, AllocError>
-    ensures { IfOk result (λ c. (app_of c ≡ with_hex profiles.entry name.entry.now)
+fn by_hex<'a>(alloc: Global, profiles: &'a [&'a str], verb: Verb) -> Result<Command<'a>, AllocError>
+    ensures { IfOk result (λ c. (app_of c ≡ with_hex profiles.entry (verb_name verb))
         × ((fields_of c).has_globals ≡ false)) }
 {
-    Command::new(alloc, name)
-        .about(texts.about)
-        .after_help(texts.after)
+    Command::new(alloc, verb.name())
+        .about(about(verb))
+        .after_help(after_help(verb))
         .arg(flag(alloc, "hex", HEX))?
         .arg(profile(alloc, profiles))
+}
+
+/// What a command does.
+fn about<'a>(verb: Verb) -> &'a str {
+    match verb {
+        Verb::Show => "Writes the messages as text",
+        Verb::Check => "Reports for each message whether it is in normal form",
+        Verb::Digest => "Writes the digest of each message, the same however it is spelled",
+        Verb::Dump => {
+            "Writes each element of the messages as it is spelled, and why one is refused"
+        }
+        Verb::Same => "Reports whether two files hold the same message, however it is spelled",
+        Verb::Canonicalise => {
+            "Writes the normal form (DER) of each message in IN, or in each FILE, to OUT"
+        }
+    }
+}
+
+/// The end of the help of a command.
+fn after_help<'a>(verb: Verb) -> &'a str {
+    match verb {
+        Verb::Show => help::SHOW,
+        Verb::Check => help::CHECK,
+        Verb::Digest => help::DIGEST,
+        Verb::Dump => help::DUMP,
+        Verb::Same => help::SAME,
+        Verb::Canonicalise => help::CANONICALISE,
+    }
+}
+
+/// The arguments of a command besides `--hex` and `--profile`.
+fn arguments_of(verb: Verb) -> &'static [Argument]
+    ensures { map rule_for result.now ≡ rules_of verb }
+{
+    match verb {
+        Verb::Show => SHOW.as_slice(),
+        Verb::Check | Verb::Digest => REPORT.as_slice(),
+        Verb::Dump => DUMP.as_slice(),
+        Verb::Same => SAME.as_slice(),
+        Verb::Canonicalise => CANONICALISE.as_slice(),
+    }
 }
 
 /// The command with these arguments added.
@@ -311,84 +348,6 @@ fn with_arguments<'a>(
         command = command.arg(arg(alloc, *argument))?;
     }
     Ok(command)
-}
-
-/// A command with these arguments, which can name any of these profiles.
-fn command<'a>(
-    alloc: Global,
-    profiles: &'a [&'a str],
-    name: &'a str,
-    texts: Texts,
-    arguments: &[Argument],
-) -> Result<Command<'a>, AllocError>
-    ensures { IfOk result (λ c. (app_of c ≡ with_rules (with_hex profiles.entry name.entry.now)
-        (map rule_for arguments.now)) × ((fields_of c).has_globals ≡ false)) }
-{
-    let command = by_hex(alloc, profiles, name, texts)?;
-    with_arguments(alloc, command, arguments)
-}
-
-/// A command as clap takes it.
-pub fn command_of<'a>(
-    alloc: Global,
-    profiles: &'a [&'a str],
-    verb: Verb,
-) -> Result<Command<'a>, AllocError>
-    ensures { IfOk result (λ c. (app_of c ≡ command_for profiles.entry verb)
-        × ((fields_of c).has_globals ≡ false)) }
-{
-    match verb {
-        Verb::Show => command(alloc, profiles, "show", SHOW_TEXTS, &SHOW),
-        Verb::Check => command(alloc, profiles, "check", CHECK_TEXTS, &CHECK),
-        Verb::Digest => command(alloc, profiles, "digest", DIGEST_TEXTS, &CHECK),
-        Verb::Dump => command(alloc, profiles, "dump", DUMP_TEXTS, &DUMP),
-        Verb::Same => command(alloc, profiles, "same", SAME_TEXTS, &SAME),
-        Verb::Canonicalise => canonicalise(alloc, profiles),
-    }
-}
-
-const SHOW_TEXTS: Texts = Texts {
-    about: "Writes the messages as text",
-    after: help::SHOW,
-};
-
-const CHECK_TEXTS: Texts = Texts {
-    about: "Reports for each message whether it is in normal form",
-    after: help::CHECK,
-};
-
-const DIGEST_TEXTS: Texts = Texts {
-    about: "Writes the digest of each message, the same however it is spelled",
-    after: help::DIGEST,
-};
-
-const DUMP_TEXTS: Texts = Texts {
-    about: "Writes each element of the messages as it is spelled, and why one is refused",
-    after: help::DUMP,
-};
-
-const SAME_TEXTS: Texts = Texts {
-    about: "Reports whether two files hold the same message, however it is spelled",
-    after: help::SAME,
-};
-
-const CANONICALISE_TEXTS: Texts = Texts {
-    about: "Writes the normal form (DER) of each message in IN, or in each FILE, to OUT",
-    after: help::CANONICALISE,
-};
-
-fn canonicalise<'a>(alloc: Global, profiles: &'a [&'a str]) -> Result<Command<'a>, AllocError>
-    ensures { IfOk result (λ c. (app_of c ≡ command_for profiles.entry Verb.Canonicalise)
-        × ((fields_of c).has_globals ≡ false)) }
-{
-    let command = command(
-        alloc,
-        profiles,
-        "canonicalise",
-        CANONICALISE_TEXTS,
-        &CANONICALISE,
-    )?;
-    Ok(command.override_usage(help::CANONICALISE_USAGE))
 }
 
 /// A topic of `help`: a command that only has a help text.
@@ -459,7 +418,7 @@ pub fn program<'a>(alloc: Global, profiles: &'a [&'a str]) -> Result<Command<'a>
     ensures { IfOk result (λ c. app_of c ≡ program_of profiles.entry) }
 {
     let names = ProfileNames { names: profiles };
-    let program = with_commands(alloc, bare_program(alloc)?, names, &VERBS)?;
+    let program = with_commands(alloc, bare_program(alloc)?, names, &Verb::ALL)?;
     program
         .subcommand(topic(alloc, "causes", topics::CAUSES))?
         .subcommand(topic(alloc, "profile", topics::PROFILE))

@@ -1,5 +1,6 @@
 //! Orders: the meaning of a command line.
 use ill_tables::Profile;
+use std::alloc::{AllocError, Global};
 
 /// A command of the program.
 #[derive(Clone, Copy, Debug, PartialEq, Eq)]
@@ -152,9 +153,94 @@ pub enum Target<'a> {
     },
 }
 
+impl Order<'_> {
+    ghost use Rattle.std.specs.Prelude.{◌≡◌};
+    ghost use Rattle.ill_args.specs.Orders.{has_json_reports, is_counted, max_refused_of};
+
+    /// Tells whether a line at the end says how many files and messages there were.
+    pub fn is_counted(&self) -> bool
+        ensures { result ≡ is_counted self.now }
+    {
+        match self {
+            Order::Print { messages, .. }
+            | Order::Write { messages, .. }
+            | Order::Collect { messages, .. } => messages.summary,
+            Order::Dump { .. } | Order::Lines { .. } | Order::Compare { .. } => false,
+        }
+    }
+
+    /// The number of the refused message that ends the work, counted over all files.
+    pub fn max_refused(&self) -> Option<u32>
+        ensures { result ≡ max_refused_of self.now }
+    {
+        match self {
+            Order::Print { messages, .. }
+            | Order::Write { messages, .. }
+            | Order::Collect { messages, .. } => messages.keep_going?.limit.max_refused,
+            Order::Dump { elements, .. } => elements.keep_going?.max_refused,
+            Order::Lines { .. } | Order::Compare { .. } => None,
+        }
+    }
+
+    /// Tells whether reports are lines of JSON, and so the numbers at the end.
+    pub fn has_json_reports(&self) -> bool
+        ensures { result ≡ has_json_reports self.now }
+    {
+        match self {
+            Order::Print {
+                job: FileJob::Report(_),
+                json,
+                ..
+            } => *json,
+            _ => false,
+        }
+    }
+}
+
+impl<'a> Messages<'a> {
+    ghost use Rattle.std.specs.Prelude.{◌≡◌};
+    ghost use Rattle.ill_args.specs.Orders.{refused_of};
+
+    /// The file that gets the octets of refused messages.
+    pub fn refused(self) -> Option<&'a str>
+        ensures { result ≡ refused_of self.entry }
+    {
+        self.keep_going?.refused
+    }
+}
+
+impl<'a> Inputs<'a> {
+    ghost use Rattle.std.specs.Prelude.{◌≡◌, [], ◌∷◌, None, IfOk};
+
+    /// One file.
+    pub fn one(alloc: Global, file: &'a str) -> Result<Inputs<'a>, AllocError>
+        ensures files { IfOk result (λ inputs. inputs.files.items ≡ file.entry ∷ []) }
+        ensures list { IfOk result (λ inputs. inputs.list ≡ None) }
+    {
+        let mut files = Vec::new(alloc);
+        files.push(file)?;
+        Ok(Inputs { files, list: None })
+    }
+}
+
 impl Verb {
+    ghost use Rattle.std.specs.Prelude.{◌≡◌};
+    ghost use Rattle.ill_args.specs.Orders.{verb_name};
+
+    /// All commands.
+    pub const ALL: [Verb; 6] = [
+        Verb::Show,
+        Verb::Check,
+        Verb::Digest,
+        Verb::Dump,
+        Verb::Same,
+        Verb::Canonicalise,
+    ];
+
     /// The word for the command.
-    pub(crate) fn name(self) -> &'static str {
+    pub fn name<'a>(self) -> &'a str
+        ensures { result.now ≡ verb_name self }
+    {
         match self {
             Verb::Show => "show",
             Verb::Check => "check",
