@@ -18,6 +18,7 @@ use Rattle.ill_args.specs.declared.orders.Reading.{Reading}
 use Rattle.ill_args.specs.declared.orders.Report.{Report}
 use Rattle.ill_args.specs.declared.orders.Target.{Target}
 use Rattle.ill_args.specs.declared.orders.Verb.{Verb}
+use Rattle.ill_args.specs.declared.orders.Work.{Work}
 
 abbrev pub verb_name : Verb → Text
 verb_name Verb.Show = codes "show"
@@ -32,7 +33,7 @@ abbrev pub profile_name : Profile → Text
 profile_name Profile.Two = codes "2"
 profile_name Profile.Module = codes "module"
 
--- the command that a report is of, a job, the results of lines, and an order
+-- the command that a report is of, a job, the results of lines, work, and an order
 abbrev pub verb_of_report : Report → Verb
 verb_of_report Report.Check = Verb.Check
 verb_of_report Report.Digest = Verb.Digest
@@ -45,19 +46,22 @@ abbrev pub verb_of_results : LineResults → Verb
 verb_of_results (LineResults.Report report) = verb_of_report report
 verb_of_results _ = Verb.Canonicalise
 
+abbrev pub verb_of_work : Work → Verb
+verb_of_work (Work.Print job json with_filename messages inputs) = verb_of_job job
+verb_of_work (Work.Dump elements with_filename inputs) = Verb.Dump
+verb_of_work (Work.Write messages input output) = Verb.Canonicalise
+verb_of_work (Work.Collect messages inputs output) = Verb.Canonicalise
+verb_of_work (Work.Lines profile input results) = verb_of_results results
+
 abbrev pub verb : Order → Verb
-verb (Order.Print job json with_filename messages inputs) = verb_of_job job
-verb (Order.Dump elements with_filename inputs) = Verb.Dump
-verb (Order.Write messages input output) = Verb.Canonicalise
-verb (Order.Collect messages inputs output) = Verb.Canonicalise
-verb (Order.Lines profile input results) = verb_of_results results
+verb (Order.Each work) = verb_of_work work
 verb (Order.Compare reading first second) = Verb.Same
 
 -- a line at the end says how many files and messages there were
-abbrev pub is_counted : Order → Bool
-is_counted (Order.Print job json with_filename messages inputs) = messages.summary
-is_counted (Order.Write messages input output) = messages.summary
-is_counted (Order.Collect messages inputs output) = messages.summary
+abbrev pub is_counted : Work → Bool
+is_counted (Work.Print job json with_filename messages inputs) = messages.summary
+is_counted (Work.Write messages input output) = messages.summary
+is_counted (Work.Collect messages inputs output) = messages.summary
 is_counted _ = false
 
 -- the file that gets the octets of refused messages
@@ -68,16 +72,16 @@ abbrev pub limit_of : Messages → Option ℕ
 limit_of messages = option_and_then (λ (going : KeepGoing). going.limit.max_refused) messages.keep_going
 
 -- the number of the refused message that ends the work
-abbrev pub max_refused_of : Order → Option ℕ
-max_refused_of (Order.Print job json with_filename messages inputs) = limit_of messages
-max_refused_of (Order.Dump elements with_filename inputs) = option_and_then (λ (limit : Limit). limit.max_refused) elements.keep_going
-max_refused_of (Order.Write messages input output) = limit_of messages
-max_refused_of (Order.Collect messages inputs output) = limit_of messages
+abbrev pub max_refused_of : Work → Option ℕ
+max_refused_of (Work.Print job json with_filename messages inputs) = limit_of messages
+max_refused_of (Work.Dump elements with_filename inputs) = option_and_then (λ (limit : Limit). limit.max_refused) elements.keep_going
+max_refused_of (Work.Write messages input output) = limit_of messages
+max_refused_of (Work.Collect messages inputs output) = limit_of messages
 max_refused_of _ = None
 
 -- reports are lines of JSON
-abbrev pub has_json_reports : Order → Bool
-has_json_reports (Order.Print (FileJob.Report report) json with_filename messages inputs) = json
+abbrev pub has_json_reports : Work → Bool
+has_json_reports (Work.Print (FileJob.Report report) json with_filename messages inputs) = json
 has_json_reports _ = false
 
 -- ---- words
@@ -225,18 +229,21 @@ HasResults rows input (LineResults.Report report) = HasOne rows input
 HasResults rows input (LineResults.Write output) = AreInAndOut rows input output
 HasResults rows input (LineResults.Collect output) = HasOne rows input × HasOutput rows output × (ReadsOutput rows → ⊥)
 
--- messages are read, and not lines; `show` has no lines
+-- messages are read, and not lines; `show` has no `--lines`
 abbrev pub IsByMessage : List Row → FileJob → Type 0
 IsByMessage rows FileJob.Show = Unit {0}
 IsByMessage rows (FileJob.Report report) = is_set (codes "lines") rows ≡ false
 
-abbrev pub HasWords : List Row → Order → Type 0
-HasWords rows (Order.Print job json with_filename messages inputs) =
+abbrev pub HasWork : List Row → Work → Type 0
+HasWork rows (Work.Print job json with_filename messages inputs) =
     IsByMessage rows job × (json ≡ is_set (codes "json") rows) × (with_filename ≡ is_set (codes "with-filename") rows) × AreMessages rows messages × AreInputs rows inputs
-HasWords rows (Order.Dump elements with_filename inputs) = AreElements rows elements × (with_filename ≡ is_set (codes "with-filename") rows) × AreInputs rows inputs
-HasWords rows (Order.Write messages input output) = (is_set (codes "lines") rows ≡ false) × AreMessages rows messages × AreInAndOut rows input.now output
-HasWords rows (Order.Collect messages inputs output) = (is_set (codes "lines") rows ≡ false) × AreMessages rows messages × AreInputs rows inputs × HasOutput rows output
-HasWords rows (Order.Lines profile input results) = NamesProfile rows profile × HasLines rows × HasResults rows input.now results
+HasWork rows (Work.Dump elements with_filename inputs) = AreElements rows elements × (with_filename ≡ is_set (codes "with-filename") rows) × AreInputs rows inputs
+HasWork rows (Work.Write messages input output) = (is_set (codes "lines") rows ≡ false) × AreMessages rows messages × AreInAndOut rows input.now output
+HasWork rows (Work.Collect messages inputs output) = (is_set (codes "lines") rows ≡ false) × AreMessages rows messages × AreInputs rows inputs × HasOutput rows output
+HasWork rows (Work.Lines profile input results) = NamesProfile rows profile × HasLines rows × HasResults rows input.now results
+
+abbrev pub HasWords : List Row → Order → Type 0
+HasWords rows (Order.Each work) = HasWork rows work
 HasWords rows (Order.Compare reading first second) = IsReading rows reading × HasPair rows first.now second.now × (first.now ≡ codes "-" → second.now ≢ codes "-")
 
 -- what was found for a command is the order's command, and its words are those of the order's parts

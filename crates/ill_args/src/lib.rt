@@ -23,5 +23,5 @@ pub use fault::LineFault;
 pub use line::order;
 pub use orders::{
     Elements, FileJob, Inputs, KeepGoing, Limit, LineResults, Messages, Order, Reading, Report,
-    Target, Verb,
+    Target, Verb, Work,
 };

@@ -5,7 +5,7 @@ ghost use Rattle.clap.specs.Words.{fault_of, first_of, found_of, rows_of, subcom
 ghost use Rattle.ill_args.specs.CommandLine.{program};
 ghost use Rattle.ill_args.specs.Orders.{verb_of_job, verb_of_report, AreInputs, HasTwo, IsByMessage, IsOrderOf, ReadsOutput};
 ghost use Rattle.ill_args.specs.Refused.{IsFaultOf, IsRefusedBy};
-ghost use Rattle.ill_args.specs.code.Commands.{HasBoth, HasProfile, IsCommand, IsFault, IsOrder};
+ghost use Rattle.ill_args.specs.code.Commands.{HasBoth, HasProfile, IsCommand, IsFault, IsOrder, IsWork};
 ghost use Rattle.ill_args.specs.declared.orders.Verb.{Verb};
 
 use crate::fault::LineFault;
@@ -14,7 +14,7 @@ use crate::flags::{check_lines, limit, messages, stops, target};
 use crate::matches::{
     is_set, matches_of, number_of, profile_of, reading_of, required, value_of, verb_of,
 };
-use crate::orders::{Elements, FileJob, Inputs, LineResults, Order, Report, Verb};
+use crate::orders::{Elements, FileJob, Inputs, LineResults, Order, Report, Verb, Work};
 use clap::ArgMatches;
 use std::alloc::Global;
 
@@ -63,28 +63,28 @@ fn order_by<'a>(alloc: Global, verb: Verb, words: &ArgMatches<'a>) -> Result<Ord
     ensures fault { IfErr result (IsFault verb (rows_of (found_of words.now))) }
 {
     match verb {
-        Verb::Show => show(alloc, words),
-        Verb::Check => report(alloc, Report::Check, words),
-        Verb::Digest => report(alloc, Report::Digest, words),
-        Verb::Dump => dump(alloc, words),
+        Verb::Show => Ok(Order::Each(show(alloc, words)?)),
+        Verb::Check => Ok(Order::Each(report(alloc, Report::Check, words)?)),
+        Verb::Digest => Ok(Order::Each(report(alloc, Report::Digest, words)?)),
+        Verb::Dump => Ok(Order::Each(dump(alloc, words)?)),
         Verb::Same => same(words),
-        Verb::Canonicalise => canonicalise(alloc, words),
+        Verb::Canonicalise => Ok(Order::Each(canonicalise(alloc, words)?)),
     }
 }
 
-fn show<'a>(alloc: Global, words: &ArgMatches<'a>) -> Result<Order<'a>, LineFault>
+fn show<'a>(alloc: Global, words: &ArgMatches<'a>) -> Result<Work<'a>, LineFault>
     requires { HasProfile (rows_of (found_of words.now)) }
-    ensures order { IfOk result (IsOrder Verb.Show (rows_of (found_of words.now))) }
+    ensures order { IfOk result (IsWork Verb.Show (rows_of (found_of words.now))) }
     ensures fault { IfErr result (IsFault Verb.Show (rows_of (found_of words.now))) }
 {
     let inputs = inputs(alloc, Verb::Show, words)?;
     print(FileJob::Show, words, inputs)
 }
 
-/// The order of `check` or `digest`.
-fn report<'a>(alloc: Global, report: Report, words: &ArgMatches<'a>) -> Result<Order<'a>, LineFault>
+/// The work of `check` or `digest`.
+fn report<'a>(alloc: Global, report: Report, words: &ArgMatches<'a>) -> Result<Work<'a>, LineFault>
     requires { HasProfile (rows_of (found_of words.now)) }
-    ensures order { IfOk result (IsOrder (verb_of_report report) (rows_of (found_of words.now))) }
+    ensures order { IfOk result (IsWork (verb_of_report report) (rows_of (found_of words.now))) }
     ensures fault { IfErr result (IsFault (verb_of_report report) (rows_of (found_of words.now))) }
 {
     let inputs = inputs(alloc, report.verb(), words)?;
@@ -94,26 +94,26 @@ fn report<'a>(alloc: Global, report: Report, words: &ArgMatches<'a>) -> Result<O
     check_lines(words)?;
     let input = one_file(words)?;
     stops(words)?;
-    Ok(Order::Lines {
+    Ok(Work::Lines {
         profile: profile_of(words),
         input,
         results: LineResults::Report(report),
     })
 }
 
-/// The order of a job that is printed.
+/// The work of a job that is printed.
 fn print<'a>(
     job: FileJob,
     words: &ArgMatches<'a>,
     inputs: Inputs<'a>,
-) -> Result<Order<'a>, LineFault>
+) -> Result<Work<'a>, LineFault>
     requires profile { HasProfile (rows_of (found_of words.now)) }
     requires by_message { IsByMessage (rows_of (found_of words.now)) job }
     requires inputs { AreInputs (rows_of (found_of words.now)) inputs }
-    ensures order { IfOk result (IsOrder (verb_of_job job) (rows_of (found_of words.now))) }
+    ensures order { IfOk result (IsWork (verb_of_job job) (rows_of (found_of words.now))) }
     ensures fault { IfErr result (IsFault (verb_of_job job) (rows_of (found_of words.now))) }
 {
-    Ok(Order::Print {
+    Ok(Work::Print {
         job,
         json: is_set(words, "json"),
         with_filename: is_set(words, "with-filename"),
@@ -122,13 +122,13 @@ fn print<'a>(
     })
 }
 
-fn dump<'a>(alloc: Global, words: &ArgMatches<'a>) -> Result<Order<'a>, LineFault>
+fn dump<'a>(alloc: Global, words: &ArgMatches<'a>) -> Result<Work<'a>, LineFault>
     requires { HasProfile (rows_of (found_of words.now)) }
-    ensures order { IfOk result (IsOrder Verb.Dump (rows_of (found_of words.now))) }
+    ensures order { IfOk result (IsWork Verb.Dump (rows_of (found_of words.now))) }
     ensures fault { IfErr result (IsFault Verb.Dump (rows_of (found_of words.now))) }
 {
     let inputs = inputs(alloc, Verb::Dump, words)?;
-    Ok(Order::Dump {
+    Ok(Work::Dump {
         elements: Elements {
             reading: reading_of(words),
             keep_going: limit(words)?,
@@ -158,9 +158,9 @@ fn same<'a>(words: &ArgMatches<'a>) -> Result<Order<'a>, LineFault>
     })
 }
 
-fn canonicalise<'a>(alloc: Global, words: &ArgMatches<'a>) -> Result<Order<'a>, LineFault>
+fn canonicalise<'a>(alloc: Global, words: &ArgMatches<'a>) -> Result<Work<'a>, LineFault>
     requires { HasProfile (rows_of (found_of words.now)) }
-    ensures order { IfOk result (IsOrder Verb.Canonicalise (rows_of (found_of words.now))) }
+    ensures order { IfOk result (IsWork Verb.Canonicalise (rows_of (found_of words.now))) }
     ensures fault { IfErr result (IsFault Verb.Canonicalise (rows_of (found_of words.now))) }
 {
     match value_of(words, "output") {
@@ -172,21 +172,17 @@ fn canonicalise<'a>(alloc: Global, words: &ArgMatches<'a>) -> Result<Order<'a>, 
     }
 }
 
-/// The order of `canonicalise` with IN and OUT.
-fn write<'a>(
-    words: &ArgMatches<'a>,
-    input: &'a str,
-    output: &'a str,
-) -> Result<Order<'a>, LineFault>
+/// The work of `canonicalise` with IN and OUT.
+fn write<'a>(words: &ArgMatches<'a>, input: &'a str, output: &'a str) -> Result<Work<'a>, LineFault>
     requires profile { HasProfile (rows_of (found_of words.now)) }
     requires two { HasTwo (rows_of (found_of words.now)) input.now output.now }
     requires differ { input.now ≢ codes "-" → output.now ≢ input.now }
-    ensures order { IfOk result (IsOrder Verb.Canonicalise (rows_of (found_of words.now))) }
+    ensures order { IfOk result (IsWork Verb.Canonicalise (rows_of (found_of words.now))) }
     ensures fault { IfErr result (IsFault Verb.Canonicalise (rows_of (found_of words.now))) }
 {
     if !is_set(words, "lines") {
         let output = target(words, output)?;
-        return Ok(Order::Write {
+        return Ok(Work::Write {
             messages: messages(words)?,
             input,
             output,
@@ -195,28 +191,28 @@ fn write<'a>(
     check_lines(words)?;
     let output = target(words, output)?;
     stops(words)?;
-    Ok(Order::Lines {
+    Ok(Work::Lines {
         profile: profile_of(words),
         input,
         results: LineResults::Write(output),
     })
 }
 
-/// The order of `canonicalise` with `-o`.
+/// The work of `canonicalise` with `-o`.
 fn collect<'a>(
     alloc: Global,
     words: &ArgMatches<'a>,
     output: &'a str,
-) -> Result<Order<'a>, LineFault>
+) -> Result<Work<'a>, LineFault>
     requires profile { HasProfile (rows_of (found_of words.now)) }
     requires output { first_of (codes "output") (rows_of (found_of words.now)) ≡ Some output.now }
-    ensures order { IfOk result (IsOrder Verb.Canonicalise (rows_of (found_of words.now))) }
+    ensures order { IfOk result (IsWork Verb.Canonicalise (rows_of (found_of words.now))) }
     ensures fault { IfErr result (IsFault Verb.Canonicalise (rows_of (found_of words.now))) }
 {
     let inputs = inputs(alloc, Verb::Canonicalise, words)?;
     if !is_set(words, "lines") {
         let output = target(words, output)?;
-        return Ok(Order::Collect {
+        return Ok(Work::Collect {
             messages: messages(words)?,
             inputs,
             output,
@@ -226,7 +222,7 @@ fn collect<'a>(
     let input = one_file(words)?;
     let output = target(words, output)?;
     stops(words)?;
-    Ok(Order::Lines {
+    Ok(Work::Lines {
         profile: profile_of(words),
         input,
         results: LineResults::Collect(output),

@@ -16,6 +16,19 @@ pub enum Verb {
 /// The order of a command line. The word `-` is standard input.
 #[derive(Debug, Drop)]
 pub enum Order<'a> {
+    /// Work on one input after another.
+    Each(Work<'a>),
+    /// A comparison of two inputs: `same`.
+    Compare {
+        reading: Reading,
+        first: &'a str,
+        second: &'a str,
+    },
+}
+
+/// Work on one input after another.
+#[derive(Debug, Drop)]
+pub enum Work<'a> {
     /// What a job writes of the messages of each file, printed: `show`, and without `--lines` `check` and `digest`.
     Print {
         job: FileJob,
@@ -50,12 +63,6 @@ pub enum Order<'a> {
         profile: Profile,
         input: &'a str,
         results: LineResults<'a>,
-    },
-    /// A comparison of two files: `same`.
-    Compare {
-        reading: Reading,
-        first: &'a str,
-        second: &'a str,
     },
 }
 
@@ -153,7 +160,7 @@ pub enum Target<'a> {
     },
 }
 
-impl Order<'_> {
+impl Work<'_> {
     ghost use Rattle.std.specs.Prelude.{◌≡◌};
     ghost use Rattle.ill_args.specs.Orders.{has_json_reports, is_counted, max_refused_of};
 
@@ -162,10 +169,10 @@ impl Order<'_> {
         ensures { result ≡ is_counted self.now }
     {
         match self {
-            Order::Print { messages, .. }
-            | Order::Write { messages, .. }
-            | Order::Collect { messages, .. } => messages.summary,
-            Order::Dump { .. } | Order::Lines { .. } | Order::Compare { .. } => false,
+            Work::Print { messages, .. }
+            | Work::Write { messages, .. }
+            | Work::Collect { messages, .. } => messages.summary,
+            Work::Dump { .. } | Work::Lines { .. } => false,
         }
     }
 
@@ -174,11 +181,11 @@ impl Order<'_> {
         ensures { result ≡ max_refused_of self.now }
     {
         match self {
-            Order::Print { messages, .. }
-            | Order::Write { messages, .. }
-            | Order::Collect { messages, .. } => messages.keep_going?.limit.max_refused,
-            Order::Dump { elements, .. } => elements.keep_going?.max_refused,
-            Order::Lines { .. } | Order::Compare { .. } => None,
+            Work::Print { messages, .. }
+            | Work::Write { messages, .. }
+            | Work::Collect { messages, .. } => messages.keep_going?.limit.max_refused,
+            Work::Dump { elements, .. } => elements.keep_going?.max_refused,
+            Work::Lines { .. } => None,
         }
     }
 
@@ -187,7 +194,7 @@ impl Order<'_> {
         ensures { result ≡ has_json_reports self.now }
     {
         match self {
-            Order::Print {
+            Work::Print {
                 job: FileJob::Report(_),
                 json,
                 ..

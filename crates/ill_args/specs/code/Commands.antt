@@ -3,12 +3,13 @@ use Rattle.std.specs.Prelude.{◌≡◌, ◌⊎◌, true, false, List, [], ◌�
 use Rattle.clap.specs.Walk.{Row, Text, first_of}
 use Rattle.ill_tables.specs.declared.profile.Profile.{Profile}
 use Rattle.ill_args.specs.CommandLine.{ProfileNames}
-use Rattle.ill_args.specs.Orders.{is_set, profile_name, verb, verb_name, HasOne, HasTwo, HasWords, NamesProfile}
+use Rattle.ill_args.specs.Orders.{is_set, profile_name, verb, verb_name, verb_of_work, HasOne, HasTwo, HasWords, HasWork, NamesProfile}
 use Rattle.ill_args.specs.Refused.{HasFault, IsOutOfMemory}
 use Rattle.ill_args.specs.declared.fault.LineFault.{LineFault}
 use Rattle.ill_args.specs.declared.fault.LineFault.TheVariants.{NotOneFile}
 use Rattle.ill_args.specs.declared.orders.Order.{Order}
 use Rattle.ill_args.specs.declared.orders.Verb.{Verb}
+use Rattle.ill_args.specs.declared.orders.Work.{Work}
 
 -- the two files of `same` are there
 abbrev pub HasBoth : List Row → Type 0
@@ -38,6 +39,10 @@ pub record IsCommand (found : Option (Text × List Row)) : Type 0 where
 -- the order of a command with these words
 abbrev pub IsOrder : Verb → List Row → Order → Type 0
 IsOrder of rows order = (verb order ≡ of) × HasWords rows order
+
+-- the work of a command with these words
+abbrev pub IsWork : Verb → List Row → Work → Type 0
+IsWork of rows work = (verb_of_work work ≡ of) × HasWork rows work
 
 -- a fault of the words of a command, or memory ran out
 abbrev pub IsFault : Verb → List Row → LineFault → Type 0
