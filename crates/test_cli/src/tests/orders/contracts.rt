@@ -7,7 +7,7 @@ ghost use Rattle.ill_args.specs.Refused.{IsRefusedBy};
 ghost use Rattle.ill_tables.specs.declared.profile.Profile.TheVariants.{Two, Module};
 ghost use Rattle.ill_args.specs.declared.fault.LineFault.TheVariants.{SameWord};
 ghost use Rattle.ill_args.specs.declared.orders.Order.{Order};
-ghost use Rattle.test_cli.specs.Tasks.{profile_of, IsSameOrder};
+ghost use Rattle.test_cli.specs.Orders.{profile_of, IsSameOrder};
 
 use ill_args::{LineFault, Order, Work, order};
 use std::alloc::Global;
