@@ -157,12 +157,11 @@ SharesRefused rows =
 abbrev pub HasInputs : List Row → Inputs → Type 0
 HasInputs rows inputs = (files_in rows ≡ map (λ word. word.now) inputs.files.items) × (list_in rows ≡ option_map (λ word. word.now) inputs.list)
 
--- there are files, standard input is not read twice, and none is the output
+-- there are files, and standard input is not read twice
 pub record AreInputs (rows : List Row) (inputs : Inputs) : Type 0 where
   pub files : HasInputs rows inputs
   pub some : NamesNothing rows → ⊥
   pub once : ReadsInputTwice rows → ⊥
-  pub not_written : ReadsOutput rows → ⊥
 
 pub record IsReading (rows : List Row) (reading : Reading) : Type 0 where
   pub profile : NamesProfile rows reading.profile
@@ -211,10 +210,11 @@ pub record AreInAndOut (rows : List Row) (input : Text) (output : Target) : Type
   pub target : IsTarget rows output
   pub differ : input ≢ codes "-" → target_name output ≢ input
 
--- the word of `-o`
+-- OUT is the word of `-o`, and none of the files that are read
 pub record HasOutput (rows : List Row) (output : Target) : Type 0 where
   pub word : first_of (codes "output") rows ≡ Some (target_name output)
   pub target : IsTarget rows output
+  pub not_read : ReadsOutput rows → ⊥
 
 -- lines are texts of their own, none is passed over, and their results are in words and not counted
 pub record HasLines (rows : List Row) : Type 0 where
@@ -227,7 +227,7 @@ pub record HasLines (rows : List Row) : Type 0 where
 abbrev pub HasResults : List Row → Text → LineResults → Type 0
 HasResults rows input (LineResults.Report report) = HasOne rows input
 HasResults rows input (LineResults.Write output) = AreInAndOut rows input output
-HasResults rows input (LineResults.Collect output) = HasOne rows input × HasOutput rows output × (ReadsOutput rows → ⊥)
+HasResults rows input (LineResults.Collect output) = HasOne rows input × HasOutput rows output
 
 -- messages are read, and not lines; `show` has no `--lines`
 abbrev pub IsByMessage : List Row → FileJob → Type 0

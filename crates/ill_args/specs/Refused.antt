@@ -41,7 +41,7 @@ ExceedsTwo _ rows = ⊥
 abbrev pub HasFileFault : Verb → List Row → LineFault → Type 0
 HasFileFault verb rows SameWord = HasSameWord verb rows
 HasFileFault verb rows InputTwice = HasAnyFiles verb rows × ReadsInputTwice rows
-HasFileFault verb rows OutputIsRead = HasAnyFiles verb rows × ReadsOutput rows
+HasFileFault verb rows OutputIsRead = (verb ≡ Verb.Canonicalise) × ReadsOutput rows
 HasFileFault verb rows (Missing error) = (kind_of error ≡ ErrorKind.MissingRequiredArgument) × ((HasAnyFiles verb rows × NamesNothing rows) ⊎ LacksTwo verb rows)
 HasFileFault verb rows (Unexpected error) = (kind_of error ≡ ErrorKind.UnknownArgument) × ExceedsTwo verb rows
 HasFileFault verb rows NotOneFile = HasAnyFiles verb rows × (is_set (codes "lines") rows ≡ true) × ((file : Text) → HasOne rows file → ⊥)

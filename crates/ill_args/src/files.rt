@@ -29,9 +29,6 @@ pub fn inputs<'a>(
     if reads(words, "-") > 1 {
         return Err(LineFault::InputTwice);
     }
-    if reads_output(words) {
-        return Err(LineFault::OutputIsRead);
-    }
     if names_nothing(words) {
         return Err(LineFault::Missing(missing(alloc, verb, help::NO_FILE)?));
     }
@@ -39,7 +36,7 @@ pub fn inputs<'a>(
 }
 
 /// Tells whether the word of `-o` is among the files that are read, or is their list.
-fn reads_output(words: &ArgMatches<'_>) -> bool
+pub fn reads_output(words: &ArgMatches<'_>) -> bool
     ensures { IsTrue result ↔ ReadsOutput (rows_of (found_of words.now)) }
 {
     match value_of(words, "output") {

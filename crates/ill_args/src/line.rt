@@ -9,7 +9,7 @@ ghost use Rattle.ill_args.specs.code.Commands.{HasBoth, HasProfile, IsCommand, I
 ghost use Rattle.ill_args.specs.declared.orders.Verb.{Verb};
 
 use crate::fault::LineFault;
-use crate::files::{in_and_out, inputs, one_file};
+use crate::files::{in_and_out, inputs, one_file, reads_output};
 use crate::flags::{check_lines, limit, messages, stops, target};
 use crate::matches::{
     is_set, matches_of, number_of, profile_of, reading_of, required, value_of, verb_of,
@@ -210,6 +210,9 @@ fn collect<'a>(
     ensures fault { IfErr result (IsFault Verb.Canonicalise (rows_of (found_of words.now))) }
 {
     let inputs = inputs(alloc, Verb::Canonicalise, words)?;
+    if reads_output(words) {
+        return Err(LineFault::OutputIsRead);
+    }
     if !is_set(words, "lines") {
         let output = target(words, output)?;
         return Ok(Work::Collect {

@@ -31,7 +31,7 @@ verb_again : (v : Verb) → verb_of (verb_name v) ≡ v
 verb_again Verb.Show = refl
 verb_again _ = refl
 
-verb_is : (v w : Verb) → verb_name v ≡ verb_name w → v ≡ w
+pub verb_is : (v w : Verb) → verb_name v ≡ verb_name w → v ≡ w
 verb_is v w e = sym (verb_again v) ∙ ap verb_of e ∙ verb_again w
 
 profile_is : (p q : Profile) → profile_name p ≡ profile_name q → p ≡ q
@@ -40,8 +40,8 @@ profile_is Profile.Two Profile.Module e = absurd (let q : 1 ≡ 6 = ap length e 
 profile_is Profile.Module Profile.Two e = absurd (let q : 6 ≡ 1 = ap length e in omega (arith, q))
 profile_is Profile.Module Profile.Module e = refl
 
-some_is : {X : Type 0} (x y : X) → Some x ≡ Some y → x ≡ y
-some_is x y e = ap (λ (o : Option X). unwrap_or o x) e
+pub some_is : {X : Type 0} (x y : X) → Some x ≡ Some y → x ≡ y
+some_is {X = X} x y e = ap (λ (o : Option X). unwrap_or o x) e
 
 -- ---- the parts of an order
 
@@ -124,7 +124,7 @@ is_work _ e = absurd cc
 
 -- ---- one order
 
-report_of : Verb → Report
+abbrev report_of : Verb → Report
 report_of Verb.Check = Report.Check
 report_of _ = Report.Digest
 
@@ -132,7 +132,7 @@ report_again : (r : Report) → report_of (verb_of_report r) ≡ r
 report_again Report.Check = refl
 report_again Report.Digest = refl
 
-job_of : Verb → FileJob
+abbrev job_of : Verb → FileJob
 job_of Verb.Show = FileJob.Show
 job_of v = FileJob.Report (report_of v)
 
@@ -148,7 +148,7 @@ is_not_canonical Report.Digest e = cc
 one_file : (files : List Text) (a b : Text) → files ≡ a ∷ [] → files ≡ b ∷ [] → a ≡ b
 one_file files a b e f = cc
 
-two_files : (files : List Text) (a b c d : Text) → files ≡ a ∷ b ∷ [] → files ≡ c ∷ d ∷ [] → (a ≡ c) × (b ≡ d)
+pub two_files : (files : List Text) (a b c d : Text) → files ≡ a ∷ b ∷ [] → files ≡ c ∷ d ∷ [] → (a ≡ c) × (b ≡ d)
 two_files files a b c d e f = (cc, cc)
 
 one_results : (rows : List Row) (input input' : Text) (r s : LineResults) → verb_of_results r ≡ verb_of_results s → HasResults rows input r → HasResults rows input' s
@@ -166,13 +166,14 @@ one_results rows input input' (LineResults.Collect t) (LineResults.Write u) e h 
 one_results rows input input' (LineResults.Collect t) (LineResults.Collect u) e h k =
     (one_file _ input input' h.0.0 k.0.0, one_target rows t u (some_is _ _ (sym h.1.word ∙ k.1.word)) h.1.target k.1.target)
 
+elements_are : (r s : Reading) (a b : Option Limit) (m n : Option ℕ) (x y : Bool) → r ≡ s → a ≡ b → m ≡ n → x ≡ y
+    → ◌≡◌ {A = Elements} (record { reading = r; keep_going = a; message = m; html = x }) (record { reading = s; keep_going = b; message = n; html = y })
+elements_are r s a b m n x y e f g h = cc
+
 one_elements : (rows : List Row) (a b : Elements) → AreElements rows a → AreElements rows b → a ≡ b
 one_elements rows a b h k =
-    let reading = one_reading rows a.reading b.reading h.reading k.reading in
-    let going = one_limit rows a.keep_going b.keep_going h.keep_going k.keep_going in
-    let message = one_number _ a.message b.message h.message k.message in
-    let html = h.html ∙ sym k.html in
-    cc
+    elements_are a.reading b.reading a.keep_going b.keep_going a.message b.message a.html b.html (one_reading rows a.reading b.reading h.reading k.reading)
+    (one_limit rows a.keep_going b.keep_going h.keep_going k.keep_going) (one_number _ a.message b.message h.message k.message) (h.html ∙ sym k.html)
 
 one_work : (rows : List Row) (one other : Work) → form_of_work one ≡ form_of_work other → verb_of_work one ≡ verb_of_work other → HasWork rows one → HasWork rows other → IsSameWork one other
 one_work rows (Work.Print job json named messages inputs) (Work.Print job' json' named' messages' inputs') f e h k = (
@@ -205,7 +206,7 @@ one_words rows (Order.Each work) (Order.Compare reading first second) f e h k = 
 one_words rows (Order.Compare reading first second) (Order.Each work) f e h k = absurd (is_work work (sym f))
 
 -- what was found is of one command, with one list of rows
-one_found : (found : Option (Text × List Row)) (name other : Text) (rows more : List Row) → found ≡ Some (name, rows) → found ≡ Some (other, more) → (name ≡ other) × (rows ≡ more)
+pub one_found : (found : Option (Text × List Row)) (name other : Text) (rows more : List Row) → found ≡ Some (name, rows) → found ≡ Some (other, more) → (name ≡ other) × (rows ≡ more)
 one_found found name other rows more e f =
     let g = some_is _ _ (sym e ∙ f) in
     (ap (λ (p : Text × List Row). p.0) g, ap (λ (p : Text × List Row). p.1) g)

@@ -3,6 +3,7 @@ use Rattle.std.specs.Prelude.{◌≡◌, ℕ, Bool, List, map, Option, option_ma
 use Rattle.clap.specs.Walk.{Text}
 use Rattle.ill_tables.specs.declared.profile.Profile.{Profile}
 use Rattle.ill_args.specs.Orders.{is_whole, target_name}
+use Rattle.ill_args.specs.declared.fault.LineFault.{LineFault}
 use Rattle.ill_args.specs.declared.orders.Inputs.{Inputs}
 use Rattle.ill_args.specs.declared.orders.KeepGoing.{KeepGoing}
 use Rattle.ill_args.specs.declared.orders.LineResults.{LineResults}
@@ -55,3 +56,12 @@ abbrev pub IsSameOrder : Order → Order → Type 0
 IsSameOrder (Order.Each work) (Order.Each work') = IsSameWork work work'
 IsSameOrder (Order.Compare reading first second) (Order.Compare reading' first' second') = (reading ≡ reading') × (first.now ≡ first'.now) × (second.now ≡ second'.now)
 IsSameOrder _ _ = ⊥
+
+-- a fault of the files of a command, as `order` and clap report it
+abbrev pub IsOfFiles : LineFault → Type 0
+IsOfFiles LineFault.SameWord = Unit {0}
+IsOfFiles LineFault.InputTwice = Unit {0}
+IsOfFiles LineFault.OutputIsRead = Unit {0}
+IsOfFiles (LineFault.Missing error) = Unit {0}
+IsOfFiles (LineFault.Unexpected error) = Unit {0}
+IsOfFiles _ = ⊥

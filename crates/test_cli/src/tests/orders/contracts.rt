@@ -5,9 +5,9 @@ ghost use Rattle.std.specs.String.{string_bytes};
 ghost use Rattle.clap.specs.declared.error.kind.ErrorKind.TheVariants.{ArgumentConflict, InvalidValue};
 ghost use Rattle.ill_args.specs.Refused.{IsRefusedBy};
 ghost use Rattle.ill_tables.specs.declared.profile.Profile.TheVariants.{Two, Module};
-ghost use Rattle.ill_args.specs.declared.fault.LineFault.TheVariants.{SameWord};
+ghost use Rattle.ill_args.specs.declared.fault.LineFault.{LineFault};
 ghost use Rattle.ill_args.specs.declared.orders.Order.{Order};
-ghost use Rattle.test_cli.specs.Orders.{profile_of, IsSameOrder};
+ghost use Rattle.test_cli.specs.Orders.{profile_of, IsOfFiles, IsSameOrder};
 
 use ill_args::{LineFault, Order, Work, order};
 use std::alloc::Global;
@@ -23,12 +23,13 @@ fn words_give_one_order<'a>(
     (order(alloc, words), order(alloc, words))
 }
 
-/// Words that give an order are not refused for the same word.
-fn words_have_no_same_word<'a>(
+/// Words that give an order have no fault of their files.
+fn words_have_no_fault_of_files<'a>(
     words: &'a [String],
     alloc: Global,
 ) -> (Result<Order<'a>, LineFault>, Result<Order<'a>, LineFault>)
-    ensures { (one : Order) → result.0 ≡ Ok one → result.1 ≡ Err SameWord → ⊥ }
+    ensures { (one : Order) (fault : LineFault) → result.0 ≡ Ok one → result.1 ≡ Err fault
+        → IsOfFiles fault → ⊥ }
 {
     (order(alloc, words), order(alloc, words))
 }

@@ -1,0 +1,114 @@
+-- Words that give an order have no fault of their files.
+use Rattle.std.proofs.Common.{◌≡◌, ◌≢◌, ◌∙◌, ◌<◌, ◌⊎◌, ℕ, true, false, List, [], ◌∷◌, Option, Some, None, is_some, Result, Ok, Err, IfOk, IfErr, unwrap_or, codes, length, refl, sym, ap, subst, inl, inr, arith}
+use Rattle.std.specs.Prelude.{IsTrue}
+use Rattle.clap.specs.Walk.{Row, Text, first_of}
+use Rattle.clap.specs.Words.{Kinds}
+use Rattle.ill_args.specs.Orders.{files_in, is_set, list_in, target_name, verb, verb_name, AreInAndOut, AreInputs, HasOne, HasOutput, HasTwo, HasWords, IsOrderOf, NamesNothing, ReadsInputTwice, ReadsOutput}
+use Rattle.ill_args.specs.Refused.{ExceedsTwo, HasAnyFiles, HasFault, HasFileFault, HasFlagFault, HasSameWord, IsFaultOf, LacksTwo}
+use Rattle.ill_args.specs.declared.fault.LineFault.{LineFault}
+use Rattle.ill_args.specs.declared.orders.FileJob.{FileJob}
+use Rattle.ill_args.specs.declared.orders.Inputs.{Inputs}
+use Rattle.ill_args.specs.declared.orders.LineResults.{LineResults}
+use Rattle.ill_args.specs.declared.orders.Order.{Order}
+use Rattle.ill_args.specs.declared.orders.Report.{Report}
+use Rattle.ill_args.specs.declared.orders.Target.{Target}
+use Rattle.ill_args.specs.declared.orders.Verb.{Verb}
+use Rattle.ill_args.specs.declared.orders.Work.{Work}
+use Rattle.test_cli.specs.Orders.{IsOfFiles}
+use Rattle.test_cli.proofs.OneOrder.{one_found, some_is, two_files, verb_is}
+
+-- nothing is wrong with the files of a command
+record AreSound (v : Verb) (rows : List Row) : Type 0 where
+  differ : HasSameWord v rows → ⊥
+  once : HasAnyFiles v rows → ReadsInputTwice rows → ⊥
+  not_written : HasAnyFiles v rows → ReadsOutput rows → ⊥
+  some : HasAnyFiles v rows → NamesNothing rows → ⊥
+  not_few : LacksTwo v rows → ⊥
+  not_many : ExceedsTwo v rows → ⊥
+
+none : (v : Verb) (rows : List Row) (fault : LineFault) → IsOfFiles fault → AreSound v rows → HasFault v rows fault → ⊥
+none v rows LineFault.SameWord of s (inl f) = s.differ f
+none v rows LineFault.InputTwice of s (inl f) = s.once f.0 f.1
+none v rows LineFault.OutputIsRead of s (inl f) = s.not_written f.0 f.1
+none v rows (LineFault.Missing error) of s (inl (k, inl f)) = s.some f.0 f.1
+none v rows (LineFault.Missing error) of s (inl (k, inr f)) = s.not_few f
+none v rows (LineFault.Unexpected error) of s (inl (k, f)) = s.not_many f
+none v rows LineFault.SameWord of s (inr (f, g)) = g
+none v rows LineFault.InputTwice of s (inr (f, g)) = g
+none v rows LineFault.OutputIsRead of s (inr (f, g)) = g
+none v rows (LineFault.Missing error) of s (inr (f, g)) = g
+none v rows (LineFault.Unexpected error) of s (inr (f, g)) = g
+none v rows _ of s f = of
+
+of_inputs : (v : Verb) (rows : List Row) (inputs : Inputs) → AreInputs rows inputs → (HasSameWord v rows → ⊥) → (LacksTwo v rows → ⊥) → (ExceedsTwo v rows → ⊥) → AreSound v rows
+of_inputs v rows inputs h differ few many = record {
+  differ = differ;
+  once = λ any. h.once;
+  not_written = λ any. h.not_written;
+  some = λ any. h.some;
+  not_few = few;
+  not_many = many;
+}
+
+-- with `-o` there are no IN and OUT
+of_output : (rows : List Row) (word : Text) → first_of (codes "output") rows ≡ Some word → (HasSameWord Verb.Canonicalise rows → ⊥) × (LacksTwo Verb.Canonicalise rows → ⊥) × (ExceedsTwo Verb.Canonicalise rows → ⊥)
+of_output rows word e = (λ f. absurd (let g = sym e ∙ f.1.2 in cc), λ f. absurd (let g = sym e ∙ f.0 in cc), λ f. absurd (let g = sym e ∙ f.0 in cc))
+
+of_in_and_out : (rows : List Row) (input : Text) (output : Target) → AreInAndOut rows input output → AreSound Verb.Canonicalise rows
+of_in_and_out rows input output h = record {
+  differ = λ f. let two = two_files _ input (target_name output) f.0 f.0 h.words.0 f.1.0 in
+  h.differ (λ dash. f.2 (sym two.0 ∙ dash)) (two.1 ∙ sym two.0);
+  once = λ any. absurd (rw h.words.2 at any);
+  not_written = λ any. absurd (rw h.words.2 at any);
+  some = λ any. absurd (rw h.words.2 at any);
+  not_few = λ f. few f.1;
+  not_many = λ f. let count : length (files_in rows) ≡ 2 = ap length h.words.0 in let many = f.1 in absurd (omega arith);
+}
+  where
+    few : (length (files_in rows) < 2) ⊎ IsTrue (is_some (list_in rows)) → ⊥
+    few (inl f) = let count : length (files_in rows) ≡ 2 = ap length h.words.0 in absurd (omega arith)
+    few (inr f) = absurd (rw h.words.1 at f)
+
+-- a single file
+of_one : (v : Verb) (rows : List Row) (file : Text) → HasOne rows file → (ReadsOutput rows → ⊥) → (HasSameWord v rows → ⊥) → (LacksTwo v rows → ⊥) → (ExceedsTwo v rows → ⊥) → AreSound v rows
+of_one v rows file h written differ few many = record {
+  differ = differ;
+  once = λ any f. ?;
+  not_written = λ any. written;
+  some = λ any f. absurd (let g = sym h.0 ∙ f.0 in cc);
+  not_few = few;
+  not_many = many;
+}
+
+sound : (rows : List Row) (order : Order) → HasWords rows order → AreSound (verb order) rows
+sound rows (Order.Each (Work.Print FileJob.Show json named messages inputs)) h = of_inputs _ rows inputs h.4 (λ f. f) (λ f. f) (λ f. f)
+sound rows (Order.Each (Work.Print (FileJob.Report Report.Check) json named messages inputs)) h = of_inputs _ rows inputs h.4 (λ f. f) (λ f. f) (λ f. f)
+sound rows (Order.Each (Work.Print (FileJob.Report Report.Digest) json named messages inputs)) h = of_inputs _ rows inputs h.4 (λ f. f) (λ f. f) (λ f. f)
+sound rows (Order.Each (Work.Dump elements named inputs)) h = of_inputs _ rows inputs h.2 (λ f. f) (λ f. f) (λ f. f)
+sound rows (Order.Each (Work.Write messages input output)) h = of_in_and_out rows input.now output h.2
+sound rows (Order.Each (Work.Collect messages inputs output)) h = let o = of_output rows (target_name output) h.3.word in of_inputs _ rows inputs h.2 o.0 o.1 o.2
+sound rows (Order.Each (Work.Lines profile input (LineResults.Report Report.Check))) h = of_one _ rows input.now h.2 ? (λ f. f) (λ f. f) (λ f. f)
+sound rows (Order.Each (Work.Lines profile input (LineResults.Report Report.Digest))) h = of_one _ rows input.now h.2 ? (λ f. f) (λ f. f) (λ f. f)
+sound rows (Order.Each (Work.Lines profile input (LineResults.Write output))) h = of_in_and_out rows input.now output h.2
+sound rows (Order.Each (Work.Lines profile input (LineResults.Collect output))) h =
+    let o = of_output rows (target_name output) h.2.1.word in of_one _ rows input.now h.2.0 h.2.2 o.0 o.1 o.2
+sound rows (Order.Compare reading first second) h = record {
+  differ = λ f. h.2 (some_is _ _ (sym h.1.0 ∙ f.0)) (some_is _ _ (sym h.1.1 ∙ f.1));
+  once = λ any. absurd any;
+  not_written = λ any. absurd any;
+  some = λ any. absurd any;
+  not_few = λ f. f;
+  not_many = λ f. f;
+}
+
+found_fault : (found : Option (Text × List Row)) (fault : LineFault) → IsOfFiles fault → IsFaultOf found fault → (v : Verb) × (rows : List Row) × (found ≡ Some (verb_name v, rows)) × HasFault v rows fault
+found_fault found (LineFault.Line error) of f = absurd of
+found_fault found _ of f = f
+
+pub no_fault_of_files : (found : Option (Text × List Row)) (order : Order) (fault : LineFault) → IsOfFiles fault → IsOrderOf found order → IsFaultOf found fault → ⊥
+no_fault_of_files found order fault of h f =
+    let has = found_fault found fault of f in
+    let one = one_found found (verb_name (verb order)) (verb_name has.0) h.rows has.1 h.command has.2 in
+    let v : has.0 ≡ verb order = sym (verb_is _ _ one.0) in
+    let rows : has.1 ≡ h.rows = sym one.1 in
+    none (verb order) h.rows fault of (sound h.rows order h.words) (subst (λ r. HasFault (verb order) r fault) rows (subst (λ w. HasFault w has.1 fault) v has.3))
