@@ -1,13 +1,12 @@
 -- Words that give an order have no fault of their files.
-use Rattle.std.proofs.Common.{◌≡◌, ◌≢◌, ◌∙◌, ◌<◌, ◌⊎◌, ℕ, true, false, List, [], ◌∷◌, Option, Some, None, is_some, Result, Ok, Err, IfOk, IfErr, unwrap_or, codes, length, refl, sym, ap, subst, inl, inr, arith}
+use Rattle.std.proofs.Common.{◌≡◌, ◌∙◌, ◌+◌, ◌<◌, ◌⊎◌, Bool, cond, true, false, List, Option, Some, is_some, codes, length, sym, ap, subst, inl, inr, arith}
 use Rattle.std.specs.Prelude.{IsTrue}
+use Rattle.std.specs.Str.{bytes_eq}
 use Rattle.clap.specs.Walk.{Row, Text, first_of}
-use Rattle.clap.specs.Words.{Kinds}
-use Rattle.ill_args.specs.Orders.{files_in, is_set, list_in, target_name, verb, verb_name, AreInAndOut, AreInputs, HasOne, HasOutput, HasTwo, HasWords, IsOrderOf, NamesNothing, ReadsInputTwice, ReadsOutput}
-use Rattle.ill_args.specs.Refused.{ExceedsTwo, HasAnyFiles, HasFault, HasFileFault, HasFlagFault, HasSameWord, IsFaultOf, LacksTwo}
+use Rattle.ill_args.specs.Orders.{files_in, list_in, target_name, verb, verb_name, AreInAndOut, HasOne, HasOutput, HasWords, IsOrderOf, NamesNothing, ReadsInputTwice, ReadsOutput}
+use Rattle.ill_args.specs.Refused.{ExceedsTwo, HasAnyFiles, HasFault, HasSameWord, IsFaultOf, LacksTwo}
 use Rattle.ill_args.specs.declared.fault.LineFault.{LineFault}
 use Rattle.ill_args.specs.declared.orders.FileJob.{FileJob}
-use Rattle.ill_args.specs.declared.orders.Inputs.{Inputs}
 use Rattle.ill_args.specs.declared.orders.LineResults.{LineResults}
 use Rattle.ill_args.specs.declared.orders.Order.{Order}
 use Rattle.ill_args.specs.declared.orders.Report.{Report}
@@ -21,7 +20,7 @@ use Rattle.test_cli.proofs.OneOrder.{one_found, some_is, two_files, verb_is}
 record AreSound (v : Verb) (rows : List Row) : Type 0 where
   differ : HasSameWord v rows → ⊥
   once : HasAnyFiles v rows → ReadsInputTwice rows → ⊥
-  not_written : HasAnyFiles v rows → ReadsOutput rows → ⊥
+  not_written : v ≡ Verb.Canonicalise → ReadsOutput rows → ⊥
   some : HasAnyFiles v rows → NamesNothing rows → ⊥
   not_few : LacksTwo v rows → ⊥
   not_many : ExceedsTwo v rows → ⊥
@@ -40,62 +39,74 @@ none v rows (LineFault.Missing error) of s (inr (f, g)) = g
 none v rows (LineFault.Unexpected error) of s (inr (f, g)) = g
 none v rows _ of s f = of
 
-of_inputs : (v : Verb) (rows : List Row) (inputs : Inputs) → AreInputs rows inputs → (HasSameWord v rows → ⊥) → (LacksTwo v rows → ⊥) → (ExceedsTwo v rows → ⊥) → AreSound v rows
-of_inputs v rows inputs h differ few many = record {
-  differ = differ;
-  once = λ any. h.once;
-  not_written = λ any. h.not_written;
-  some = λ any. h.some;
-  not_few = few;
-  not_many = many;
-}
+-- a command other than `same` and `canonicalise`
+abbrev IsPlain : Verb → Type 0
+IsPlain Verb.Same = ⊥
+IsPlain Verb.Canonicalise = ⊥
+IsPlain _ = Unit {0}
+
+of_plain : (v : Verb) (rows : List Row) → IsPlain v → (ReadsInputTwice rows → ⊥) → (NamesNothing rows → ⊥) → AreSound v rows
+of_plain Verb.Show rows p once some = record { differ = λ f. f; once = λ any. once; not_written = λ e f. cc; some = λ any. some; not_few = λ f. f; not_many = λ f. f }
+of_plain Verb.Check rows p once some = record { differ = λ f. f; once = λ any. once; not_written = λ e f. cc; some = λ any. some; not_few = λ f. f; not_many = λ f. f }
+of_plain Verb.Digest rows p once some = record { differ = λ f. f; once = λ any. once; not_written = λ e f. cc; some = λ any. some; not_few = λ f. f; not_many = λ f. f }
+of_plain Verb.Dump rows p once some = record { differ = λ f. f; once = λ any. once; not_written = λ e f. cc; some = λ any. some; not_few = λ f. f; not_many = λ f. f }
+of_plain _ rows p once some = absurd p
 
 -- with `-o` there are no IN and OUT
-of_output : (rows : List Row) (word : Text) → first_of (codes "output") rows ≡ Some word → (HasSameWord Verb.Canonicalise rows → ⊥) × (LacksTwo Verb.Canonicalise rows → ⊥) × (ExceedsTwo Verb.Canonicalise rows → ⊥)
-of_output rows word e = (λ f. absurd (let g = sym e ∙ f.1.2 in cc), λ f. absurd (let g = sym e ∙ f.0 in cc), λ f. absurd (let g = sym e ∙ f.0 in cc))
+of_output : (rows : List Row) (output : Target) → HasOutput rows output → (ReadsInputTwice rows → ⊥) → (NamesNothing rows → ⊥) → AreSound Verb.Canonicalise rows
+of_output rows output h once some = record {
+  differ = λ f. absurd (let g = sym h.word ∙ f.1.2 in cc);
+  once = λ any. once;
+  not_written = λ e. h.not_read;
+  some = λ any. some;
+  not_few = λ f. absurd (let g = sym h.word ∙ f.0 in cc);
+  not_many = λ f. absurd (let g = sym h.word ∙ f.0 in cc);
+}
 
 of_in_and_out : (rows : List Row) (input : Text) (output : Target) → AreInAndOut rows input output → AreSound Verb.Canonicalise rows
 of_in_and_out rows input output h = record {
   differ = λ f. let two = two_files _ input (target_name output) f.0 f.0 h.words.0 f.1.0 in
-  h.differ (λ dash. f.2 (sym two.0 ∙ dash)) (two.1 ∙ sym two.0);
-  once = λ any. absurd (rw h.words.2 at any);
-  not_written = λ any. absurd (rw h.words.2 at any);
-  some = λ any. absurd (rw h.words.2 at any);
+      h.differ (λ dash. f.2 (sym two.0 ∙ dash)) (two.1 ∙ sym two.0);
+  once = λ any. lacks any;
+  not_written = λ e f. absurd (rw h.words.2 at f);
+  some = λ any. lacks any;
   not_few = λ f. few f.1;
   not_many = λ f. let count : length (files_in rows) ≡ 2 = ap length h.words.0 in let many = f.1 in absurd (omega arith);
 }
   where
+    lacks : {P : Type 0} → IsTrue (is_some (first_of (codes "output") rows)) → P
+    lacks any = absurd (let g : true ≡ false = sym any ∙ ap is_some h.words.2 in cc)
+
     few : (length (files_in rows) < 2) ⊎ IsTrue (is_some (list_in rows)) → ⊥
     few (inl f) = let count : length (files_in rows) ≡ 2 = ap length h.words.0 in absurd (omega arith)
-    few (inr f) = absurd (rw h.words.1 at f)
+    few (inr f) = absurd (let g : true ≡ false = sym f ∙ ap is_some h.words.1 in cc)
 
--- a single file
-of_one : (v : Verb) (rows : List Row) (file : Text) → HasOne rows file → (ReadsOutput rows → ⊥) → (HasSameWord v rows → ⊥) → (LacksTwo v rows → ⊥) → (ExceedsTwo v rows → ⊥) → AreSound v rows
-of_one v rows file h written differ few many = record {
-  differ = differ;
-  once = λ any f. ?;
-  not_written = λ any. written;
-  some = λ any f. absurd (let g = sym h.0 ∙ f.0 in cc);
-  not_few = few;
-  not_many = many;
-}
+-- a single file is no input twice, and not nothing
+one_once : (rows : List Row) (file : Text) → HasOne rows file → ReadsInputTwice rows → ⊥
+one_once rows file h f = few (bytes_eq file (codes "-")) (rw (h.0, h.1) at f)
+  where
+    few : (b : Bool) → 1 < (0 + cond b 1 0) + 0 → ⊥
+    few true f = absurd (omega arith)
+    few false f = absurd (omega arith)
+
+one_some : (rows : List Row) (file : Text) → HasOne rows file → NamesNothing rows → ⊥
+one_some rows file h f = absurd (let g = sym h.0 ∙ f.0 in cc)
 
 sound : (rows : List Row) (order : Order) → HasWords rows order → AreSound (verb order) rows
-sound rows (Order.Each (Work.Print FileJob.Show json named messages inputs)) h = of_inputs _ rows inputs h.4 (λ f. f) (λ f. f) (λ f. f)
-sound rows (Order.Each (Work.Print (FileJob.Report Report.Check) json named messages inputs)) h = of_inputs _ rows inputs h.4 (λ f. f) (λ f. f) (λ f. f)
-sound rows (Order.Each (Work.Print (FileJob.Report Report.Digest) json named messages inputs)) h = of_inputs _ rows inputs h.4 (λ f. f) (λ f. f) (λ f. f)
-sound rows (Order.Each (Work.Dump elements named inputs)) h = of_inputs _ rows inputs h.2 (λ f. f) (λ f. f) (λ f. f)
+sound rows (Order.Each (Work.Print FileJob.Show json named messages inputs)) h = of_plain _ rows tt h.4.once h.4.some
+sound rows (Order.Each (Work.Print (FileJob.Report Report.Check) json named messages inputs)) h = of_plain _ rows tt h.4.once h.4.some
+sound rows (Order.Each (Work.Print (FileJob.Report Report.Digest) json named messages inputs)) h = of_plain _ rows tt h.4.once h.4.some
+sound rows (Order.Each (Work.Dump elements named inputs)) h = of_plain _ rows tt h.2.once h.2.some
 sound rows (Order.Each (Work.Write messages input output)) h = of_in_and_out rows input.now output h.2
-sound rows (Order.Each (Work.Collect messages inputs output)) h = let o = of_output rows (target_name output) h.3.word in of_inputs _ rows inputs h.2 o.0 o.1 o.2
-sound rows (Order.Each (Work.Lines profile input (LineResults.Report Report.Check))) h = of_one _ rows input.now h.2 ? (λ f. f) (λ f. f) (λ f. f)
-sound rows (Order.Each (Work.Lines profile input (LineResults.Report Report.Digest))) h = of_one _ rows input.now h.2 ? (λ f. f) (λ f. f) (λ f. f)
+sound rows (Order.Each (Work.Collect messages inputs output)) h = of_output rows output h.3 h.2.once h.2.some
+sound rows (Order.Each (Work.Lines profile input (LineResults.Report Report.Check))) h = of_plain _ rows tt (one_once rows input.now h.2) (one_some rows input.now h.2)
+sound rows (Order.Each (Work.Lines profile input (LineResults.Report Report.Digest))) h = of_plain _ rows tt (one_once rows input.now h.2) (one_some rows input.now h.2)
 sound rows (Order.Each (Work.Lines profile input (LineResults.Write output))) h = of_in_and_out rows input.now output h.2
-sound rows (Order.Each (Work.Lines profile input (LineResults.Collect output))) h =
-    let o = of_output rows (target_name output) h.2.1.word in of_one _ rows input.now h.2.0 h.2.2 o.0 o.1 o.2
+sound rows (Order.Each (Work.Lines profile input (LineResults.Collect output))) h = of_output rows output h.2.1 (one_once rows input.now h.2.0) (one_some rows input.now h.2.0)
 sound rows (Order.Compare reading first second) h = record {
   differ = λ f. h.2 (some_is _ _ (sym h.1.0 ∙ f.0)) (some_is _ _ (sym h.1.1 ∙ f.1));
   once = λ any. absurd any;
-  not_written = λ any. absurd any;
+  not_written = λ e f. cc;
   some = λ any. absurd any;
   not_few = λ f. f;
   not_many = λ f. f;

@@ -1,11 +1,10 @@
 -- What was found is one command, with one list of rows; so is each part of its order.
-use Rattle.std.proofs.Common.{◌≡◌, ◌≢◌, ℕ, Bool, true, false, IfOk, List, [], ◌∷◌, Option, Some, None, is_some, Result, Ok, Err, IfErr, unwrap_or, option_map, codes, length, arith, refl, sym, ap, ap₂, subst, ◌∙◌, inl, inr}
+use Rattle.std.proofs.Common.{◌≡◌, ℕ, Bool, IfOk, List, [], ◌∷◌, Option, Some, None, is_some, Result, Ok, unwrap_or, option_map, codes, length, arith, refl, sym, ap, ap₂, subst, ◌∙◌}
 use Rattle.std.specs.Prelude.{find, if◌then◌else◌}
 use Rattle.std.specs.Str.{bytes_eq}
-use Rattle.clap.specs.Walk.{Row, Text, first_of, one_of}
+use Rattle.clap.specs.Walk.{Row, Text, first_of}
 use Rattle.ill_args.specs.CommandLine.{all_verbs}
-use Rattle.ill_args.specs.Orders.{is_set, is_whole, profile_name, target_name, verb, verb_name, verb_of_job, verb_of_report, verb_of_results, verb_of_work, AreElements, AreMessages, HasInputs, HasResults, HasWords, HasWork, IsKeepGoing, IsLimit, IsOptionNumber, IsOrderOf, IsReading, IsTarget, NamesProfile}
-use Rattle.ill_args.specs.Refused.{IsFaultOf}
+use Rattle.ill_args.specs.Orders.{is_set, profile_name, target_name, verb, verb_name, verb_of_job, verb_of_report, verb_of_results, verb_of_work, AreElements, AreMessages, HasInputs, HasResults, HasWords, HasWork, IsKeepGoing, IsLimit, IsOptionNumber, IsOrderOf, IsReading, IsTarget, NamesProfile}
 use Rattle.ill_tables.specs.declared.profile.Profile.{Profile}
 use Rattle.ill_args.specs.declared.fault.LineFault.{LineFault}
 use Rattle.ill_args.specs.declared.orders.Elements.{Elements}
@@ -217,8 +216,8 @@ same_order found one other h k =
     let v = verb_is (verb one) (verb other) f.0 in
     let words = subst (λ rows. HasWords rows other) (sym f.1) k.words in
     let form = form_is h.rows one h.words
-        ∙ ap (λ v. form_in v (is_set (codes "lines") h.rows) (is_some (first_of (codes "output") h.rows))) v
-        ∙ sym (form_is h.rows other words) in
+    ∙ ap (λ v. form_in v (is_set (codes "lines") h.rows) (is_some (first_of (codes "output") h.rows))) v
+    ∙ sym (form_is h.rows other words) in
     one_words h.rows one other form v h.words words
 
 -- what words give once, and what they give again

@@ -1,5 +1,5 @@
 -- Orders that are one, wherever their words are in memory.
-use Rattle.std.specs.Prelude.{◌≡◌, ℕ, Bool, List, map, Option, option_map}
+use Rattle.std.specs.Prelude.{◌≡◌, ℕ, map, Option, option_map}
 use Rattle.clap.specs.Walk.{Text}
 use Rattle.ill_tables.specs.declared.profile.Profile.{Profile}
 use Rattle.ill_args.specs.Orders.{is_whole, target_name}
