@@ -1,10 +1,10 @@
 -- What was found is one command, with one list of rows; so is each part of its order.
-use Rattle.std.proofs.Common.{◌≡◌, ℕ, Bool, IfOk, List, [], ◌∷◌, Option, Some, None, is_some, Result, Ok, unwrap_or, option_map, codes, length, arith, refl, sym, ap, ap₂, subst, ◌∙◌}
+use Rattle.std.proofs.Common.{◌≡◌, ℕ, Bool, true, IfOk, List, [], ◌∷◌, Option, Some, None, is_some, Result, Ok, unwrap_or, option_map, codes, length, arith, refl, sym, ap, ap₂, subst, ◌∙◌}
 use Rattle.std.specs.Prelude.{find, if◌then◌else◌}
 use Rattle.std.specs.Str.{bytes_eq}
 use Rattle.clap.specs.Walk.{Row, Text, first_of}
 use Rattle.ill_args.specs.CommandLine.{all_verbs}
-use Rattle.ill_args.specs.Orders.{is_set, profile_name, target_name, verb, verb_name, verb_of_job, verb_of_report, verb_of_results, verb_of_work, AreElements, AreMessages, HasInputs, HasResults, HasWords, HasWork, IsKeepGoing, IsLimit, IsOptionNumber, IsOrderOf, IsReading, IsTarget, NamesProfile}
+use Rattle.ill_args.specs.Orders.{is_set, profile_name, target_name, verb, verb_name, verb_of_job, verb_of_report, verb_of_results, verb_of_work, AreElements, AreMessages, HasInputs, HasResults, HasWords, HasWork, IsByMessage, IsKeepGoing, IsLimit, IsOptionNumber, IsOrderOf, IsReading, IsTarget, NamesProfile}
 use Rattle.ill_tables.specs.declared.profile.Profile.{Profile}
 use Rattle.ill_args.specs.declared.fault.LineFault.{LineFault}
 use Rattle.ill_args.specs.declared.orders.Elements.{Elements}
@@ -98,23 +98,29 @@ form_of (Order.Compare reading first second) = 5
 
 abbrev form_in : Verb → Bool → Bool → ℕ
 form_in Verb.Show lines collects = 0
-form_in Verb.Check lines collects = if lines then 4 else 0
-form_in Verb.Digest lines collects = if lines then 4 else 0
 form_in Verb.Dump lines collects = 1
 form_in Verb.Same lines collects = 5
 form_in Verb.Canonicalise lines collects = if lines then 4 else if collects then 3 else 2
+form_in _ lines collects = if lines then 4 else 0
+
+form_of_report : (report : Report) (lines collects : Bool) → form_in (verb_of_report report) lines collects ≡ (if lines then 4 else 0)
+form_of_report Report.Check lines collects = refl
+form_of_report _ lines collects = refl
+
+form_of_job : (rows : List Row) (job : FileJob) (collects : Bool) → IsByMessage rows job → 0 ≡ form_in (verb_of_job job) (is_set (codes "lines") rows) collects
+form_of_job rows (FileJob.Report report) collects h = rw (form_of_report report, h) refl
+form_of_job rows _ collects h = refl
+
+form_of_results : (results : LineResults) (collects : Bool) → 4 ≡ form_in (verb_of_results results) true collects
+form_of_results (LineResults.Report report) collects = sym (form_of_report report true collects)
+form_of_results _ collects = refl
 
 form_is : (rows : List Row) (order : Order) → HasWords rows order → form_of order ≡ form_in (verb order) (is_set (codes "lines") rows) (is_some (first_of (codes "output") rows))
-form_is rows (Order.Each (Work.Print FileJob.Show json with_filename messages inputs)) h = refl
-form_is rows (Order.Each (Work.Print (FileJob.Report Report.Check) json with_filename messages inputs)) h = rw h.0 refl
-form_is rows (Order.Each (Work.Print (FileJob.Report Report.Digest) json with_filename messages inputs)) h = rw h.0 refl
+form_is rows (Order.Each (Work.Print job json with_filename messages inputs)) h = form_of_job rows job _ h.0
 form_is rows (Order.Each (Work.Dump elements with_filename inputs)) h = refl
 form_is rows (Order.Each (Work.Write messages input output)) h = rw (h.0, h.2.words.2) refl
 form_is rows (Order.Each (Work.Collect messages inputs output)) h = rw (h.0, h.3.word) refl
-form_is rows (Order.Each (Work.Lines profile input (LineResults.Report Report.Check))) h = rw h.1.lines refl
-form_is rows (Order.Each (Work.Lines profile input (LineResults.Report Report.Digest))) h = rw h.1.lines refl
-form_is rows (Order.Each (Work.Lines profile input (LineResults.Write output))) h = rw h.1.lines refl
-form_is rows (Order.Each (Work.Lines profile input (LineResults.Collect output))) h = rw h.1.lines refl
+form_is rows (Order.Each (Work.Lines profile input results)) h = rw h.1.lines (form_of_results results _)
 form_is rows (Order.Compare reading first second) h = refl
 
 is_work : (work : Work) → form_of_work work ≡ 5 → ⊥
@@ -129,20 +135,23 @@ report_of _ = Report.Digest
 
 report_again : (r : Report) → report_of (verb_of_report r) ≡ r
 report_again Report.Check = refl
-report_again Report.Digest = refl
+report_again _ = refl
 
 abbrev job_of : Verb → FileJob
 job_of Verb.Show = FileJob.Show
 job_of v = FileJob.Report (report_of v)
 
+report_is_job : (r : Report) → job_of (verb_of_report r) ≡ FileJob.Report r
+report_is_job Report.Check = refl
+report_is_job _ = refl
+
 job_again : (job : FileJob) → job_of (verb_of_job job) ≡ job
-job_again FileJob.Show = refl
-job_again (FileJob.Report Report.Check) = refl
-job_again (FileJob.Report Report.Digest) = refl
+job_again (FileJob.Report r) = report_is_job r
+job_again _ = refl
 
 is_not_canonical : (r : Report) → verb_of_report r ≡ Verb.Canonicalise → ⊥
 is_not_canonical Report.Check e = cc
-is_not_canonical Report.Digest e = cc
+is_not_canonical _ e = cc
 
 one_file : (files : List Text) (a b : Text) → files ≡ a ∷ [] → files ≡ b ∷ [] → a ≡ b
 one_file files a b e f = cc
