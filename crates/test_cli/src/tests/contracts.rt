@@ -44,7 +44,7 @@ fn options_of(messages: Messages<'_>, names_inputs: bool) -> ReadOptions
 }
 
 /// `canonicalise` makes normal forms, of hexadecimal text where that is asked for.
-fn canonicalise_makes_normal_forms(messages: Messages<'_>, input: &str, output: Target<'_>) {
+fn canonicalise_makes_normal_forms<'a>(messages: Messages<'a>, input: &'a str, output: Target<'a>) {
     let work = Work::Write {
         messages,
         input,
@@ -56,7 +56,7 @@ fn canonicalise_makes_normal_forms(messages: Messages<'_>, input: &str, output: 
 }
 
 /// A line has a normal form by `canonicalise`, and is checked by `check`.
-fn lines_have_the_job_of_their_command(profile: Profile, input: &str, output: Target<'_>) {
+fn lines_have_the_job_of_their_command<'a>(profile: Profile, input: &'a str, output: Target<'a>) {
     let written = Action::new(&Work::Lines {
         profile,
         input,
@@ -80,7 +80,7 @@ fn lines_have_the_job_of_their_command(profile: Profile, input: &str, output: Ta
 }
 
 /// `check` checks each message, and says so in words or as JSON.
-fn check_checks(json: bool, with_filename: bool, messages: Messages<'_>, inputs: Inputs<'_>) {
+fn check_checks<'a>(json: bool, with_filename: bool, messages: Messages<'a>, inputs: Inputs<'a>) {
     let work = Work::Print {
         job: FileJob::Report(Report::Check),
         json,
