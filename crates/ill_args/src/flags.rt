@@ -1,7 +1,7 @@
 //! Flags that exclude others, or need them.
 ghost use Rattle.std.specs.Prelude.{◌≡◌, true, false, codes, None, IsTrue, OnOk, IfOk, IfErr, ◌↔◌};
 ghost use Rattle.clap.specs.Words.{found_of, rows_of};
-ghost use Rattle.ill_args.specs.Orders.{is_set, target_name, AreMessages, HasLines, IsKeepGoing, IsLimit, IsTarget, SharesRefused};
+ghost use Rattle.ill_args.specs.Orders.{is_set, target_name, AreMessages, IsKeepGoing, IsLimit, IsTarget, SharesRefused};
 ghost use Rattle.ill_args.specs.Refused.{HasFlagFault};
 ghost use Rattle.ill_args.specs.code.Commands.{HasProfile, IsOutput, ReadsLinesAlone};
 

@@ -3,7 +3,7 @@ ghost use Rattle.std.specs.Prelude.{◌≡◌, ◌≢◌, [], map, codes, Some, 
 ghost use Rattle.std.specs.String.{string_bytes};
 ghost use Rattle.clap.specs.Words.{fault_of, first_of, found_of, rows_of, subcommand_of, subcommand_rows_of};
 ghost use Rattle.ill_args.specs.CommandLine.{program};
-ghost use Rattle.ill_args.specs.Orders.{verb_of_job, verb_of_report, AreInputs, HasTwo, IsByMessage, IsOrderOf, ReadsOutput};
+ghost use Rattle.ill_args.specs.Orders.{verb_of_job, verb_of_report, AreInputs, HasTwo, IsByMessage, IsOrderOf};
 ghost use Rattle.ill_args.specs.Refused.{IsFaultOf, IsRefusedBy};
 ghost use Rattle.ill_args.specs.code.Commands.{HasBoth, HasProfile, IsCommand, IsFault, IsOrder, IsWork};
 ghost use Rattle.ill_args.specs.declared.orders.Verb.{Verb};

@@ -1,11 +1,10 @@
 //! The matches that clap finds in the words.
-ghost use Rattle.std.specs.Prelude.{◌≡◌, map, codes, is_some, option_map, true, Some, IfOk};
+ghost use Rattle.std.specs.Prelude.{◌≡◌, map, is_some, option_map, true, Some, IfOk};
 ghost use Rattle.std.specs.String.{string_bytes};
 ghost use Rattle.clap.specs.Walk.{one_of};
 ghost use Rattle.clap.specs.Words.{FailsBy, fault_of, first_of, found_of, rows_of, subcommand_of, subcommand_rows_of};
 ghost use Rattle.ill_args.specs.CommandLine.{program};
-ghost use Rattle.ill_args.specs.Orders.{files_in, is_set, reads, HasInputs, IsOptionNumber, IsReading, NamesProfile};
-ghost use Rattle.ill_args.specs.Orders.{verb_name};
+ghost use Rattle.ill_args.specs.Orders.{files_in, is_set, reads, verb_name, HasInputs, IsOptionNumber, IsReading, NamesProfile};
 ghost use Rattle.ill_args.specs.code.Commands.{HasProfile, IsCommand, IsVerb};
 
 use crate::commands::{profiles, program};
