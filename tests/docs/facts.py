@@ -329,11 +329,9 @@ def check_wiring():
     """Each command has its own end of the help, and each topic its own text, by the source alone."""
     source = read(COMMANDS)
     for name, word in ENDS.items():
-        body = re.search(rf"fn {word}<'a>\(.*?\n}}", source, re.S)
-        ends = set(re.findall(r"help::(\w+)", body[0])) if body else set()
-        names = set(re.findall(r'command\(alloc, profiles, "(\w+)"|let name = "(\w+)"', body[0])) if body else set()
-        if ends - {f"{name}_USAGE"} != {name} or {one or other for one, other in names} != {word}:
-            fault(COMMANDS, f"{word} is not made of its name and help::{name}, but of {sorted(ends)}")
+        ends = re.findall(rf"Verb::{word.capitalize()} => help::(\w+)", source)
+        if ends != [name]:
+            fault(COMMANDS, f"the help of {word} has not the end help::{name}, but {ends}")
     topics = dict(re.findall(r'topic\(alloc, "(\w+)", topics::(\w+)\)', source))
     if topics != {word: word.upper() for word in BEGINNINGS}:
         fault(COMMANDS, f"the topics are {topics}")

@@ -268,7 +268,7 @@ COLUMNS = [
     ("L", "The program's lines", [("ill_commands", "run_lines_as")]),
     ("O", "From words to plan and exit status", [
         ("ill_args", "order"),
-        ("ill_cli", "Plan::new"),
+        ("ill_cli", "Action::new"),
         ("ill_cli", "InputAction::new"),
         *(("ill_files", name) for name in ("status_of", "combined_status", "is_output_lost", "keeps_output", "keeps_refused")),
     ]),

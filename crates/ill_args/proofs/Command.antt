@@ -12,7 +12,7 @@ use Rattle.clap.specs.Lexer.{long_of, short_of}
 use Rattle.clap.specs.Simple.{App, Shape, argument_words, built, entered, label_of, names_of, rows_at, subcommand_of}
 use Rattle.clap.specs.Takes.{is_given}
 use Rattle.clap.specs.Walk.{Held, Names, Outcome, Row, Rule, Step, Text, Waiting, Walk, after_flag, after_step, answers_to, arg_by_index, bundle, done, finished, idle, is_empty, long_or_other, next, nothing_held, option, plain, plain_word, positional, refused, rows_after, short_or_plain, subcommand, subcommand_met, subcommand_or_other, to_positional, trailing, value, waits, walk, walk_from, walked, walked_from, word_met}
-use Rattle.ill_args.specs.CommandLine.{program}
+use Rattle.ill_args.specs.CommandLine.{all_verbs, program}
 use Rattle.ill_args.specs.Orders.{verb_name}
 use Rattle.ill_args.specs.code.Commands.{HasBoth, IsCommand}
 use Rattle.ill_args.specs.declared.orders.Verb.{Verb}
@@ -134,16 +134,13 @@ given_if_required s rows id required f = any s.rules required (negated s.subcomm
 
 -- ---- the program's commands
 
-abbrev verbs : List Verb
-verbs = Verb.Show ∷ Verb.Check ∷ Verb.Digest ∷ Verb.Dump ∷ Verb.Same ∷ Verb.Canonicalise ∷ []
-
 -- two files are required
 abbrev wants_both : List Rule → Bool
 wants_both rules = list_any (λ a. a.required && bytes_eq a.id (codes "first")) rules && list_any (λ a. a.required && bytes_eq a.id (codes "second")) rules
 
 -- a command has a name of ours, and a profile, and `same` wants its two files
 abbrev is_ours : Shape → Bool
-is_ours s = list_any (λ verb. bytes_eq s.name (verb_name verb)) verbs && (has_profile s.rules && (not (bytes_eq s.name (codes "same")) || wants_both s.rules))
+is_ours s = list_any (λ verb. bytes_eq s.name (verb_name verb)) all_verbs && (has_profile s.rules && (not (bytes_eq s.name (codes "same")) || wants_both s.rules))
 
 -- a command is one of ours, or a topic of `help`, or `help` itself
 abbrev is_known : Shape → Bool
@@ -193,13 +190,13 @@ both_given s words good wants f same =
 
 is_command : (s : Shape) (words : List Text) → is_ours s ≡ true → IsSound s [] nothing_held words false [] → IsCommand (Some (s.name, rows_after s.rules [] words))
 is_command s words own f =
-    let parts = and_parts (list_any (λ verb. bytes_eq s.name (verb_name verb)) verbs) _ own in
+    let parts = and_parts (list_any (λ verb. bytes_eq s.name (verb_name verb)) all_verbs) _ own in
     let rules = and_parts (has_profile s.rules) _ parts.1 in
     record {
       name = s.name;
       rows = rows_after s.rules [] words;
       is = refl;
-      known = verb_of s.name verbs parts.0;
+      known = verb_of s.name all_verbs parts.0;
       profile = named_profile s words rules.0 f;
       both = both_given s words (and_parts (are_good s.rules) _ rules.0).0 rules.1 f;
     }

@@ -1,5 +1,5 @@
 -- A command that was found, from its name and its rows.
-use Rattle.std.proofs.Common.{◌≡◌, ◌∙◌, Bool, cond, codes, true, false, refl, sym, ap, List, [], ◌∷◌, ℕ, Option, Some, None, option_map, unwrap_or, IfSome}
+use Rattle.std.proofs.Common.{◌≡◌, ◌∙◌, Bool, cond, codes, true, false, refl, sym, ap, List, [], ◌∷◌, ℕ, Option, Some, None, option_map, unwrap_or, IfSome, inl, inr}
 use Rattle.std.specs.Prelude.{find}
 use Rattle.std.specs.List.{list_all}
 use Rattle.std.specs.Option.{option_map_or}
@@ -9,7 +9,11 @@ use Rattle.std.proofs.lemmas.Bool.{and_parts}
 use Rattle.std.proofs.lemmas.Slice.Eq.{bytes_eq-Decides}
 use Rattle.clap.specs.Words.{ReadsOne}
 use Rattle.clap.specs.Walk.{Row, Text}
-use Rattle.ill_args.specs.Orders.{IsOptionNumber}
+use Rattle.ill_args.specs.Orders.{verb_name, IsOptionNumber}
+use Rattle.ill_args.specs.Refused.{IsFaultOf}
+use Rattle.ill_args.specs.code.Commands.{IsFault}
+use Rattle.ill_args.specs.declared.fault.LineFault.{LineFault}
+use Rattle.ill_args.specs.declared.orders.Verb.{Verb}
 
 abbrev pair : {X : Type 0} → (X → Text) → (X → List Row) → X → Text × List Row
 pair f g b = (f b, g b)
@@ -46,3 +50,9 @@ pub number_is : (found : Option Text) (number : Option ℕ) → (found ≡ None 
 number_is None number none value = none refl
 number_is (Some t) (Some n) none value = (value t refl).0
 number_is (Some t) None none value = (value t refl).1.0
+
+-- a fault of the words of the command that was found
+pub found_fault : (found : Option (Text × List Row)) (verb : Verb) (rows : List Row) (fault : LineFault) → found ≡ Some (verb_name verb, rows) → IsFault verb rows fault → IsFaultOf found fault
+found_fault found verb rows (LineFault.Line error) is h = tt
+found_fault found verb rows _ is (inl memory) = absurd memory
+found_fault found verb rows _ is (inr h) = (verb, rows, is, h)

@@ -1,5 +1,4 @@
 pub mod Arguments
-pub mod Canonicalised
 pub mod Command
 pub mod Filled
 pub mod Found

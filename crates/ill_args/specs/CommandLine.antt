@@ -6,7 +6,8 @@ use Rattle.clap.specs.Simple.{App, new_app, new_rule, with_rule, with_subcommand
 use Rattle.clap.specs.declared.builder.action.ArgAction.TheVariants.{Append, SetTrue}
 use Rattle.clap.specs.declared.builder.value_parser.ValueParser.TheVariants.{Names, Unsigned}
 use Rattle.ill_tables.specs.declared.profile.Profile.{Profile}
-use Rattle.ill_args.specs.Orders.{profile_name}
+use Rattle.ill_args.specs.declared.orders.Verb.{Verb}
+use Rattle.ill_args.specs.Orders.{profile_name, verb_name}
 
 -- the flag `--NAME`
 abbrev pub flag_rule : Text → Rule
@@ -57,18 +58,6 @@ profile_rule names = record (new_rule (codes "profile")) {
   parser = Some (Names names);
 }
 
--- a command and its files
-abbrev pub with_files : App → App
-with_files a = with_rule (with_rule a list_rule) files_rule
-
--- the same, where lines may name their file
-abbrev pub with_names : App → App
-with_names a = with_rule (with_files a) filename_rule
-
--- a command that goes on after a message that is refused, whose octets may go to a file, and stops after a number of them
-abbrev pub with_skipping : App → App
-with_skipping a = with_rule (with_rule (with_rule a (flag_rule (codes "keep-going"))) refused_rule) max_refused_rule
-
 abbrev pub bare_program : App
 bare_program = let a = new_app (codes "illcanon") in
     record a { top = record a.top { has_version = true; subcommand_required = true; arg_required_else_help = true } }
@@ -78,59 +67,60 @@ abbrev pub topic : Text → App
 topic name = let a = new_app name in
     record a { top = record a.top { subcommand_required = true; arg_required_else_help = true } }
 
-module _ (names : ProfileNames) where
-  -- a command on any number of files; one that goes on after a message that is refused, counts messages and writes JSON; and one that has lines, too
+-- what the commands have besides `--hex` and `--profile`, in turn
+abbrev pub show_rules : List Rule
+show_rules =
+    list_rule ∷ files_rule ∷ filename_rule ∷ flag_rule (codes "keep-going") ∷ refused_rule ∷ max_refused_rule ∷ flag_rule (codes "summary") ∷ flag_rule (codes "json") ∷ []
 
+abbrev pub report_rules : List Rule
+report_rules =
+    flag_rule (codes "keep-going") ∷ refused_rule ∷ max_refused_rule ∷ flag_rule (codes "summary") ∷ flag_rule (codes "lines") ∷ list_rule ∷ files_rule ∷ filename_rule
+    ∷ flag_rule (codes "json") ∷ []
+
+abbrev pub dump_rules : List Rule
+dump_rules = list_rule ∷ files_rule ∷ filename_rule ∷ flag_rule (codes "keep-going") ∷ max_refused_rule ∷ message_rule ∷ flag_rule (codes "html") ∷ []
+
+abbrev pub same_rules : List Rule
+same_rules = file_rule (codes "first") ∷ file_rule (codes "second") ∷ []
+
+abbrev pub canonicalise_rules : List Rule
+canonicalise_rules =
+    flag_rule (codes "keep-going") ∷ refused_rule ∷ max_refused_rule ∷ flag_rule (codes "summary") ∷ flag_rule (codes "lines") ∷ flag_rule (codes "whole") ∷ output_rule ∷ list_rule
+    ∷ files_rule ∷ []
+
+abbrev pub rules_of : Verb → List Rule
+rules_of Verb.Show = show_rules
+rules_of Verb.Check = report_rules
+rules_of Verb.Digest = report_rules
+rules_of Verb.Dump = dump_rules
+rules_of Verb.Same = same_rules
+rules_of Verb.Canonicalise = canonicalise_rules
+
+-- all commands
+abbrev pub all_verbs : List Verb
+all_verbs = Verb.Show ∷ Verb.Check ∷ Verb.Digest ∷ Verb.Dump ∷ Verb.Same ∷ Verb.Canonicalise ∷ []
+
+-- a command to which these arguments are added
+abbrev pub with_rules : App → List Rule → App
+with_rules a [] = a
+with_rules a (r ∷ rs) = with_rules (with_rule a r) rs
+
+module _ (names : ProfileNames) where
+  -- a command that reads hexadecimal text, too, and any of these profiles
   abbrev pub with_hex : Text → App
   with_hex name = with_rule (with_rule (new_app name) (flag_rule (codes "hex"))) (profile_rule names)
 
-  abbrev pub each_file : Text → App
-  each_file name = with_names (with_hex name)
+  abbrev pub command_for : Verb → App
+  command_for verb = with_rules (with_hex (verb_name verb)) (rules_of verb)
 
-  abbrev pub each_numbered : Text → App
-  each_numbered name = with_rule (with_rule (with_rule (each_file name) (flag_rule (codes "keep-going"))) max_refused_rule) message_rule
+  -- a program with these commands, in turn
+  abbrev pub with_commands : App → List Verb → App
+  with_commands a [] = a
+  with_commands a (verb ∷ verbs) = with_commands (with_subcommand a (command_for verb).top) verbs
 
-  abbrev pub each_dumped : Text → App
-  each_dumped name = with_rule (each_numbered name) (flag_rule (codes "html"))
-
-  abbrev pub each_counted : Text → App
-  each_counted name = with_rule (with_skipping (each_file name)) (flag_rule (codes "summary"))
-
-  abbrev pub each_json : Text → App
-  each_json name = with_rule (each_counted name) (flag_rule (codes "json"))
-
-  abbrev pub with_summary : Text → App
-  with_summary name = with_rule (with_skipping (with_hex name)) (flag_rule (codes "summary"))
-
-  abbrev pub with_lines : Text → App
-  with_lines name = with_rule (with_summary name) (flag_rule (codes "lines"))
-
-  abbrev pub each_line : Text → App
-  each_line name = with_rule (with_names (with_lines name)) (flag_rule (codes "json"))
-
-  -- a command on two files
-  abbrev pub two_files : Text → App
-  two_files name = with_rule (with_rule (with_hex name) (file_rule (codes "first"))) (file_rule (codes "second"))
-
-  -- a command that writes what it makes of any number of files into one, or of one file into another
-  abbrev pub with_whole : Text → App
-  with_whole name = with_rule (with_lines name) (flag_rule (codes "whole"))
-
-  abbrev pub with_output : Text → App
-  with_output name = with_rule (with_whole name) output_rule
-
-  abbrev pub into_one : Text → App
-  into_one name = with_files (with_output name)
-
-  -- the commands that print what they make of each file
-  abbrev pub with_printing : App → App
-  with_printing a = with_subcommand (with_subcommand (with_subcommand (with_subcommand a
-      (each_json (codes "show")).top) (each_line (codes "check")).top) (each_line (codes "digest")).top) (each_dumped (codes "dump")).top
-
-  -- the program with its six commands, and two topics
+  -- the program with its commands, and two topics
   abbrev pub program_of : App
-  program_of = with_subcommand (with_subcommand (with_subcommand (with_subcommand (with_printing bare_program)
-      (two_files (codes "same")).top) (into_one (codes "canonicalise")).top) (topic (codes "causes")).top) (topic (codes "profile")).top
+  program_of = with_subcommand (with_subcommand (with_commands bare_program all_verbs) (topic (codes "causes")).top) (topic (codes "profile")).top
 
 -- a reference, where the place in memory makes no difference
 abbrev pub reference : {X : Type 0} → X → Bor X

@@ -1,15 +1,24 @@
 -- Which words give an order.
-use Rattle.std.specs.Prelude.{◌≡◌, ◌≢◌, ◌⊎◌, ◌<◌, ◌+◌, ◌^◌, ℕ, Bool, true, false, List, [], ◌∷◌, length, map, codes, count_by, Option, Some, None, is_some, option_map, unwrap_or, IsTrue}
+use Rattle.std.specs.Prelude.{◌≡◌, ◌≢◌, ◌⊎◌, ◌<◌, ◌+◌, ◌^◌, ℕ, Bool, true, false, List, [], ◌∷◌, map, codes, count_by, Option, Some, None, option_and_then, option_map, unwrap_or, IsSomeAnd}
 use Rattle.std.specs.Option.{option_map_or}
+use Rattle.std.specs.Borrow.{Bor}
 use Rattle.std.specs.Str.{bytes_eq}
 use Rattle.std.specs.Str.Parse.{IsNumeral, digits_value, without_leading_plus}
 use Rattle.clap.specs.Walk.{Row, Text, all_of, first_of, one_of}
 use Rattle.ill_tables.specs.declared.profile.Profile.{Profile}
+use Rattle.ill_args.specs.declared.orders.Elements.{Elements}
 use Rattle.ill_args.specs.declared.orders.FileJob.{FileJob}
 use Rattle.ill_args.specs.declared.orders.Inputs.{Inputs}
+use Rattle.ill_args.specs.declared.orders.KeepGoing.{KeepGoing}
+use Rattle.ill_args.specs.declared.orders.Limit.{Limit}
+use Rattle.ill_args.specs.declared.orders.LineResults.{LineResults}
+use Rattle.ill_args.specs.declared.orders.Messages.{Messages}
 use Rattle.ill_args.specs.declared.orders.Order.{Order}
-use Rattle.ill_args.specs.declared.orders.Task.{Task}
+use Rattle.ill_args.specs.declared.orders.Reading.{Reading}
+use Rattle.ill_args.specs.declared.orders.Report.{Report}
+use Rattle.ill_args.specs.declared.orders.Target.{Target}
 use Rattle.ill_args.specs.declared.orders.Verb.{Verb}
+use Rattle.ill_args.specs.declared.orders.Work.{Work}
 
 abbrev pub verb_name : Verb → Text
 verb_name Verb.Show = codes "show"
@@ -24,43 +33,58 @@ abbrev pub profile_name : Profile → Text
 profile_name Profile.Two = codes "2"
 profile_name Profile.Module = codes "module"
 
--- the command that a job is of, and a task
+-- the command that a report is of, a job, the results of lines, work, and an order
+abbrev pub verb_of_report : Report → Verb
+verb_of_report Report.Check = Verb.Check
+verb_of_report Report.Digest = Verb.Digest
+
 abbrev pub verb_of_job : FileJob → Verb
 verb_of_job FileJob.Show = Verb.Show
-verb_of_job FileJob.Check = Verb.Check
-verb_of_job FileJob.Digest = Verb.Digest
-verb_of_job FileJob.Dump = Verb.Dump
+verb_of_job (FileJob.Report report) = verb_of_report report
 
-abbrev pub verb : Task → Verb
-verb (Task.Each job inputs) = verb_of_job job
-verb (Task.Canonicalise input output) = Verb.Canonicalise
-verb (Task.Collect inputs output) = Verb.Canonicalise
-verb (Task.Compare first second) = Verb.Same
+abbrev pub verb_of_results : LineResults → Verb
+verb_of_results (LineResults.Report report) = verb_of_report report
+verb_of_results _ = Verb.Canonicalise
 
--- the words FILE
-abbrev pub files_in : List Row → List Text
-files_in rows = unwrap_or (all_of (codes "file") rows) []
+abbrev pub verb_of_work : Work → Verb
+verb_of_work (Work.Print job json with_filename messages inputs) = verb_of_job job
+verb_of_work (Work.Dump elements with_filename inputs) = Verb.Dump
+verb_of_work (Work.Write messages input output) = Verb.Canonicalise
+verb_of_work (Work.Collect messages inputs output) = Verb.Canonicalise
+verb_of_work (Work.Lines profile input results) = verb_of_results results
 
--- the files of a job are the words FILE, and the word of `--files-from`
-abbrev pub HasInputs : List Row → Inputs → Type 0
-HasInputs rows inputs = (files_in rows ≡ map (λ word. word.now) inputs.files.items)
-    × (first_of (codes "files-from") rows ≡ option_map (λ word. word.now) inputs.list)
+abbrev pub verb : Order → Verb
+verb (Order.Each work) = verb_of_work work
+verb (Order.Compare reading first second) = Verb.Same
 
--- two words of their own
-abbrev pub HasPair : List Row → Text → Text → Type 0
-HasPair rows first second = (first_of (codes "first") rows ≡ Some first) × (first_of (codes "second") rows ≡ Some second)
+-- a line at the end says how many files and messages there were
+abbrev pub is_counted : Work → Bool
+is_counted (Work.Print job json with_filename messages inputs) = messages.summary
+is_counted (Work.Write messages input output) = messages.summary
+is_counted (Work.Collect messages inputs output) = messages.summary
+is_counted _ = false
 
--- two words and no other, and neither `-o` nor `--files-from`
-abbrev pub HasTwo : List Row → Text → Text → Type 0
-HasTwo rows input output = (files_in rows ≡ input ∷ output ∷ [])
-    × (first_of (codes "files-from") rows ≡ None) × (first_of (codes "output") rows ≡ None)
+-- the file that gets the octets of refused messages
+abbrev pub refused_of : Messages → Option (Bor Text)
+refused_of messages = option_and_then (λ (going : KeepGoing). going.refused) messages.keep_going
 
--- the task has the files that were found; `canonicalise` has IN and OUT, or any number of files and the word of `-o`
-abbrev pub HasFiles : List Row → Task → Type 0
-HasFiles rows (Task.Each job inputs) = HasInputs rows inputs
-HasFiles rows (Task.Canonicalise input output) = HasTwo rows input.now output.now
-HasFiles rows (Task.Collect inputs output) = HasInputs rows inputs × (first_of (codes "output") rows ≡ Some output.now)
-HasFiles rows (Task.Compare first second) = HasPair rows first.now second.now
+abbrev pub limit_of : Messages → Option ℕ
+limit_of messages = option_and_then (λ (going : KeepGoing). going.limit.max_refused) messages.keep_going
+
+-- the number of the refused message that ends the work
+abbrev pub max_refused_of : Work → Option ℕ
+max_refused_of (Work.Print job json with_filename messages inputs) = limit_of messages
+max_refused_of (Work.Dump elements with_filename inputs) = option_and_then (λ (limit : Limit). limit.max_refused) elements.keep_going
+max_refused_of (Work.Write messages input output) = limit_of messages
+max_refused_of (Work.Collect messages inputs output) = limit_of messages
+max_refused_of _ = None
+
+-- reports are lines of JSON
+abbrev pub has_json_reports : Work → Bool
+has_json_reports (Work.Print (FileJob.Report report) json with_filename messages inputs) = json
+has_json_reports _ = false
+
+-- ---- words
 
 -- the flag of this name is set; a command that has no such flag finds none
 abbrev pub is_set : Text → List Row → Bool
@@ -76,23 +100,13 @@ IsOptionNumber (Some word) None = IsNumeral 10 (without_leading_plus word) × (d
 abbrev pub NamesProfile : List Row → Profile → Type 0
 NamesProfile rows profile = first_of (codes "profile") rows ≡ Some (profile_name profile)
 
--- what was found for a command is the order's command, profile, flags and files
-pub record IsOrderOf (found : Option (Text × List Row)) (order : Order) : Type 0 where
-  pub rows : List Row
-  pub command : found ≡ Some (verb_name (verb order.task), rows)
-  pub profile : NamesProfile rows order.profile
-  pub hex : order.hex ≡ is_set (codes "hex") rows
-  pub lines : order.lines ≡ is_set (codes "lines") rows
-  pub keep_going : order.keep_going ≡ is_set (codes "keep-going") rows
-  pub refused : first_of (codes "refused") rows ≡ option_map (λ word. word.now) order.refused
-  pub max_refused : IsOptionNumber (one_of (codes "max-refused") rows) order.max_refused
-  pub summary : order.summary ≡ is_set (codes "summary") rows
-  pub json : order.json ≡ is_set (codes "json") rows
-  pub filename : order.with_filename ≡ is_set (codes "with-filename") rows
-  pub whole : order.whole ≡ is_set (codes "whole") rows
-  pub message : IsOptionNumber (one_of (codes "message") rows) order.message
-  pub html : order.html ≡ is_set (codes "html") rows
-  pub files : HasFiles rows order.task
+-- the words FILE
+abbrev pub files_in : List Row → List Text
+files_in rows = unwrap_or (all_of (codes "file") rows) []
+
+-- the word of `--files-from`
+abbrev pub list_in : List Row → Option Text
+list_in rows = first_of (codes "files-from") rows
 
 -- how many of the words are this name
 abbrev pub times : Text → List Text → ℕ
@@ -103,110 +117,137 @@ list_times name None = 0
 list_times name (Some list) = times name (list ∷ [])
 
 -- how often a file of this name is read
-abbrev pub reads : Inputs → Text → ℕ
-reads inputs name = times name (map (λ word. word.now) inputs.files.items) + list_times name (option_map (λ word. word.now) inputs.list)
-
--- a file of this name is read, which isn't standard output
-abbrev pub IsInputFile : Inputs → Text → Type 0
-IsInputFile inputs output = (output ≢ codes "-") × (0 < reads inputs output)
-
--- `same` has standard input twice, or IN and OUT of `canonicalise` are the same word other than `-`
-abbrev pub HasSameWord : Order → Type 0
-HasSameWord order = elim order.task as (λ _. Type 0) [
-  | Task.Each job inputs ↦ ⊥
-  | Task.Canonicalise input output ↦ (input.now ≢ codes "-") × (output.now ≡ input.now)
-  | Task.Collect inputs output ↦ ⊥
-  | Task.Compare first second ↦ (first.now ≡ codes "-") × (second.now ≡ codes "-")
-]
-
--- standard input is among the files twice, or is their list, too
-abbrev pub ReadsInputTwice : Order → Type 0
-ReadsInputTwice order = elim order.task as (λ _. Type 0) [
-  | Task.Each job inputs ↦ 1 < reads inputs (codes "-")
-  | Task.Canonicalise input output ↦ ⊥
-  | Task.Collect inputs output ↦ 1 < reads inputs (codes "-")
-  | Task.Compare first second ↦ ⊥
-]
-
--- the word of `-o` is among the files that are read, or is their list
-abbrev pub ReadsOutput : Order → Type 0
-ReadsOutput order = elim order.task as (λ _. Type 0) [
-  | Task.Each job inputs ↦ ⊥
-  | Task.Canonicalise input output ↦ ⊥
-  | Task.Collect inputs output ↦ IsInputFile inputs output.now
-  | Task.Compare first second ↦ ⊥
-]
-
--- neither a file nor a list of files
-abbrev pub HasNone : Inputs → Type 0
-HasNone inputs = (inputs.files.items ≡ []) × (inputs.list ≡ None)
-
-abbrev pub NamesNothing : Order → Type 0
-NamesNothing order = elim order.task as (λ _. Type 0) [
-  | Task.Each job inputs ↦ HasNone inputs
-  | Task.Canonicalise input output ↦ ⊥
-  | Task.Collect inputs output ↦ HasNone inputs
-  | Task.Compare first second ↦ ⊥
-]
-
--- lines are texts of their own, and not parts of one
-abbrev pub IsBoth : Order → Type 0
-IsBoth order = (order.hex ≡ true) × (order.lines ≡ true)
-
--- each line has its result, and none is passed over
-abbrev pub LinesGoOn : Order → Type 0
-LinesGoOn order = (order.keep_going ≡ true) × (order.lines ≡ true)
-
--- each line has its result, and messages are not counted
-abbrev pub LinesAreCounted : Order → Type 0
-LinesAreCounted order = (order.summary ≡ true) × (order.lines ≡ true)
-
--- each line has its result in words
-abbrev pub LinesAreJson : Order → Type 0
-LinesAreJson order = (order.json ≡ true) × (order.lines ≡ true)
-
--- refused messages are to go to a file, and the first one ends the work
-abbrev pub RefusedEndsWork : Order → Type 0
-RefusedEndsWork order = IsTrue (is_some order.refused) × (order.keep_going ≡ false)
-
--- refused messages are counted, and the first one ends the work
-abbrev pub LimitEndsWork : Order → Type 0
-LimitEndsWork order = IsTrue (is_some order.max_refused) × (order.keep_going ≡ false)
-
--- a task reads or writes the file of this word
-abbrev pub NamesFile : Task → Text → Type 0
-NamesFile task word = elim task as (λ _. Type 0) [
-  | Task.Each job inputs ↦ 0 < reads inputs word
-  | Task.Canonicalise input output ↦ (input.now ≡ word) ⊎ (output.now ≡ word)
-  | Task.Collect inputs output ↦ (0 < reads inputs word) ⊎ (output.now ≡ word)
-  | Task.Compare first second ↦ ⊥
-]
-
--- refused messages are to go to standard output, or to another file of the command
-abbrev pub SharesRefused : Order → Type 0
-SharesRefused order = elim order.refused as (λ _. Type 0) [
-  | None ↦ ⊥
-  | Some word ↦ (word.now ≡ codes "-") ⊎ NamesFile order.task word.now
-]
-
--- OUT is to be replaced as a whole, but is standard output
-abbrev pub WholeIsPrinted : Order → Type 0
-WholeIsPrinted order = (order.whole ≡ true) × elim order.task as (λ _. Type 0) [
-  | Task.Each job inputs ↦ ⊥
-  | Task.Canonicalise input output ↦ output.now ≡ codes "-"
-  | Task.Collect inputs output ↦ output.now ≡ codes "-"
-  | Task.Compare first second ↦ ⊥
-]
+abbrev pub reads : List Row → Text → ℕ
+reads rows name = times name (files_in rows) + list_times name (list_in rows)
 
 -- one file, and no list of files
-abbrev pub HasOne : Inputs → Type 0
-HasOne inputs = (length inputs.files.items ≡ 1) × (inputs.list ≡ None)
+abbrev pub HasOne : List Row → Text → Type 0
+HasOne rows file = (files_in rows ≡ file ∷ []) × (list_in rows ≡ None)
 
--- the lines of one file are read, and of no other
-abbrev pub NamesNotOne : Order → Type 0
-NamesNotOne order = (order.lines ≡ true) × elim order.task as (λ _. Type 0) [
-  | Task.Each job inputs ↦ (HasOne inputs → ⊥)
-  | Task.Canonicalise input output ↦ ⊥
-  | Task.Collect inputs output ↦ (HasOne inputs → ⊥)
-  | Task.Compare first second ↦ ⊥
-]
+-- two words and no other, and neither `-o` nor `--files-from`
+abbrev pub HasTwo : List Row → Text → Text → Type 0
+HasTwo rows input output = (files_in rows ≡ input ∷ output ∷ []) × (list_in rows ≡ None) × (first_of (codes "output") rows ≡ None)
+
+-- the two files of `same`
+abbrev pub HasPair : List Row → Text → Text → Type 0
+HasPair rows first second = (first_of (codes "first") rows ≡ Some first) × (first_of (codes "second") rows ≡ Some second)
+
+-- ---- what is wrong with files
+
+-- neither a file nor a list of files
+abbrev pub NamesNothing : List Row → Type 0
+NamesNothing rows = (files_in rows ≡ []) × (list_in rows ≡ None)
+
+-- standard input is among the files twice, or is their list, too
+abbrev pub ReadsInputTwice : List Row → Type 0
+ReadsInputTwice rows = 1 < reads rows (codes "-")
+
+-- the word of `-o` is among the files that are read, or is their list; it isn't standard output
+abbrev pub ReadsOutput : List Row → Type 0
+ReadsOutput rows = IsSomeAnd (first_of (codes "output") rows) (λ word. (word ≢ codes "-") × (0 < reads rows word))
+
+-- refused messages are to go to standard output, or to another file of the command
+abbrev pub SharesRefused : List Row → Type 0
+SharesRefused rows =
+    IsSomeAnd (first_of (codes "refused") rows) (λ word. (word ≡ codes "-") ⊎ ((0 < reads rows word) ⊎ (first_of (codes "output") rows ≡ Some word)))
+
+-- ---- the parts of an order
+
+-- the files of a job are the words FILE, and the word of `--files-from`
+abbrev pub HasInputs : List Row → Inputs → Type 0
+HasInputs rows inputs = (files_in rows ≡ map (λ word. word.now) inputs.files.items) × (list_in rows ≡ option_map (λ word. word.now) inputs.list)
+
+-- there are files, and standard input is not read twice
+pub record AreInputs (rows : List Row) (inputs : Inputs) : Type 0 where
+  pub files : HasInputs rows inputs
+  pub some : NamesNothing rows → ⊥
+  pub once : ReadsInputTwice rows → ⊥
+
+pub record IsReading (rows : List Row) (reading : Reading) : Type 0 where
+  pub profile : NamesProfile rows reading.profile
+  pub hex : reading.hex ≡ is_set (codes "hex") rows
+
+-- a limit comes with `--keep-going` alone
+abbrev pub IsLimit : List Row → Option Limit → Type 0
+IsLimit rows None = (is_set (codes "keep-going") rows ≡ false) × IsOptionNumber (one_of (codes "max-refused") rows) None
+IsLimit rows (Some limit) = (is_set (codes "keep-going") rows ≡ true) × IsOptionNumber (one_of (codes "max-refused") rows) limit.max_refused
+
+-- so does a file of refused messages, which is no other file of the command
+abbrev pub IsKeepGoing : List Row → Option KeepGoing → Type 0
+IsKeepGoing rows None = IsLimit rows None × (first_of (codes "refused") rows ≡ None)
+IsKeepGoing rows (Some going) = IsLimit rows (Some going.limit) × (first_of (codes "refused") rows ≡ option_map (λ word. word.now) going.refused)
+
+-- a message after another is read, and not a line
+pub record AreMessages (rows : List Row) (messages : Messages) : Type 0 where
+  pub reading : IsReading rows messages.reading
+  pub keep_going : IsKeepGoing rows messages.keep_going
+  pub own : SharesRefused rows → ⊥
+  pub summary : messages.summary ≡ is_set (codes "summary") rows
+
+pub record AreElements (rows : List Row) (elements : Elements) : Type 0 where
+  pub reading : IsReading rows elements.reading
+  pub keep_going : IsLimit rows elements.keep_going
+  pub message : IsOptionNumber (one_of (codes "message") rows) elements.message
+  pub html : elements.html ≡ is_set (codes "html") rows
+
+-- the word for OUT
+abbrev pub target_name : Target → Text
+target_name Target.StandardOutput = codes "-"
+target_name (Target.File name whole) = name.now
+
+abbrev pub is_whole : Target → Bool
+is_whole Target.StandardOutput = false
+is_whole (Target.File name whole) = whole
+
+-- OUT is replaced as a whole if `--whole` says so, which standard output is not
+abbrev pub IsTarget : List Row → Target → Type 0
+IsTarget rows Target.StandardOutput = is_set (codes "whole") rows ≡ false
+IsTarget rows (Target.File name whole) = (name.now ≢ codes "-") × (whole ≡ is_set (codes "whole") rows)
+
+-- IN and OUT, which are not the same word other than `-`
+pub record AreInAndOut (rows : List Row) (input : Text) (output : Target) : Type 0 where
+  pub words : HasTwo rows input (target_name output)
+  pub target : IsTarget rows output
+  pub differ : input ≢ codes "-" → target_name output ≢ input
+
+-- OUT is the word of `-o`, and none of the files that are read
+pub record HasOutput (rows : List Row) (output : Target) : Type 0 where
+  pub word : first_of (codes "output") rows ≡ Some (target_name output)
+  pub target : IsTarget rows output
+  pub not_read : ReadsOutput rows → ⊥
+
+-- lines are texts of their own, none is passed over, and their results are in words and not counted
+pub record HasLines (rows : List Row) : Type 0 where
+  pub lines : is_set (codes "lines") rows ≡ true
+  pub hex : is_set (codes "hex") rows ≡ false
+  pub keep_going : IsKeepGoing rows None
+  pub summary : is_set (codes "summary") rows ≡ false
+  pub json : is_set (codes "json") rows ≡ false
+
+abbrev pub HasResults : List Row → Text → LineResults → Type 0
+HasResults rows input (LineResults.Report report) = HasOne rows input
+HasResults rows input (LineResults.Write output) = AreInAndOut rows input output
+HasResults rows input (LineResults.Collect output) = HasOne rows input × HasOutput rows output
+
+-- messages are read, and not lines; `show` has no `--lines`
+abbrev pub IsByMessage : List Row → FileJob → Type 0
+IsByMessage rows FileJob.Show = Unit {0}
+IsByMessage rows (FileJob.Report report) = is_set (codes "lines") rows ≡ false
+
+abbrev pub HasWork : List Row → Work → Type 0
+HasWork rows (Work.Print job json with_filename messages inputs) =
+    IsByMessage rows job × (json ≡ is_set (codes "json") rows) × (with_filename ≡ is_set (codes "with-filename") rows) × AreMessages rows messages × AreInputs rows inputs
+HasWork rows (Work.Dump elements with_filename inputs) = AreElements rows elements × (with_filename ≡ is_set (codes "with-filename") rows) × AreInputs rows inputs
+HasWork rows (Work.Write messages input output) = (is_set (codes "lines") rows ≡ false) × AreMessages rows messages × AreInAndOut rows input.now output
+HasWork rows (Work.Collect messages inputs output) = (is_set (codes "lines") rows ≡ false) × AreMessages rows messages × AreInputs rows inputs × HasOutput rows output
+HasWork rows (Work.Lines profile input results) = NamesProfile rows profile × HasLines rows × HasResults rows input.now results
+
+abbrev pub HasWords : List Row → Order → Type 0
+HasWords rows (Order.Each work) = HasWork rows work
+HasWords rows (Order.Compare reading first second) = IsReading rows reading × HasPair rows first.now second.now × (first.now ≡ codes "-" → second.now ≢ codes "-")
+
+-- what was found for a command is the order's command, and its words are those of the order's parts
+pub record IsOrderOf (found : Option (Text × List Row)) (order : Order) : Type 0 where
+  pub rows : List Row
+  pub command : found ≡ Some (verb_name (verb order), rows)
+  pub words : HasWords rows order

@@ -1,42 +1,80 @@
 -- Why words give no order.
-use Rattle.std.specs.Prelude.{◌≡◌, ◌⊎◌, ◌<◌, List, [], length, codes, Option, Some, None, is_some, Result, Ok, Err, IsTrue}
-use Rattle.clap.specs.Walk.{Row, Text, first_of}
+use Rattle.std.specs.Prelude.{◌≡◌, ◌≢◌, ◌⊎◌, ◌<◌, ℕ, true, false, List, [], length, codes, Option, Some, None, is_some, Result, Ok, Err, IsTrue}
+use Rattle.clap.specs.Walk.{Row, Text, first_of, one_of}
 use Rattle.clap.specs.Words.{HasKind, Kinds, kind_of}
 use Rattle.clap.specs.declared.error.kind.ErrorKind.{ErrorKind}
 use Rattle.ill_args.specs.declared.orders.Order.{Order}
+use Rattle.ill_args.specs.declared.orders.Verb.{Verb}
 use Rattle.ill_args.specs.declared.fault.LineFault.{LineFault}
 use Rattle.ill_args.specs.declared.fault.LineFault.TheVariants.{Line, SameWord, InputTwice, OutputIsRead, Missing, Unexpected, LinesAndHex, LinesAndKeepGoing, LinesAndSummary, LinesAndJson, NotOneFile, MaxRefusedNeedsKeepGoing, RefusedNeedsKeepGoing, RefusedIsShared, WholeNeedsFile}
-use Rattle.ill_args.specs.Orders.{files_in, IsBoth, IsOrderOf, HasSameWord, LinesAreCounted, LinesAreJson, LinesGoOn, LimitEndsWork, NamesNotOne, NamesNothing, ReadsInputTwice, ReadsOutput, RefusedEndsWork, SharesRefused, WholeIsPrinted}
+use Rattle.ill_args.specs.Orders.{files_in, is_set, list_in, verb_name, HasOne, HasPair, HasTwo, IsOptionNumber, NamesNothing, ReadsInputTwice, ReadsOutput, SharesRefused}
+
+-- the command has any number of files: not `same`, nor `canonicalise` with IN and OUT
+abbrev pub HasAnyFiles : Verb → List Row → Type 0
+HasAnyFiles Verb.Same rows = ⊥
+HasAnyFiles Verb.Canonicalise rows = IsTrue (is_some (first_of (codes "output") rows))
+HasAnyFiles _ rows = Unit {0}
+
+-- the words of a command are enough for its files
+abbrev pub HasFiles : Verb → List Row → Type 0
+HasFiles Verb.Same rows = (first second : Text) × HasPair rows first second
+HasFiles Verb.Canonicalise rows = IsTrue (is_some (first_of (codes "output") rows)) ⊎ ((input output : Text) × HasTwo rows input output)
+HasFiles _ rows = Unit {0}
+
+-- `same` has standard input twice, or IN and OUT of `canonicalise` are the same word other than `-`
+abbrev pub HasSameWord : Verb → List Row → Type 0
+HasSameWord Verb.Same rows = HasPair rows (codes "-") (codes "-")
+HasSameWord Verb.Canonicalise rows = (word : Text) × HasTwo rows word word × (word ≢ codes "-")
+HasSameWord _ rows = ⊥
 
 -- words of `canonicalise` that are fewer than IN and OUT, or come with a list of files, and have no `-o`
-abbrev pub LacksTwo : List Row → Type 0
-LacksTwo rows = (first_of (codes "output") rows ≡ None) × ((length (files_in rows) < 2) ⊎ IsTrue (is_some (first_of (codes "files-from") rows)))
+abbrev pub LacksTwo : Verb → List Row → Type 0
+LacksTwo Verb.Canonicalise rows = (first_of (codes "output") rows ≡ None) × ((length (files_in rows) < 2) ⊎ IsTrue (is_some (list_in rows)))
+LacksTwo _ rows = ⊥
 
 -- words of `canonicalise` that are more than IN and OUT, and have no `-o`
-abbrev pub ExceedsTwo : List Row → Type 0
-ExceedsTwo rows = (first_of (codes "output") rows ≡ None) × (2 < length (files_in rows))
+abbrev pub ExceedsTwo : Verb → List Row → Type 0
+ExceedsTwo Verb.Canonicalise rows = (first_of (codes "output") rows ≡ None) × (2 < length (files_in rows))
+ExceedsTwo _ rows = ⊥
 
-abbrev pub IsCanonicalise : Option (Text × List Row) → (List Row → Type 0) → Type 0
-IsCanonicalise found p = (rows : List Row) × (found ≡ Some (codes "canonicalise", rows)) × p rows
+-- what is wrong with the files of a command
+abbrev pub HasFileFault : Verb → List Row → LineFault → Type 0
+HasFileFault verb rows SameWord = HasSameWord verb rows
+HasFileFault verb rows InputTwice = HasAnyFiles verb rows × ReadsInputTwice rows
+HasFileFault verb rows OutputIsRead = (verb ≡ Verb.Canonicalise) × ReadsOutput rows
+HasFileFault verb rows (Missing error) = (kind_of error ≡ ErrorKind.MissingRequiredArgument) × ((HasAnyFiles verb rows × NamesNothing rows) ⊎ LacksTwo verb rows)
+HasFileFault verb rows (Unexpected error) = (kind_of error ≡ ErrorKind.UnknownArgument) × ExceedsTwo verb rows
+HasFileFault verb rows NotOneFile = HasAnyFiles verb rows × (is_set (codes "lines") rows ≡ true) × ((file : Text) → HasOne rows file → ⊥)
+HasFileFault verb rows _ = ⊥
 
--- a fault that clap doesn't report comes only where the words have an order with that fault
+-- OUT is standard output
+abbrev pub PrintsOutput : List Row → Type 0
+PrintsOutput rows = (first_of (codes "output") rows ≡ Some (codes "-")) ⊎ ((input : Text) × HasTwo rows input (codes "-"))
+
+-- the flag of this name is set beside `--lines`
+abbrev pub HasLinesAnd : List Row → Text → Type 0
+HasLinesAnd rows name = (is_set (codes "lines") rows ≡ true) × (is_set name rows ≡ true)
+
+-- flags that exclude others, or need them
+abbrev pub HasFlagFault : List Row → LineFault → Type 0
+HasFlagFault rows LinesAndHex = HasLinesAnd rows (codes "hex")
+HasFlagFault rows LinesAndKeepGoing = HasLinesAnd rows (codes "keep-going")
+HasFlagFault rows LinesAndSummary = HasLinesAnd rows (codes "summary")
+HasFlagFault rows LinesAndJson = HasLinesAnd rows (codes "json")
+HasFlagFault rows WholeNeedsFile = (is_set (codes "whole") rows ≡ true) × PrintsOutput rows
+HasFlagFault rows RefusedNeedsKeepGoing = IsTrue (is_some (first_of (codes "refused") rows)) × (is_set (codes "keep-going") rows ≡ false)
+HasFlagFault rows MaxRefusedNeedsKeepGoing = ((n : ℕ) × IsOptionNumber (one_of (codes "max-refused") rows) (Some n)) × (is_set (codes "keep-going") rows ≡ false)
+HasFlagFault rows RefusedIsShared = SharesRefused rows
+HasFlagFault rows _ = ⊥
+
+-- what is wrong with the words of a command; its flags are looked at once its files are there
+abbrev pub HasFault : Verb → List Row → LineFault → Type 0
+HasFault verb rows fault = HasFileFault verb rows fault ⊎ (HasFiles verb rows × HasFlagFault rows fault)
+
+-- a fault that clap doesn't report comes only where the words have it
 abbrev pub IsFaultOf : Option (Text × List Row) → LineFault → Type 0
 IsFaultOf found (Line error) = Unit {0}
-IsFaultOf found SameWord = (order : Order) × IsOrderOf found order × HasSameWord order
-IsFaultOf found InputTwice = (order : Order) × IsOrderOf found order × ReadsInputTwice order
-IsFaultOf found OutputIsRead = (order : Order) × IsOrderOf found order × ReadsOutput order
-IsFaultOf found (Missing error) = (kind_of error ≡ ErrorKind.MissingRequiredArgument)
-    × (((order : Order) × IsOrderOf found order × NamesNothing order) ⊎ IsCanonicalise found LacksTwo)
-IsFaultOf found (Unexpected error) = (kind_of error ≡ ErrorKind.UnknownArgument) × IsCanonicalise found ExceedsTwo
-IsFaultOf found LinesAndHex = (order : Order) × IsOrderOf found order × IsBoth order
-IsFaultOf found LinesAndKeepGoing = (order : Order) × IsOrderOf found order × LinesGoOn order
-IsFaultOf found LinesAndSummary = (order : Order) × IsOrderOf found order × LinesAreCounted order
-IsFaultOf found LinesAndJson = (order : Order) × IsOrderOf found order × LinesAreJson order
-IsFaultOf found NotOneFile = (order : Order) × IsOrderOf found order × NamesNotOne order
-IsFaultOf found RefusedNeedsKeepGoing = (order : Order) × IsOrderOf found order × RefusedEndsWork order
-IsFaultOf found MaxRefusedNeedsKeepGoing = (order : Order) × IsOrderOf found order × LimitEndsWork order
-IsFaultOf found RefusedIsShared = (order : Order) × IsOrderOf found order × SharesRefused order
-IsFaultOf found WholeNeedsFile = (order : Order) × IsOrderOf found order × WholeIsPrinted order
+IsFaultOf found fault = (verb : Verb) × (rows : List Row) × (found ≡ Some (verb_name verb, rows)) × HasFault verb rows fault
 
 -- memory ran out
 abbrev pub IsOutOfMemory : LineFault → Type 0

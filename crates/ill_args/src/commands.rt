@@ -1,12 +1,14 @@
 //! The commands and their flags, as clap takes them.
-ghost use Rattle.std.specs.Prelude.{◌≡◌, codes, false, map, IfOk};
+ghost use Rattle.std.specs.Prelude.{◌≡◌, false, map, IfOk};
 ghost use Rattle.clap.specs.Words.{app_of, rule_of};
-ghost use Rattle.clap.specs.Simple.{App, new_app, with_subcommand};
+ghost use Rattle.clap.specs.Simple.{App, with_subcommand};
 ghost use Rattle.clap.specs.declared.builder.command.Command.TheViews.{out-Command as fields_of};
-ghost use Rattle.ill_args.specs.CommandLine.{bare_program, each_dumped, each_json, each_line, file_rule, filename_rule, files_rule, flag_rule, into_one, list_rule, max_refused_rule, message_rule, output_rule, profile_rule, program_of, refused_rule, topic, two_files, with_hex, with_printing};
+ghost use Rattle.ill_args.specs.CommandLine.{bare_program, command_for, file_rule, filename_rule, files_rule, flag_rule, list_rule, max_refused_rule, message_rule, output_rule, profile_rule, program_of, refused_rule, rules_of, topic, with_commands, with_hex, with_rules};
+ghost use Rattle.ill_args.specs.Orders.{verb_name};
 ghost use Rattle.ill_args.specs.code.Commands.{AreAllNames};
-ghost use Rattle.ill_args.specs.code.Arguments.{rule_for, with_rules};
+ghost use Rattle.ill_args.specs.code.Arguments.{rule_for};
 
+use crate::orders::Verb;
 use crate::{help, topics};
 use clap::builder::ValueParser;
 use clap::{Arg, ArgAction, Command};
@@ -204,7 +206,7 @@ static SHOW: [Argument; 8] = [
 ];
 
 /// The arguments of `check` and `digest`.
-static CHECK: [Argument; 9] = [
+static REPORT: [Argument; 9] = [
     KEEP_GOING_FLAG,
     Refused,
     MaxRefused,
@@ -261,22 +263,74 @@ fn arg<'a>(alloc: Global, argument: Argument) -> Arg<'a>
     }
 }
 
-/// A command that reads hexadecimal text, too, and any of these profiles.
-fn by_hex<'a>(
+/// A command as clap takes it.
+pub fn command_of<'a>(
     alloc: Global,
     profiles: &'a [&'a str],
-    name: &'a str,
-    about: &'a str,
-    after: &'a str,
+    verb: Verb,
 ) -> Result<Command<'a>, AllocError>
-    ensures { IfOk result (λ c. (app_of c ≡ with_hex profiles.entry name.entry.now)
+    ensures { IfOk result (λ c. (app_of c ≡ command_for profiles.entry verb)
         × ((fields_of c).has_globals ≡ false)) }
 {
-    Command::new(alloc, name)
-        .about(about)
-        .after_help(after)
+    let command = by_hex(alloc, profiles, verb)?;
+    let command = with_arguments(alloc, command, arguments_of(verb))?;
+    match verb {
+        Verb::Canonicalise => Ok(command.override_usage(help::CANONICALISE_USAGE)),
+        _ => Ok(command),
+    }
+}
+
+/// A command that reads hexadecimal text, too, and any of these profiles.
+fn by_hex<'a>(alloc: Global, profiles: &'a [&'a str], verb: Verb) -> Result<Command<'a>, AllocError>
+    ensures { IfOk result (λ c. (app_of c ≡ with_hex profiles.entry (verb_name verb))
+        × ((fields_of c).has_globals ≡ false)) }
+{
+    Command::new(alloc, verb.name())
+        .about(about(verb))
+        .after_help(after_help(verb))
         .arg(flag(alloc, "hex", HEX))?
         .arg(profile(alloc, profiles))
+}
+
+/// What a command does.
+fn about<'a>(verb: Verb) -> &'a str {
+    match verb {
+        Verb::Show => "Writes the messages as text",
+        Verb::Check => "Reports for each message whether it is in normal form",
+        Verb::Digest => "Writes the digest of each message, the same however it is spelled",
+        Verb::Dump => {
+            "Writes each element of the messages as it is spelled, and why one is refused"
+        }
+        Verb::Same => "Reports whether two files hold the same message, however it is spelled",
+        Verb::Canonicalise => {
+            "Writes the normal form (DER) of each message in IN, or in each FILE, to OUT"
+        }
+    }
+}
+
+/// The end of the help of a command.
+fn after_help<'a>(verb: Verb) -> &'a str {
+    match verb {
+        Verb::Show => help::SHOW,
+        Verb::Check => help::CHECK,
+        Verb::Digest => help::DIGEST,
+        Verb::Dump => help::DUMP,
+        Verb::Same => help::SAME,
+        Verb::Canonicalise => help::CANONICALISE,
+    }
+}
+
+/// The arguments of a command besides `--hex` and `--profile`.
+fn arguments_of(verb: Verb) -> &'static [Argument]
+    ensures { map rule_for result.now ≡ rules_of verb }
+{
+    match verb {
+        Verb::Show => SHOW.as_slice(),
+        Verb::Check | Verb::Digest => REPORT.as_slice(),
+        Verb::Dump => DUMP.as_slice(),
+        Verb::Same => SAME.as_slice(),
+        Verb::Canonicalise => CANONICALISE.as_slice(),
+    }
 }
 
 /// The command with these arguments added.
@@ -294,79 +348,6 @@ fn with_arguments<'a>(
         command = command.arg(arg(alloc, *argument))?;
     }
     Ok(command)
-}
-
-/// A command with these arguments, which can name any of these profiles.
-fn command<'a>(
-    alloc: Global,
-    profiles: &'a [&'a str],
-    name: &'a str,
-    about: &'a str,
-    after: &'a str,
-    arguments: &[Argument],
-) -> Result<Command<'a>, AllocError>
-    ensures { IfOk result (λ c. (app_of c ≡ with_rules (with_hex profiles.entry name.entry.now)
-        (map rule_for arguments.now)) × ((fields_of c).has_globals ≡ false)) }
-{
-    let command = by_hex(alloc, profiles, name, about, after)?;
-    with_arguments(alloc, command, arguments)
-}
-
-pub fn show<'a>(alloc: Global, profiles: &'a [&'a str]) -> Result<Command<'a>, AllocError>
-    ensures { IfOk result (λ c. (app_of c ≡ each_json profiles.entry (codes "show"))
-        × ((fields_of c).has_globals ≡ false)) }
-{
-    let about = "Writes the messages as text";
-    command(alloc, profiles, "show", about, help::SHOW, &SHOW)
-}
-
-pub fn check<'a>(alloc: Global, profiles: &'a [&'a str]) -> Result<Command<'a>, AllocError>
-    ensures { IfOk result (λ c. (app_of c ≡ each_line profiles.entry (codes "check"))
-        × ((fields_of c).has_globals ≡ false)) }
-{
-    let about = "Reports for each message whether it is in normal form";
-    command(alloc, profiles, "check", about, help::CHECK, &CHECK)
-}
-
-pub fn digest<'a>(alloc: Global, profiles: &'a [&'a str]) -> Result<Command<'a>, AllocError>
-    ensures { IfOk result (λ c. (app_of c ≡ each_line profiles.entry (codes "digest"))
-        × ((fields_of c).has_globals ≡ false)) }
-{
-    let about = "Writes the digest of each message, the same however it is spelled";
-    command(alloc, profiles, "digest", about, help::DIGEST, &CHECK)
-}
-
-pub fn dump<'a>(alloc: Global, profiles: &'a [&'a str]) -> Result<Command<'a>, AllocError>
-    ensures { IfOk result (λ c. (app_of c ≡ each_dumped profiles.entry (codes "dump"))
-        × ((fields_of c).has_globals ≡ false)) }
-{
-    let about = "Writes each element of the messages as it is spelled, and why one is refused";
-    command(alloc, profiles, "dump", about, help::DUMP, &DUMP)
-}
-
-fn same<'a>(alloc: Global, profiles: &'a [&'a str]) -> Result<Command<'a>, AllocError>
-    ensures { IfOk result (λ c. (app_of c ≡ two_files profiles.entry (codes "same"))
-        × ((fields_of c).has_globals ≡ false)) }
-{
-    let about = "Reports whether two files hold the same message, however it is spelled";
-    command(alloc, profiles, "same", about, help::SAME, &SAME)
-}
-
-pub fn canonicalise<'a>(alloc: Global, profiles: &'a [&'a str]) -> Result<Command<'a>, AllocError>
-    ensures { IfOk result (λ c. (app_of c ≡ into_one profiles.entry (codes "canonicalise"))
-        × ((fields_of c).has_globals ≡ false)) }
-{
-    let about = "Writes the normal form (DER) of each message in IN, or in each FILE, to OUT";
-    let name = "canonicalise";
-    let command = command(
-        alloc,
-        profiles,
-        name,
-        about,
-        help::CANONICALISE,
-        &CANONICALISE,
-    )?;
-    Ok(command.override_usage(help::CANONICALISE_USAGE))
 }
 
 /// A topic of `help`: a command that only has a help text.
@@ -410,26 +391,34 @@ fn with_command<'a>(
     program.subcommand(command?)
 }
 
-/// The program with the commands that print what they make of each file.
-fn with_printing<'a>(
+/// The names of profiles.
+#[derive(Clone, Copy)]
+struct ProfileNames<'a> {
+    names: &'a [&'a str],
+}
+
+/// The program with these commands.
+fn with_commands<'a>(
     alloc: Global,
     program: Command<'a>,
-    profiles: &'a [&'a str],
+    profiles: ProfileNames<'a>,
+    verbs: &[Verb],
 ) -> Result<Command<'a>, AllocError>
-    ensures { IfOk result (λ c. app_of c ≡ with_printing profiles.entry (app_of program.entry)) }
+    ensures { IfOk result (λ c. app_of c
+        ≡ with_commands profiles.entry.names (app_of program.entry) verbs.now) }
 {
-    let program = with_command(program, show(alloc, profiles))?;
-    let program = with_command(program, check(alloc, profiles))?;
-    let program = with_command(program, digest(alloc, profiles))?;
-    with_command(program, dump(alloc, profiles))
+    let mut program = program;
+    for verb in verbs {
+        program = with_command(program, command_of(alloc, profiles.names, *verb))?;
+    }
+    Ok(program)
 }
 
 pub fn program<'a>(alloc: Global, profiles: &'a [&'a str]) -> Result<Command<'a>, AllocError>
     ensures { IfOk result (λ c. app_of c ≡ program_of profiles.entry) }
 {
-    let program = with_printing(alloc, bare_program(alloc)?, profiles)?;
-    let program = with_command(program, same(alloc, profiles))?;
-    let program = with_command(program, canonicalise(alloc, profiles))?;
+    let names = ProfileNames { names: profiles };
+    let program = with_commands(alloc, bare_program(alloc)?, names, &Verb::ALL)?;
     program
         .subcommand(topic(alloc, "causes", topics::CAUSES))?
         .subcommand(topic(alloc, "profile", topics::PROFILE))

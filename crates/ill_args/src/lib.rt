@@ -11,6 +11,8 @@
 
 mod commands;
 mod fault;
+mod files;
+mod flags;
 mod help;
 mod line;
 mod matches;
@@ -19,4 +21,7 @@ mod topics;
 
 pub use fault::LineFault;
 pub use line::order;
-pub use orders::{FileJob, Inputs, Order, Task, Verb};
+pub use orders::{
+    Elements, FileJob, Inputs, KeepGoing, Limit, LineResults, Messages, Order, Reading, Report,
+    Target, Verb, Work,
+};

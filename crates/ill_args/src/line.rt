@@ -1,22 +1,22 @@
 //! The order that the words of a command line give.
-ghost use Rattle.std.specs.Prelude.{◌≡◌, map, IfOk, IfErr, IsTrue, List, [], OnOk, Option, ◌↔◌};
+ghost use Rattle.std.specs.Prelude.{◌≡◌, ◌≢◌, [], map, codes, Some, IfOk, IfErr};
 ghost use Rattle.std.specs.String.{string_bytes};
-ghost use Rattle.clap.specs.Walk.{Row, Text};
-ghost use Rattle.clap.specs.Words.{fault_of, kind_of, subcommand_of};
-ghost use Rattle.clap.specs.declared.error.kind.ErrorKind.{ErrorKind};
+ghost use Rattle.clap.specs.Words.{fault_of, first_of, found_of, rows_of, subcommand_of, subcommand_rows_of};
 ghost use Rattle.ill_args.specs.CommandLine.{program};
-ghost use Rattle.ill_args.specs.Orders.{reads, HasSameWord, IsBoth, IsOrderOf, IsInputFile, LinesAreCounted, LinesAreJson, LinesGoOn, LimitEndsWork, NamesFile, NamesNotOne, NamesNothing, ReadsInputTwice, ReadsOutput, RefusedEndsWork, SharesRefused, WholeIsPrinted};
-ghost use Rattle.ill_args.specs.Refused.{IsFaultOf, IsFaultOfKinds, IsRefusedBy};
-ghost use Rattle.ill_args.specs.code.Consistency.{IsConsistent};
+ghost use Rattle.ill_args.specs.Orders.{verb_of_job, verb_of_report, AreInputs, HasTwo, IsByMessage, IsOrderOf};
+ghost use Rattle.ill_args.specs.Refused.{IsFaultOf, IsRefusedBy};
+ghost use Rattle.ill_args.specs.code.Commands.{HasBoth, HasProfile, IsCommand, IsFault, IsOrder, IsWork};
+ghost use Rattle.ill_args.specs.declared.orders.Verb.{Verb};
 
-use crate::commands::{canonicalise, check, digest, dump, profiles, show};
 use crate::fault::LineFault;
-use crate::help;
-use crate::matches::read;
-use crate::orders::{FileJob, Inputs, Order, Task};
-use clap::error::ErrorKind;
-use clap::{Command, Error};
-use std::alloc::{AllocError, Global};
+use crate::files::{in_and_out, inputs, one_file, reads_output};
+use crate::flags::{check_lines, limit, messages, stops, target};
+use crate::matches::{
+    is_set, matches_of, number_of, profile_of, reading_of, required, value_of, verb_of,
+};
+use crate::orders::{Elements, FileJob, Inputs, LineResults, Order, Report, Verb, Work};
+use clap::ArgMatches;
+use std::alloc::Global;
 
 /// Reads the words of a command line, the program's own name first.
 ///
@@ -28,232 +28,206 @@ use std::alloc::{AllocError, Global};
 /// `--keep-going`, `--summary` or `--json`. Or `--whole` is given with standard output for OUT. Or `--refused` or
 /// `--max-refused` is given without `--keep-going`, or `--refused` with `-` or another of the command's files.
 pub fn order<'a>(alloc: Global, words: &'a [String]) -> Result<Order<'a>, LineFault>
-    // The words have the order's command, profile, flags and files; standard input is not read twice, no file is written that is read by the
-    // same word, and there are files. Lines are those of one file, are no hexadecimal text, have no messages to pass over, are not counted,
-    // and have words. The file of refused messages is no other.
+    // The words have the order's command, and each part of it; what no order can have is a fault of the words.
     ensures order { IfOk result
         (IsOrderOf (subcommand_of program (map string_bytes words.entry.now))) }
-    ensures not_same { IfOk result (λ order. HasSameWord order → ⊥) }
-    ensures not_twice { IfOk result (λ order. ReadsInputTwice order → ⊥) }
-    ensures not_read { IfOk result (λ order. ReadsOutput order → ⊥) }
-    ensures some { IfOk result (λ order. NamesNothing order → ⊥) }
-    ensures not_both { IfOk result (λ order. IsBoth order → ⊥) }
-    ensures not_on { IfOk result (λ order. LinesGoOn order → ⊥) }
-    ensures not_counted { IfOk result (λ order. LinesAreCounted order → ⊥) }
-    ensures in_words { IfOk result (λ order. LinesAreJson order → ⊥) }
-    ensures one { IfOk result (λ order. NamesNotOne order → ⊥) }
-    ensures replaced { IfOk result (λ order. WholeIsPrinted order → ⊥) }
-    ensures goes_on { IfOk result (λ order. RefusedEndsWork order → ⊥) }
-    ensures limited { IfOk result (λ order. LimitEndsWork order → ⊥) }
-    ensures own { IfOk result (λ order. SharesRefused order → ⊥) }
     ensures fault { IfErr result
         (IsFaultOf (subcommand_of program (map string_bytes words.entry.now))) }
     // What clap finds wrong is refused, and nothing else, unless memory runs out.
     ensures faults { IsRefusedBy (fault_of program (map string_bytes words.entry.now)) result }
 {
-    let order = read(alloc, words)?;
-    check_order(alloc, &order)?;
-    Ok(order)
+    match matches_of(alloc, words) {
+        Ok(matches) => order_of(alloc, &matches),
+        Err(error) => Err(LineFault::Line(error)),
+    }
 }
 
-/// Checks that an order doesn't contradict itself.
-///
-/// # Errors
-///
-/// The first contradiction, or a file is missing.
-fn check_order(alloc: Global, order: &Order<'_>) -> Result<(), LineFault>
-    ensures consistent { OnOk result (IsConsistent order.now) }
-    ensures fault { IfErr result (λ fault. (found : Option (Text × List Row))
-        → IsOrderOf found order.now → IsFaultOf found fault) }
-    ensures faults { IfErr result (IsFaultOfKinds []) }
+/// The order of the command that was found.
+fn order_of<'a>(alloc: Global, matches: &ArgMatches<'a>) -> Result<Order<'a>, LineFault>
+    requires { IsCommand (subcommand_rows_of matches.now) }
+    ensures order { IfOk result (IsOrderOf (subcommand_rows_of matches.now)) }
+    ensures fault { IfErr result (IsFaultOf (subcommand_rows_of matches.now)) }
+    ensures faults { IsRefusedBy [] result }
 {
-    if has_same_word(order) {
+    let Some((name, words)) = matches.subcommand() else {
+        unreachable!()
+    };
+    order_by(alloc, verb_of(name), words)
+}
+
+/// The order of a command with these words.
+fn order_by<'a>(alloc: Global, verb: Verb, words: &ArgMatches<'a>) -> Result<Order<'a>, LineFault>
+    requires profile { HasProfile (rows_of (found_of words.now)) }
+    requires both { verb ≡ Verb.Same → HasBoth (rows_of (found_of words.now)) }
+    ensures order { IfOk result (IsOrder verb (rows_of (found_of words.now))) }
+    ensures fault { IfErr result (IsFault verb (rows_of (found_of words.now))) }
+{
+    match verb {
+        Verb::Show => Ok(Order::Each(show(alloc, words)?)),
+        Verb::Check => Ok(Order::Each(report(alloc, Report::Check, words)?)),
+        Verb::Digest => Ok(Order::Each(report(alloc, Report::Digest, words)?)),
+        Verb::Dump => Ok(Order::Each(dump(alloc, words)?)),
+        Verb::Same => same(words),
+        Verb::Canonicalise => Ok(Order::Each(canonicalise(alloc, words)?)),
+    }
+}
+
+fn show<'a>(alloc: Global, words: &ArgMatches<'a>) -> Result<Work<'a>, LineFault>
+    requires { HasProfile (rows_of (found_of words.now)) }
+    ensures order { IfOk result (IsWork Verb.Show (rows_of (found_of words.now))) }
+    ensures fault { IfErr result (IsFault Verb.Show (rows_of (found_of words.now))) }
+{
+    let inputs = inputs(alloc, Verb::Show, words)?;
+    print(FileJob::Show, words, inputs)
+}
+
+/// The work of `check` or `digest`.
+fn report<'a>(alloc: Global, report: Report, words: &ArgMatches<'a>) -> Result<Work<'a>, LineFault>
+    requires { HasProfile (rows_of (found_of words.now)) }
+    ensures order { IfOk result (IsWork (verb_of_report report) (rows_of (found_of words.now))) }
+    ensures fault { IfErr result (IsFault (verb_of_report report) (rows_of (found_of words.now))) }
+{
+    let inputs = inputs(alloc, report.verb(), words)?;
+    if !is_set(words, "lines") {
+        return print(FileJob::Report(report), words, inputs);
+    }
+    check_lines(words)?;
+    let input = one_file(words)?;
+    stops(words)?;
+    Ok(Work::Lines {
+        profile: profile_of(words),
+        input,
+        results: LineResults::Report(report),
+    })
+}
+
+/// The work of a job that is printed.
+fn print<'a>(
+    job: FileJob,
+    words: &ArgMatches<'a>,
+    inputs: Inputs<'a>,
+) -> Result<Work<'a>, LineFault>
+    requires profile { HasProfile (rows_of (found_of words.now)) }
+    requires by_message { IsByMessage (rows_of (found_of words.now)) job }
+    requires inputs { AreInputs (rows_of (found_of words.now)) inputs }
+    ensures order { IfOk result (IsWork (verb_of_job job) (rows_of (found_of words.now))) }
+    ensures fault { IfErr result (IsFault (verb_of_job job) (rows_of (found_of words.now))) }
+{
+    Ok(Work::Print {
+        job,
+        json: is_set(words, "json"),
+        with_filename: is_set(words, "with-filename"),
+        messages: messages(words)?,
+        inputs,
+    })
+}
+
+fn dump<'a>(alloc: Global, words: &ArgMatches<'a>) -> Result<Work<'a>, LineFault>
+    requires { HasProfile (rows_of (found_of words.now)) }
+    ensures order { IfOk result (IsWork Verb.Dump (rows_of (found_of words.now))) }
+    ensures fault { IfErr result (IsFault Verb.Dump (rows_of (found_of words.now))) }
+{
+    let inputs = inputs(alloc, Verb::Dump, words)?;
+    Ok(Work::Dump {
+        elements: Elements {
+            reading: reading_of(words),
+            keep_going: limit(words)?,
+            message: number_of(words, "message"),
+            html: is_set(words, "html"),
+        },
+        with_filename: is_set(words, "with-filename"),
+        inputs,
+    })
+}
+
+fn same<'a>(words: &ArgMatches<'a>) -> Result<Order<'a>, LineFault>
+    requires profile { HasProfile (rows_of (found_of words.now)) }
+    requires both { HasBoth (rows_of (found_of words.now)) }
+    ensures order { IfOk result (IsOrder Verb.Same (rows_of (found_of words.now))) }
+    ensures fault { IfErr result (IsFault Verb.Same (rows_of (found_of words.now))) }
+{
+    let first = required(words, "first");
+    let second = required(words, "second");
+    if first == "-" && second == "-" {
         return Err(LineFault::SameWord);
     }
-    if reads_input_twice(order) {
-        return Err(LineFault::InputTwice);
+    Ok(Order::Compare {
+        reading: reading_of(words),
+        first,
+        second,
+    })
+}
+
+fn canonicalise<'a>(alloc: Global, words: &ArgMatches<'a>) -> Result<Work<'a>, LineFault>
+    requires { HasProfile (rows_of (found_of words.now)) }
+    ensures order { IfOk result (IsWork Verb.Canonicalise (rows_of (found_of words.now))) }
+    ensures fault { IfErr result (IsFault Verb.Canonicalise (rows_of (found_of words.now))) }
+{
+    match value_of(words, "output") {
+        Some(output) => collect(alloc, words, output),
+        None => {
+            let (input, output) = in_and_out(alloc, words)?;
+            write(words, input, output)
+        }
     }
-    if reads_output(order) {
+}
+
+/// The work of `canonicalise` with IN and OUT.
+fn write<'a>(words: &ArgMatches<'a>, input: &'a str, output: &'a str) -> Result<Work<'a>, LineFault>
+    requires profile { HasProfile (rows_of (found_of words.now)) }
+    requires two { HasTwo (rows_of (found_of words.now)) input.now output.now }
+    requires differ { input.now ≢ codes "-" → output.now ≢ input.now }
+    ensures order { IfOk result (IsWork Verb.Canonicalise (rows_of (found_of words.now))) }
+    ensures fault { IfErr result (IsFault Verb.Canonicalise (rows_of (found_of words.now))) }
+{
+    if !is_set(words, "lines") {
+        let output = target(words, output)?;
+        return Ok(Work::Write {
+            messages: messages(words)?,
+            input,
+            output,
+        });
+    }
+    check_lines(words)?;
+    let output = target(words, output)?;
+    stops(words)?;
+    Ok(Work::Lines {
+        profile: profile_of(words),
+        input,
+        results: LineResults::Write(output),
+    })
+}
+
+/// The work of `canonicalise` with `-o`.
+fn collect<'a>(
+    alloc: Global,
+    words: &ArgMatches<'a>,
+    output: &'a str,
+) -> Result<Work<'a>, LineFault>
+    requires profile { HasProfile (rows_of (found_of words.now)) }
+    requires output { first_of (codes "output") (rows_of (found_of words.now)) ≡ Some output.now }
+    ensures order { IfOk result (IsWork Verb.Canonicalise (rows_of (found_of words.now))) }
+    ensures fault { IfErr result (IsFault Verb.Canonicalise (rows_of (found_of words.now))) }
+{
+    let inputs = inputs(alloc, Verb::Canonicalise, words)?;
+    if reads_output(words) {
         return Err(LineFault::OutputIsRead);
     }
-    if names_nothing(order) {
-        return Err(LineFault::Missing(no_file(alloc, &order.task)?));
+    if !is_set(words, "lines") {
+        let output = target(words, output)?;
+        return Ok(Work::Collect {
+            messages: messages(words)?,
+            inputs,
+            output,
+        });
     }
-    if order.lines && order.hex {
-        return Err(LineFault::LinesAndHex);
-    }
-    if order.lines && order.keep_going {
-        return Err(LineFault::LinesAndKeepGoing);
-    }
-    if order.lines && order.summary {
-        return Err(LineFault::LinesAndSummary);
-    }
-    if order.lines && order.json {
-        return Err(LineFault::LinesAndJson);
-    }
-    if names_not_one(order) {
-        return Err(LineFault::NotOneFile);
-    }
-    if whole_is_printed(order) {
-        return Err(LineFault::WholeNeedsFile);
-    }
-    if order.refused.is_some() && !order.keep_going {
-        return Err(LineFault::RefusedNeedsKeepGoing);
-    }
-    if order.max_refused.is_some() && !order.keep_going {
-        return Err(LineFault::MaxRefusedNeedsKeepGoing);
-    }
-    if shares_refused(order) {
-        return Err(LineFault::RefusedIsShared);
-    }
-    Ok(())
-}
-
-/// Tells whether `same` has standard input twice, or IN and OUT of `canonicalise` are the same word other than `-`.
-fn has_same_word(order: &Order<'_>) -> bool
-    ensures { IsTrue result ↔ HasSameWord order.now }
-{
-    match &order.task {
-        Task::Canonicalise { input, output } => *input != "-" && *output == *input,
-        Task::Compare { first, second } => *first == "-" && *second == "-",
-        Task::Each { .. } | Task::Collect { .. } => false,
-    }
-}
-
-/// Tells whether standard input is among the files twice, or is their list, too.
-fn reads_input_twice(order: &Order<'_>) -> bool
-    ensures { IsTrue result ↔ ReadsInputTwice order.now }
-{
-    match &order.task {
-        Task::Each { inputs, .. } | Task::Collect { inputs, .. } => reads(inputs, "-") > 1,
-        Task::Canonicalise { .. } | Task::Compare { .. } => false,
-    }
-}
-
-/// Tells whether the word of `-o` is among the files that are read, or is their list.
-fn reads_output(order: &Order<'_>) -> bool
-    ensures { IsTrue result ↔ ReadsOutput order.now }
-{
-    match &order.task {
-        Task::Collect { inputs, output } => is_read(inputs, output),
-        Task::Each { .. } | Task::Canonicalise { .. } | Task::Compare { .. } => false,
-    }
-}
-
-/// Tells whether a file with this name is read, which isn't standard output.
-fn is_read(inputs: &Inputs<'_>, output: &str) -> bool
-    ensures { IsTrue result ↔ IsInputFile inputs.now output.now }
-{
-    output != "-" && reads(inputs, output) > 0
-}
-
-/// The number of times that a file with this name is read.
-fn reads(inputs: &Inputs<'_>, name: &str) -> usize
-    ensures { result ≡ reads inputs.now name.now }
-{
-    let mut count = 0;
-    for word in &inputs.files {
-        if *word == name {
-            count += 1;
-        }
-    }
-    if inputs.list == Some(name) {
-        count += 1;
-    }
-    count
-}
-
-/// Tells whether there is neither a file nor a list of files.
-fn names_nothing(order: &Order<'_>) -> bool
-    ensures { IsTrue result ↔ NamesNothing order.now }
-{
-    match &order.task {
-        Task::Each { inputs, .. } | Task::Collect { inputs, .. } => {
-            inputs.files.is_empty() && inputs.list.is_none()
-        }
-        Task::Canonicalise { .. } | Task::Compare { .. } => false,
-    }
-}
-
-/// Tells whether the lines are to be read of no file, or of several.
-fn names_not_one(order: &Order<'_>) -> bool
-    ensures { IsTrue result ↔ NamesNotOne order.now }
-{
-    if !order.lines {
-        return false;
-    }
-    match &order.task {
-        Task::Each { inputs, .. } | Task::Collect { inputs, .. } => {
-            inputs.files.len() != 1 || inputs.list.is_some()
-        }
-        Task::Canonicalise { .. } | Task::Compare { .. } => false,
-    }
-}
-
-/// Tells whether standard output is to be replaced as a whole.
-fn whole_is_printed(order: &Order<'_>) -> bool
-    ensures { IsTrue result ↔ WholeIsPrinted order.now }
-{
-    if !order.whole {
-        return false;
-    }
-    match &order.task {
-        Task::Canonicalise { output, .. } | Task::Collect { output, .. } => *output == "-",
-        Task::Each { .. } | Task::Compare { .. } => false,
-    }
-}
-
-/// Tells whether the file of refused messages is standard output or another file of the command.
-fn shares_refused(order: &Order<'_>) -> bool
-    ensures { IsTrue result ↔ SharesRefused order.now }
-{
-    match order.refused {
-        Some(word) => word == "-" || names_file(&order.task, word),
-        None => false,
-    }
-}
-
-/// Tells whether a task reads or writes the file of this word.
-fn names_file(task: &Task<'_>, word: &str) -> bool
-    ensures { IsTrue result ↔ NamesFile task.now word.now }
-{
-    match task {
-        Task::Each { inputs, .. } => reads(inputs, word) > 0,
-        Task::Collect { inputs, output } => reads(inputs, word) > 0 || *output == word,
-        Task::Canonicalise { input, output } => *input == word || *output == word,
-        Task::Compare { .. } => false,
-    }
-}
-
-/// The error of a job that has no file, in clap's words.
-fn no_file(alloc: Global, task: &Task<'_>) -> Result<Error, AllocError>
-    ensures { IfOk result (λ e. kind_of e ≡ ErrorKind.MissingRequiredArgument) }
-{
-    command_of(alloc, task)?.error(ErrorKind::MissingRequiredArgument, help::NO_FILE)
-}
-
-/// The command of a job with any number of files.
-fn command_of<'a>(alloc: Global, task: &Task<'_>) -> Result<Command<'a>, AllocError> {
-    let names = profiles();
-    match task {
-        Task::Each {
-            job: FileJob::Show,
-            ..
-        } => show(alloc, names)?.bin_name("illcanon show"),
-        Task::Each {
-            job: FileJob::Check,
-            ..
-        } => check(alloc, names)?.bin_name("illcanon check"),
-        Task::Each {
-            job: FileJob::Digest,
-            ..
-        } => digest(alloc, names)?.bin_name("illcanon digest"),
-        Task::Each {
-            job: FileJob::Dump,
-            ..
-        } => dump(alloc, names)?.bin_name("illcanon dump"),
-        Task::Canonicalise { .. } | Task::Collect { .. } | Task::Compare { .. } => {
-            canonicalise(alloc, names)
-        }
-    }
+    check_lines(words)?;
+    let input = one_file(words)?;
+    let output = target(words, output)?;
+    stops(words)?;
+    Ok(Work::Lines {
+        profile: profile_of(words),
+        input,
+        results: LineResults::Collect(output),
+    })
 }

@@ -1,5 +1,5 @@
--- What an order does: which job, by which flags, with which files.
-use Rattle.std.specs.Prelude.{ℕ, Bool, true, false, List, ◌||◌, if◌then◌else◌, nat_lt}
+-- What an order does: which job, by which flags.
+use Rattle.std.specs.Prelude.{ℕ, Bool, true, false, List, ◌||◌, if◌then◌else◌, is_some, nat_lt}
 use Rattle.std.specs.Borrow.{Bor}
 use Rattle.ill_commands.specs.declared.job.Job.{Job}
 use Rattle.ill_commands.specs.declared.job.JobOptions.{JobOptions}
@@ -8,63 +8,48 @@ use Rattle.ill_walk.specs.declared.markup.DumpFormat.TheVariants.{Html, Text}
 use Rattle.ill_dump.specs.declared.run.DumpOptions.{DumpOptions}
 use Rattle.ill_commands.specs.Lines.{line_options}
 use Rattle.ill_commands.specs.declared.lines.job.LineJob.{LineJob}
+use Rattle.ill_args.specs.declared.orders.Elements.{Elements}
 use Rattle.ill_args.specs.declared.orders.FileJob.{FileJob}
-use Rattle.ill_args.specs.declared.orders.Order.{Order}
-use Rattle.ill_args.specs.declared.orders.Task.{Task}
+use Rattle.ill_args.specs.declared.orders.LineResults.{LineResults}
+use Rattle.ill_args.specs.declared.orders.Messages.{Messages}
+use Rattle.ill_args.specs.declared.orders.Reading.{Reading}
+use Rattle.ill_args.specs.declared.orders.Report.{Report}
+use Rattle.ill_args.specs.declared.orders.Work.{Work}
 use Rattle.ill_cli.specs.declared.plan.Action.{Action}
-use Rattle.ill_cli.specs.declared.plan.ElementOptions.{ElementOptions}
 use Rattle.ill_cli.specs.declared.plan.InputAction.{InputAction}
-use Rattle.ill_cli.specs.declared.plan.Plan.{Plan}
 use Rattle.ill_cli.specs.declared.plan.ReadOptions.{ReadOptions}
 
--- `--profile`, `--hex`, `--keep-going` and `--summary` say how messages are read, and `-H` that lines name their input
-abbrev pub read_options_of : Order → ReadOptions
-read_options_of order = record {
-  profile = order.profile;
-  hex = order.hex;
-  keep_going = order.keep_going;
-  compares = order.summary;
-  names_inputs = order.with_filename;
+-- `--profile` and `--hex` say how messages are read
+abbrev pub options_of_reading : Reading → ReadOptions
+options_of_reading reading = record { profile = reading.profile; hex = reading.hex; keep_going = false; compares = false; names_inputs = false }
+
+-- and so do `--keep-going` and `--summary`; `-H` says that lines name their input
+abbrev pub read_options_of : Messages → Bool → ReadOptions
+read_options_of messages with_filename = record (options_of_reading messages.reading) {
+  keep_going = is_some messages.keep_going;
+  compares = messages.summary;
+  names_inputs = with_filename;
 }
 
--- `--message` says which message is written alone, and `--html` that there is a document
-abbrev pub element_options_of : Order → ElementOptions
-element_options_of order = record { only = order.message; html = order.html }
+-- what is printed of a message, with `--json` and without
+abbrev pub job_of : FileJob → Bool → Job
+job_of FileJob.Show json = if json then Job.Json else Job.Show
+job_of (FileJob.Report Report.Check) json = if json then Job.CheckJson else Job.Check
+job_of (FileJob.Report Report.Digest) json = if json then Job.DigestJson else Job.Digest
 
--- what `show` writes of a message, with `--json` and without
-abbrev pub shown_as : Bool → Job
-shown_as json = if json then Job.Json else Job.Show
+-- the result of a line
+abbrev pub line_job_of : LineResults → LineJob
+line_job_of (LineResults.Report Report.Check) = LineJob.Check
+line_job_of (LineResults.Report Report.Digest) = LineJob.Digest
+line_job_of _ = LineJob.Canonicalise
 
--- what `check` and `digest` write of a message, with `--json` and without
-abbrev pub checked_as : Bool → Job
-checked_as json = if json then Job.CheckJson else Job.Check
-
-abbrev pub digested_as : Bool → Job
-digested_as json = if json then Job.DigestJson else Job.Digest
-
--- with `--lines` a result for each line, and else a job with each message
-abbrev pub by_line : Bool → LineJob → Job → ReadOptions → Action
-by_line lines line message reading = if lines then Action.Lines (line_options reading.profile line) else Action.Messages message reading
-
--- what a command does with each of its inputs, with `--lines`, `--json`, `--message` and `--html` or without
-abbrev pub action_of : FileJob → Bool → Bool → ElementOptions → ReadOptions → Action
-action_of FileJob.Show lines json elements reading = Action.Messages (shown_as json) reading
-action_of FileJob.Check lines json elements reading = by_line lines LineJob.Check (checked_as json) reading
-action_of FileJob.Digest lines json elements reading = by_line lines LineJob.Digest (digested_as json) reading
-action_of FileJob.Dump lines json elements reading = Action.Elements reading elements
-
--- what `canonicalise` does with each of its inputs
-abbrev pub canonical : Order → Action
-canonical order = by_line order.lines LineJob.Canonicalise Job.Canonicalise (read_options_of order)
-
--- what an order does with its files: `canonicalise` writes to OUT, `same` compares, and all else is printed
-abbrev pub plan_of : Order → Plan
-plan_of order = elim order.task as (λ _. Plan) [
-  | Task.Each job inputs ↦ Plan.Print (action_of job order.lines order.json (element_options_of order) (read_options_of order)) inputs order.refused
-  | Task.Canonicalise input output ↦ Plan.Write (canonical order) input output order.whole order.refused
-  | Task.Collect inputs output ↦ Plan.Collect (canonical order) inputs output order.whole order.refused
-  | Task.Compare first second ↦ Plan.Compare (read_options_of order) first second
-]
+-- what an order does with each of its inputs
+abbrev pub action_of : Work → Action
+action_of (Work.Print job json with_filename messages inputs) = Action.Messages (job_of job json) (read_options_of messages with_filename)
+action_of (Work.Dump elements with_filename inputs) = Action.Elements elements with_filename
+action_of (Work.Write messages input output) = Action.Messages Job.Canonicalise (read_options_of messages false)
+action_of (Work.Collect messages inputs output) = Action.Messages Job.Canonicalise (read_options_of messages false)
+action_of (Work.Lines profile input results) = Action.Lines (line_options profile (line_job_of results))
 
 -- the results of messages are lines of JSON
 abbrev pub is_json_result : Job → Bool
@@ -72,19 +57,15 @@ is_json_result Job.CheckJson = true
 is_json_result Job.DigestJson = true
 is_json_result _ = false
 
-abbrev pub has_json_results : Plan → Bool
-has_json_results (Plan.Print (Action.Messages job reading) inputs refused) = is_json_result job
-has_json_results _ = false
-
 -- lines name their input, even if there is one
 abbrev pub names_inputs : Action → Bool
 names_inputs (Action.Messages job reading) = reading.names_inputs
-names_inputs (Action.Elements reading elements) = reading.names_inputs || elements.html
+names_inputs (Action.Elements elements with_filename) = with_filename || elements.html
 names_inputs (Action.Lines options) = false
 
 -- what is written of all inputs is one HTML document
 abbrev pub is_document : Action → Bool
-is_document (Action.Elements reading elements) = elements.html
+is_document (Action.Elements elements with_filename) = elements.html
 is_document _ = false
 
 -- the work of a job on the input of this name, which its lines have where it is one of several, or where that is asked for
@@ -101,14 +82,14 @@ options_of job reading name count = record {
 abbrev pub format_if : Bool → DumpFormat
 format_if html = if html then Html else Text
 
--- the same for a dump
-abbrev pub dump_of : ReadOptions → ElementOptions → Bor (List ℕ) → ℕ → DumpOptions
-dump_of reading elements name count = record {
-  profile = reading.profile;
-  hex = reading.hex;
+-- the same for a dump; `--message` says which message is written alone, and `--html` that there is a document
+abbrev pub dump_of : Elements → Bool → Bor (List ℕ) → ℕ → DumpOptions
+dump_of elements with_filename name count = record {
+  profile = elements.reading.profile;
+  hex = elements.reading.hex;
   name = name;
-  names_input = (reading.names_inputs || elements.html) || nat_lt 1 count;
-  only = elements.only;
+  names_input = (with_filename || elements.html) || nat_lt 1 count;
+  only = elements.message;
   format = format_if elements.html;
 }
 
@@ -116,6 +97,6 @@ dump_of reading elements name count = record {
 abbrev pub input_action_of : Action → Bor (List ℕ) → ℕ → InputAction
 input_action_of (Action.Messages job reading) name count =
     if reading.keep_going then InputAction.AcceptedMessages (options_of job reading name count) else InputAction.Messages (options_of job reading name count)
-input_action_of (Action.Elements reading elements) name count =
-    if reading.keep_going then InputAction.AllElements (dump_of reading elements name count) else InputAction.Elements (dump_of reading elements name count)
+input_action_of (Action.Elements elements with_filename) name count =
+    if is_some elements.keep_going then InputAction.AllElements (dump_of elements with_filename name count) else InputAction.Elements (dump_of elements with_filename name count)
 input_action_of (Action.Lines work) name count = InputAction.Lines work

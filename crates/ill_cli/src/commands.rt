@@ -1,7 +1,7 @@
 //! The commands: what is opened, and what is done with it.
 use crate::compare::compare;
-use crate::plan::Plan;
-use ill_args::{Order, order};
+use crate::plan::{Action, ReadOptions};
+use ill_args::{Inputs, LineResults, Order, Work, order};
 use ill_batch::{JsonSummary, Tally, collect, end, print_each, write_one};
 use ill_files::{
     Host, ProgramError, ProgressLine, print_error, printable_error, status_of, words_of,
@@ -38,16 +38,27 @@ pub fn run_order<R: Print + Eprint + Input + Files + AllocGlobal + Host>(
     rt: &R,
     order: Order<'_>,
 ) -> u8 {
-    let is_counted = order.summary;
+    match order {
+        Order::Each(work) => run_work(rt, work),
+        Order::Compare {
+            reading,
+            first,
+            second,
+        } => end(rt, &compare(rt, ReadOptions::new(reading), first, second)),
+    }
+}
+
+/// Does the work on each input, prints the line of each error and that of the summary, and returns the exit status.
+fn run_work<R: Print + Eprint + Input + Files + AllocGlobal + Host>(rt: &R, work: Work<'_>) -> u8 {
+    let is_counted = work.is_counted();
     let progress = if is_counted {
         ProgressLine::begin(rt)
     } else {
         ProgressLine::none()
     };
-    let mut tally = Tally::new(is_counted, order.max_refused, &progress);
-    let plan = Plan::new(order);
-    let is_json = plan.has_json_results();
-    let status = run_plan(rt, plan, &mut tally);
+    let mut tally = Tally::new(is_counted, work.max_refused(), &progress);
+    let is_json = work.has_json_reports();
+    let status = run_inputs(rt, work, &mut tally);
     if !is_counted {
         return status;
     }
@@ -69,36 +80,82 @@ fn print_json<R: Print + Eprint>(rt: &R, summary: JsonSummary, status: u8) -> u8
     }
 }
 
-/// Does what a plan says, prints the line of each error, and returns the exit status.
-fn run_plan<R: Print + Eprint + Input + Files + AllocGlobal + Host>(
+/// Does the work on each input, prints the line of each error, and returns the exit status.
+fn run_inputs<R: Print + Eprint + Input + Files + AllocGlobal + Host>(
     rt: &R,
-    plan: Plan<'_>,
+    work: Work<'_>,
     tally: &mut Tally<'_>,
 ) -> u8 {
-    match plan {
-        Plan::Print {
-            action,
+    let action = Action::new(&work);
+    match work {
+        Work::Print {
+            messages,
             inputs,
-            refused,
-        } => print_each(rt, action, &inputs, refused, tally),
-        Plan::Write {
-            action,
+            ..
+        } => print_each(rt, action, &inputs, messages.refused(), tally),
+        Work::Dump { inputs, .. } => print_each(rt, action, &inputs, None, tally),
+        Work::Write {
+            messages,
             input,
             output,
-            whole,
-            refused,
-        } => write_one(rt, action, input, output, whole, refused, tally),
-        Plan::Collect {
+        } => write_one(
+            rt,
             action,
+            input,
+            output.name(),
+            output.is_whole(),
+            messages.refused(),
+            tally,
+        ),
+        Work::Collect {
+            messages,
             inputs,
             output,
-            whole,
-            refused,
-        } => collect(rt, action, &inputs, output, whole, refused, tally),
-        Plan::Compare {
-            reading,
-            first,
-            second,
-        } => end(rt, &compare(rt, reading, first, second)),
+        } => collect(
+            rt,
+            action,
+            &inputs,
+            output.name(),
+            output.is_whole(),
+            messages.refused(),
+            tally,
+        ),
+        Work::Lines { input, results, .. } => run_lines(rt, action, input, results, tally),
+    }
+}
+
+/// Writes the result of each line of an input, prints the line of each error, and returns the exit status.
+fn run_lines<R: Print + Eprint + Input + Files + AllocGlobal + Host>(
+    rt: &R,
+    action: Action,
+    input: &str,
+    results: LineResults<'_>,
+    tally: &mut Tally<'_>,
+) -> u8 {
+    let Ok(inputs) = Inputs::one(rt.alloc(), input) else {
+        return end(rt, &Err(ProgramError::out_of_memory()));
+    };
+    match results {
+        LineResults::Report(_) => print_each(rt, action, &inputs, None, tally),
+        LineResults::Write(output) => {
+            write_one(
+                rt,
+                action,
+                input,
+                output.name(),
+                output.is_whole(),
+                None,
+                tally,
+            )
+        }
+        LineResults::Collect(output) => collect(
+            rt,
+            action,
+            &inputs,
+            output.name(),
+            output.is_whole(),
+            None,
+            tally,
+        ),
     }
 }

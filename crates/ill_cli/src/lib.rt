@@ -18,4 +18,4 @@ mod results;
 
 pub use commands::{run_order, run_program};
 pub use ill_batch::{JsonSummary, LeftAt, ReportLine, Summary};
-pub use plan::{Action, InputAction, Plan, ReadOptions};
+pub use plan::{Action, InputAction, ReadOptions};

@@ -1,8 +1,8 @@
-//! Plans of orders: a job, its options and its files.
+//! Actions of orders: what is done with each input, by which flags.
 ghost use Rattle.std.specs.Prelude.{◌≡◌};
-ghost use Rattle.ill_cli.specs.Plans.{action_of, by_line, format_if, has_json_results, input_action_of, is_document, names_inputs, plan_of};
+ghost use Rattle.ill_cli.specs.Plans.{action_of, format_if, input_action_of, is_document, job_of, line_job_of, names_inputs, read_options_of};
 
-use ill_args::{FileJob, Inputs, Order, Task};
+use ill_args::{Elements, FileJob, LineResults, Messages, Reading, Report, Work};
 use ill_commands::{Job, JobOptions, LineJob, LineOptions};
 use ill_dump::{DumpFormat, DumpOptions};
 use ill_schema::Profile;
@@ -22,173 +22,66 @@ pub struct ReadOptions {
     pub names_inputs: bool,
 }
 
-/// The options of writing the elements of messages.
-#[derive(Clone, Copy, PartialEq, Eq)]
-pub struct ElementOptions {
-    /// The number of the one message that is written, from 1; None where each is.
-    pub only: Option<u32>,
-    /// True if they are written as an HTML document.
-    pub html: bool,
-}
-
 /// The action of a command on each of its inputs.
 #[derive(Clone, Copy, PartialEq, Eq)]
 pub enum Action {
     /// A job with one message after another.
     Messages(Job, ReadOptions),
     /// The elements of one message after another, as they are spelled.
-    Elements(ReadOptions, ElementOptions),
+    Elements {
+        elements: Elements,
+        /// True if lines name their input, even if there is one input.
+        names_inputs: bool,
+    },
     /// A result for each line.
     Lines(LineOptions),
 }
 
-/// The plan of an order: its files, and the action on them. The word `-` is standard input, or standard output for an output.
-#[derive(Drop)]
-pub enum Plan<'a> {
-    /// Prints the output for each input, in turn.
-    Print {
-        action: Action,
-        inputs: Inputs<'a>,
-        /// The file that gets the octets of refused messages.
-        refused: Option<&'a str>,
-    },
-    /// Writes the output for one input to a file.
-    Write {
-        action: Action,
-        input: &'a str,
-        output: &'a str,
-        /// True if the output is replaced only if every message was good.
-        whole: bool,
-        /// The file that gets the octets of refused messages.
-        refused: Option<&'a str>,
-    },
-    /// Writes the output for each input, in turn, to one file.
-    Collect {
-        action: Action,
-        inputs: Inputs<'a>,
-        output: &'a str,
-        /// True if the output is replaced only if every message of every input was good.
-        whole: bool,
-        /// The file that gets the octets of refused messages.
-        refused: Option<&'a str>,
-    },
-    /// Prints whether two inputs hold the same message.
-    Compare {
-        /// The options of reading both.
-        reading: ReadOptions,
-        first: &'a str,
-        second: &'a str,
-    },
-}
-
-impl<'a> Plan<'a> {
-    /// The plan of an order. Its command gives the job, and its flags say how inputs are read; a flag that the command doesn't have
-    /// changes nothing.
+impl Action {
+    /// The action that an order asks for.
     ///
     /// ```
-    /// let plan = Plan::new(order(alloc, &words)?);
+    /// // the work of an order, `Order::Each(work)`
+    /// let action = Action::new(&work);
     /// ```
-    pub fn new(order: Order<'a>) -> Plan<'a>
-        ensures { result ≡ plan_of order.entry }
+    pub fn new(work: &Work<'_>) -> Action
+        ensures { result ≡ action_of work.now }
     {
-        let Order {
-            profile,
-            hex,
-            lines,
-            keep_going,
-            refused,
-            max_refused: _,
-            json,
-            summary,
-            with_filename,
-            whole,
-            message,
-            html,
-            task,
-        } = order;
-        let reading = ReadOptions {
-            profile,
-            hex,
-            keep_going,
-            compares: summary,
-            names_inputs: with_filename,
-        };
-        let elements = ElementOptions {
-            only: message,
-            html,
-        };
-        let canonical = by_line(lines, LineJob::Canonicalise, Job::Canonicalise, reading);
-        match task {
-            Task::Each { job, inputs } => Plan::Print {
-                action: action_of(job, lines, json, elements, reading),
-                inputs,
-                refused,
-            },
-            Task::Canonicalise { input, output } => Plan::Write {
-                action: canonical,
-                input,
-                output,
-                whole,
-                refused,
-            },
-            Task::Collect { inputs, output } => Plan::Collect {
-                action: canonical,
-                inputs,
-                output,
-                whole,
-                refused,
-            },
-            Task::Compare { first, second } => Plan::Compare {
-                reading,
-                first,
-                second,
-            },
-        }
-    }
-}
-
-/// The action of a command on each of its inputs.
-fn action_of(
-    job: FileJob,
-    lines: bool,
-    json: bool,
-    elements: ElementOptions,
-    reading: ReadOptions,
-) -> Action
-    ensures { result ≡ action_of job lines json elements reading }
-{
-    match job {
-        FileJob::Show if json => Action::Messages(Job::Json, reading),
-        FileJob::Show => Action::Messages(Job::Show, reading),
-        FileJob::Check if json => by_line(lines, LineJob::Check, Job::CheckJson, reading),
-        FileJob::Check => by_line(lines, LineJob::Check, Job::Check, reading),
-        FileJob::Digest if json => by_line(lines, LineJob::Digest, Job::DigestJson, reading),
-        FileJob::Digest => by_line(lines, LineJob::Digest, Job::Digest, reading),
-        FileJob::Dump => Action::Elements(reading, elements),
-    }
-}
-
-impl Plan<'_> {
-    /// Tells whether results are lines of JSON, and so the numbers at the end.
-    pub fn has_json_results(&self) -> bool
-        ensures { result ≡ has_json_results self.now }
-    {
-        match self {
-            Plan::Print {
-                action: Action::Messages(job, _),
+        match work {
+            Work::Print {
+                job,
+                json,
+                with_filename,
+                messages,
                 ..
-            } => matches!(*job, Job::CheckJson | Job::DigestJson),
-            _ => false,
+            } => Action::Messages(job_of(*job, *json), read_options(*messages, *with_filename)),
+            Work::Dump {
+                elements,
+                with_filename,
+                ..
+            } => Action::Elements {
+                elements: *elements,
+                names_inputs: *with_filename,
+            },
+            Work::Write { messages, .. } | Work::Collect { messages, .. } => {
+                Action::Messages(Job::Canonicalise, read_options(*messages, false))
+            }
+            Work::Lines {
+                profile,
+                results,
+                ..
+            } => Action::Lines(LineOptions {
+                profile: *profile,
+                job: line_job_of(*results),
+            }),
         }
     }
-}
 
-impl Action {
     /// Tells whether lines are JSON.
     pub fn is_json(&self) -> bool {
         match self {
             Action::Messages(job, _) => job.is_json(),
-            Action::Elements(..) | Action::Lines(_) => false,
+            Action::Elements { .. } | Action::Lines(_) => false,
         }
     }
 
@@ -198,7 +91,10 @@ impl Action {
     {
         match self {
             Action::Messages(_, reading) => reading.names_inputs,
-            Action::Elements(reading, elements) => reading.names_inputs || elements.html,
+            Action::Elements {
+                elements,
+                names_inputs,
+            } => *names_inputs || elements.html,
             Action::Lines(_) => false,
         }
     }
@@ -208,23 +104,70 @@ impl Action {
         ensures { result ≡ is_document self.now }
     {
         match self {
-            Action::Elements(_, elements) => elements.html,
+            Action::Elements { elements, .. } => elements.html,
             Action::Messages(..) | Action::Lines(_) => false,
         }
     }
 }
 
-/// A result for each line, or a job with each message.
-fn by_line(lines: bool, line: LineJob, message: Job, reading: ReadOptions) -> Action
-    ensures { result ≡ by_line lines line message reading }
+/// The job that is printed, with `--json` or without.
+fn job_of(job: FileJob, json: bool) -> Job
+    ensures { result ≡ job_of job json }
 {
-    if lines {
-        Action::Lines(LineOptions {
+    match job {
+        FileJob::Show if json => Job::Json,
+        FileJob::Show => Job::Show,
+        FileJob::Report(Report::Check) if json => Job::CheckJson,
+        FileJob::Report(Report::Check) => Job::Check,
+        FileJob::Report(Report::Digest) if json => Job::DigestJson,
+        FileJob::Report(Report::Digest) => Job::Digest,
+    }
+}
+
+/// The job on lines that has these results.
+fn line_job_of(results: LineResults<'_>) -> LineJob
+    ensures { result ≡ line_job_of results.entry }
+{
+    match results {
+        LineResults::Report(Report::Check) => LineJob::Check,
+        LineResults::Report(Report::Digest) => LineJob::Digest,
+        LineResults::Write(_) | LineResults::Collect(_) => LineJob::Canonicalise,
+    }
+}
+
+/// The options by which messages are read.
+fn read_options(messages: Messages<'_>, names_inputs: bool) -> ReadOptions
+    ensures { result ≡ read_options_of messages.entry names_inputs }
+{
+    let Messages {
+        reading: Reading { profile, hex },
+        keep_going,
+        summary,
+    } = messages;
+    ReadOptions {
+        profile,
+        hex,
+        keep_going: keep_going.is_some(),
+        compares: summary,
+        names_inputs,
+    }
+}
+
+impl ReadOptions {
+    ghost use Rattle.std.specs.Prelude.{◌≡◌};
+    ghost use Rattle.ill_cli.specs.Plans.{options_of_reading};
+
+    /// Messages are read up to one that is refused, and no flag says more.
+    pub fn new(reading: Reading) -> ReadOptions
+        ensures { result ≡ options_of_reading reading }
+    {
+        ReadOptions {
             profile: reading.profile,
-            job: line,
-        })
-    } else {
-        Action::Messages(message, reading)
+            hex: reading.hex,
+            keep_going: false,
+            compares: false,
+            names_inputs: false,
+        }
     }
 }
 
@@ -280,16 +223,19 @@ impl<'a> InputAction<'a> {
                     InputAction::Messages(work)
                 }
             }
-            Action::Elements(reading, elements) => {
+            Action::Elements {
+                elements,
+                names_inputs,
+            } => {
                 let dump = DumpOptions {
-                    profile: reading.profile,
-                    hex: reading.hex,
+                    profile: elements.reading.profile,
+                    hex: elements.reading.hex,
                     name,
-                    names_input: reading.names_inputs || elements.html || count > 1,
-                    only: elements.only,
+                    names_input: names_inputs || elements.html || count > 1,
+                    only: elements.message,
                     format: format_if(elements.html),
                 };
-                if reading.keep_going {
+                if elements.keep_going.is_some() {
                     InputAction::AllElements(dump)
                 } else {
                     InputAction::Elements(dump)

@@ -1,2 +1,3 @@
+pub mod NoFault
 pub mod OneOrder
 pub mod Profiles

@@ -1,34 +1,36 @@
--- What was found is one command, with one list of rows; so are its files, its flags and whether they are the same word.
-use Rattle.std.proofs.Common.{◌≡◌, ℕ, IfOk, List, [], ◌∷◌, Option, Some, None, Result, Ok, Err, IfErr, unwrap_or, option_map, codes, length, slice_index_or, ◌≢◌, ◌<◌, ◌^◌, arith, refl, sym, ap, ap₂, subst, ◌∙◌}
-use Rattle.std.specs.Prelude.{if◌then◌else◌}
+-- What was found is one command, with one list of rows; so is each part of its order.
+use Rattle.std.proofs.Common.{◌≡◌, ℕ, Bool, true, IfOk, List, [], ◌∷◌, Option, Some, None, is_some, Result, Ok, unwrap_or, option_map, codes, length, arith, refl, sym, ap, ap₂, subst, ◌∙◌}
+use Rattle.std.specs.Prelude.{find, if◌then◌else◌}
 use Rattle.std.specs.Str.{bytes_eq}
-use Rattle.std.specs.Str.Parse.{IsNumeral, digits_value, without_leading_plus}
-use Rattle.clap.specs.Walk.{Row, Text, first_of, one_of}
-use Rattle.ill_args.specs.Orders.{files_in, is_set, profile_name, HasFiles, HasSameWord, IsOptionNumber, IsOrderOf, NamesProfile, verb, verb_name}
-use Rattle.ill_args.specs.Refused.{IsFaultOf}
+use Rattle.clap.specs.Walk.{Row, Text, first_of}
+use Rattle.ill_args.specs.CommandLine.{all_verbs}
+use Rattle.ill_args.specs.Orders.{is_set, profile_name, target_name, verb, verb_name, verb_of_job, verb_of_report, verb_of_results, verb_of_work, AreElements, AreMessages, HasInputs, HasResults, HasWords, HasWork, IsByMessage, IsKeepGoing, IsLimit, IsOptionNumber, IsOrderOf, IsReading, IsTarget, NamesProfile}
 use Rattle.ill_tables.specs.declared.profile.Profile.{Profile}
 use Rattle.ill_args.specs.declared.fault.LineFault.{LineFault}
+use Rattle.ill_args.specs.declared.orders.Elements.{Elements}
 use Rattle.ill_args.specs.declared.orders.FileJob.{FileJob}
+use Rattle.ill_args.specs.declared.orders.Inputs.{Inputs}
+use Rattle.ill_args.specs.declared.orders.KeepGoing.{KeepGoing}
+use Rattle.ill_args.specs.declared.orders.Limit.{Limit}
+use Rattle.ill_args.specs.declared.orders.LineResults.{LineResults}
+use Rattle.ill_args.specs.declared.orders.Messages.{Messages}
 use Rattle.ill_args.specs.declared.orders.Order.{Order}
-use Rattle.ill_args.specs.declared.orders.Task.{Task}
+use Rattle.ill_args.specs.declared.orders.Reading.{Reading}
+use Rattle.ill_args.specs.declared.orders.Report.{Report}
+use Rattle.ill_args.specs.declared.orders.Target.{Target}
 use Rattle.ill_args.specs.declared.orders.Verb.{Verb}
-use Rattle.test_cli.specs.Tasks.{HasSameFlags, IsSameTask, named}
+use Rattle.ill_args.specs.declared.orders.Work.{Work}
+use Rattle.test_cli.specs.Orders.{going_of, profile_of, IsSameInputs, IsSameMessages, IsSameOrder, IsSameResults, IsSameTarget, IsSameWork}
 
 -- the command of a name
 abbrev verb_of : Text → Verb
-verb_of name =
-    if bytes_eq name (verb_name Verb.Show) then Verb.Show
-    else if bytes_eq name (verb_name Verb.Check) then Verb.Check
-    else if bytes_eq name (verb_name Verb.Digest) then Verb.Digest
-    else if bytes_eq name (verb_name Verb.Dump) then Verb.Dump
-    else if bytes_eq name (verb_name Verb.Same) then Verb.Same
-    else Verb.Canonicalise
+verb_of name = unwrap_or (find (λ v. bytes_eq name (verb_name v)) all_verbs) Verb.Same
 
 verb_again : (v : Verb) → verb_of (verb_name v) ≡ v
 verb_again Verb.Show = refl
 verb_again _ = refl
 
-verb_is : (v w : Verb) → verb_name v ≡ verb_name w → v ≡ w
+pub verb_is : (v w : Verb) → verb_name v ≡ verb_name w → v ≡ w
 verb_is v w e = sym (verb_again v) ∙ ap verb_of e ∙ verb_again w
 
 profile_is : (p q : Profile) → profile_name p ≡ profile_name q → p ≡ q
@@ -37,133 +39,210 @@ profile_is Profile.Two Profile.Module e = absurd (let q : 1 ≡ 6 = ap length e 
 profile_is Profile.Module Profile.Two e = absurd (let q : 6 ≡ 1 = ap length e in omega (arith, q))
 profile_is Profile.Module Profile.Module e = refl
 
--- rows name one profile
-pub one_profile : (rows more : List Row) (p q : Profile) → rows ≡ more → NamesProfile rows p → NamesProfile more q → p ≡ q
-one_profile rows more p q e h k =
-    profile_is p q (ap (λ (o : Option Text). unwrap_or o []) (sym h ∙ ap (first_of (codes "profile")) e ∙ k))
+pub some_is : {X : Type 0} (x y : X) → Some x ≡ Some y → x ≡ y
+some_is {X = X} x y e = ap (λ (o : Option X). unwrap_or o x) e
+
+-- ---- the parts of an order
+
+pub one_profile : (rows : List Row) (p q : Profile) → NamesProfile rows p → NamesProfile rows q → p ≡ q
+one_profile rows p q h k = profile_is p q (some_is _ _ (sym h ∙ k))
+
+one_reading : (rows : List Row) (r s : Reading) → IsReading rows r → IsReading rows s → r ≡ s
+one_reading rows r s h k = ap₂ (λ (p : Profile) (x : Bool). record { profile = p; hex = x }) (one_profile rows r.profile s.profile h.profile k.profile) (h.hex ∙ sym k.hex)
 
 -- a word is of one number
-one_number : (word again : Option Text) (m n : Option ℕ) → word ≡ again → IsOptionNumber word m → IsOptionNumber again n → m ≡ n
-one_number None None m n e h k = h ∙ sym k
-one_number None (Some again) m n e h k = absurd cc
-one_number (Some word) None m n e h k = absurd cc
-one_number (Some word) (Some again) (Some m) (Some n) e h k =
-    let same : word ≡ again = ap (λ (o : Option Text). unwrap_or o []) e in
-    ap Some (h.1 ∙ ap (λ (w : Text). digits_value 10 (without_leading_plus w)) same ∙ sym k.1)
-one_number (Some word) (Some again) (Some m) None e h k =
-    let same : word ≡ again = ap (λ (o : Option Text). unwrap_or o []) e in
-    absurd (k (subst (λ (w : Text). IsNumeral 10 (without_leading_plus w) × (digits_value 10 (without_leading_plus w) < 2 ^ 32)) same h.0))
-one_number (Some word) (Some again) None (Some n) e h k =
-    let same : word ≡ again = ap (λ (o : Option Text). unwrap_or o []) e in
-    absurd (h (subst (λ (w : Text). IsNumeral 10 (without_leading_plus w) × (digits_value 10 (without_leading_plus w) < 2 ^ 32)) (sym same) k.0))
-one_number (Some word) (Some again) None None e h k = refl
+one_number : (word : Option Text) (m n : Option ℕ) → IsOptionNumber word m → IsOptionNumber word n → m ≡ n
+one_number None m n h k = h ∙ sym k
+one_number (Some word) (Some m) (Some n) h k = ap Some (h.1 ∙ sym k.1)
+one_number (Some word) (Some m) None h k = absurd (k h.0)
+one_number (Some word) None (Some n) h k = absurd (h k.0)
+one_number (Some word) None None h k = refl
 
-abbrev Named : Type 0
-Named = List Text × (Option Text × Option Text)
+one_limit : (rows : List Row) (a b : Option Limit) → IsLimit rows a → IsLimit rows b → a ≡ b
+one_limit rows None None h k = refl
+one_limit rows None (Some b) h k = absurd cc
+one_limit rows (Some a) None h k = absurd cc
+one_limit rows (Some a) (Some b) h k = ap (λ (n : Option ℕ). Some (record { max_refused = n })) (one_number _ a.max_refused b.max_refused h.1 k.1)
 
-abbrev each_of : List Row → Named
-each_of rows = (files_in rows, (first_of (codes "files-from") rows, None))
+one_going : (rows : List Row) (a b : Option KeepGoing) → IsKeepGoing rows a → IsKeepGoing rows b → option_map going_of a ≡ option_map going_of b
+one_going rows None None h k = refl
+one_going rows None (Some b) h k = absurd cc
+one_going rows (Some a) None h k = absurd cc
+one_going rows (Some a) (Some b) h k =
+    ap₂ (λ (n : Option ℕ) (file : Option Text). Some (n, file)) (one_number _ a.limit.max_refused b.limit.max_refused h.0.1 k.0.1) (sym h.1 ∙ k.1)
 
-abbrev two_of : List Row → Named
-two_of rows = (unwrap_or (first_of (codes "first") rows) [] ∷ unwrap_or (first_of (codes "second") rows) [] ∷ [], (None, None))
+one_messages : (rows : List Row) (m n : Messages) → AreMessages rows m → AreMessages rows n → IsSameMessages m n
+one_messages rows m n h k = (one_reading rows m.reading n.reading h.reading k.reading, one_going rows m.keep_going n.keep_going h.keep_going k.keep_going, h.summary ∙ sym k.summary)
 
-abbrev named_by : Verb → List Row → Named
-named_by Verb.Show rows = each_of rows
-named_by Verb.Check rows = each_of rows
-named_by Verb.Digest rows = each_of rows
-named_by Verb.Dump rows = each_of rows
-named_by Verb.Same rows = two_of rows
-named_by Verb.Canonicalise rows = (files_in rows, (first_of (codes "files-from") rows, first_of (codes "output") rows))
+one_inputs : (rows : List Row) (i j : Inputs) → HasInputs rows i → HasInputs rows j → IsSameInputs i j
+one_inputs rows i j h k = (sym h.0 ∙ k.0, sym h.1 ∙ k.1)
 
-two : (rows : List Row) (first second : Text) → first_of (codes "first") rows ≡ Some first → first_of (codes "second") rows ≡ Some second
-    → unwrap_or (first_of (codes "first") rows) [] ∷ unwrap_or (first_of (codes "second") rows) [] ∷ [] ≡ first ∷ second ∷ []
-two rows first second e f = ap₂ (λ (x y : Option Text). unwrap_or x [] ∷ unwrap_or y [] ∷ []) e f
+one_target : (rows : List Row) (t u : Target) → target_name t ≡ target_name u → IsTarget rows t → IsTarget rows u → IsSameTarget t u
+one_target rows Target.StandardOutput Target.StandardOutput e h k = (e, refl)
+one_target rows Target.StandardOutput (Target.File name whole) e h k = absurd (k.0 (sym e))
+one_target rows (Target.File name whole) Target.StandardOutput e h k = absurd (h.0 e)
+one_target rows (Target.File name whole) (Target.File name' whole') e h k = (e, h.1 ∙ sym k.1)
 
-three : (a b : List Text) (c d e f : Option Text) → a ≡ b → c ≡ d → e ≡ f → ◌≡◌ {A = Named} (a, (c, e)) (b, (d, f))
-three a b c d e f p q r = rw (p, q, r) refl
+-- ---- the form of an order
 
-named_is : (rows : List Row) (t : Task) → HasFiles rows t → named_by (verb t) rows ≡ named t
-named_is rows (Task.Each FileJob.Show inputs) h = three _ _ _ _ _ _ h.0 h.1 refl
-named_is rows (Task.Each FileJob.Check inputs) h = three _ _ _ _ _ _ h.0 h.1 refl
-named_is rows (Task.Each FileJob.Digest inputs) h = three _ _ _ _ _ _ h.0 h.1 refl
-named_is rows (Task.Each FileJob.Dump inputs) h = three _ _ _ _ _ _ h.0 h.1 refl
-named_is rows (Task.Canonicalise input output) h = three _ _ _ _ _ _ h.0 h.1 h.2
-named_is rows (Task.Collect inputs output) h = three _ _ _ _ _ _ h.0.0 h.0.1 h.1
-named_is rows (Task.Compare first second) h = three _ _ _ _ _ _ (two rows first.now second.now h.0 h.1) refl refl
+abbrev form_of_work : Work → ℕ
+form_of_work (Work.Print job json with_filename messages inputs) = 0
+form_of_work (Work.Dump elements with_filename inputs) = 1
+form_of_work (Work.Write messages input output) = 2
+form_of_work (Work.Collect messages inputs output) = 3
+form_of_work (Work.Lines profile input results) = 4
+
+abbrev form_of : Order → ℕ
+form_of (Order.Each work) = form_of_work work
+form_of (Order.Compare reading first second) = 5
+
+abbrev form_in : Verb → Bool → Bool → ℕ
+form_in Verb.Show lines collects = 0
+form_in Verb.Dump lines collects = 1
+form_in Verb.Same lines collects = 5
+form_in Verb.Canonicalise lines collects = if lines then 4 else if collects then 3 else 2
+form_in _ lines collects = if lines then 4 else 0
+
+form_of_report : (report : Report) (lines collects : Bool) → form_in (verb_of_report report) lines collects ≡ (if lines then 4 else 0)
+form_of_report Report.Check lines collects = refl
+form_of_report _ lines collects = refl
+
+form_of_job : (rows : List Row) (job : FileJob) (collects : Bool) → IsByMessage rows job → 0 ≡ form_in (verb_of_job job) (is_set (codes "lines") rows) collects
+form_of_job rows (FileJob.Report report) collects h = rw (form_of_report report, h) refl
+form_of_job rows _ collects h = refl
+
+form_of_results : (results : LineResults) (collects : Bool) → 4 ≡ form_in (verb_of_results results) true collects
+form_of_results (LineResults.Report report) collects = sym (form_of_report report true collects)
+form_of_results _ collects = refl
+
+form_is : (rows : List Row) (order : Order) → HasWords rows order → form_of order ≡ form_in (verb order) (is_set (codes "lines") rows) (is_some (first_of (codes "output") rows))
+form_is rows (Order.Each (Work.Print job json with_filename messages inputs)) h = form_of_job rows job _ h.0
+form_is rows (Order.Each (Work.Dump elements with_filename inputs)) h = refl
+form_is rows (Order.Each (Work.Write messages input output)) h = rw (h.0, h.2.words.2) refl
+form_is rows (Order.Each (Work.Collect messages inputs output)) h = rw (h.0, h.3.word) refl
+form_is rows (Order.Each (Work.Lines profile input results)) h = rw h.1.lines (form_of_results results _)
+form_is rows (Order.Compare reading first second) h = refl
+
+is_work : (work : Work) → form_of_work work ≡ 5 → ⊥
+is_work (Work.Print job json with_filename messages inputs) e = absurd cc
+is_work _ e = absurd cc
+
+-- ---- one order
+
+abbrev report_of : Verb → Report
+report_of Verb.Check = Report.Check
+report_of _ = Report.Digest
+
+report_again : (r : Report) → report_of (verb_of_report r) ≡ r
+report_again Report.Check = refl
+report_again _ = refl
+
+abbrev job_of : Verb → FileJob
+job_of Verb.Show = FileJob.Show
+job_of v = FileJob.Report (report_of v)
+
+report_is_job : (r : Report) → job_of (verb_of_report r) ≡ FileJob.Report r
+report_is_job Report.Check = refl
+report_is_job _ = refl
+
+job_again : (job : FileJob) → job_of (verb_of_job job) ≡ job
+job_again (FileJob.Report r) = report_is_job r
+job_again _ = refl
+
+is_not_canonical : (r : Report) → verb_of_report r ≡ Verb.Canonicalise → ⊥
+is_not_canonical Report.Check e = cc
+is_not_canonical _ e = cc
+
+one_file : (files : List Text) (a b : Text) → files ≡ a ∷ [] → files ≡ b ∷ [] → a ≡ b
+one_file files a b e f = cc
+
+pub two_files : (files : List Text) (a b c d : Text) → files ≡ a ∷ b ∷ [] → files ≡ c ∷ d ∷ [] → (a ≡ c) × (b ≡ d)
+two_files files a b c d e f = (cc, cc)
+
+one_results : (rows : List Row) (input input' : Text) (r s : LineResults) → verb_of_results r ≡ verb_of_results s → HasResults rows input r → HasResults rows input' s
+    → (input ≡ input') × IsSameResults r s
+one_results rows input input' (LineResults.Report r) (LineResults.Report s) e h k = (one_file _ input input' h.0 k.0, sym (report_again r) ∙ ap report_of e ∙ report_again s)
+one_results rows input input' (LineResults.Report r) (LineResults.Write u) e h k = absurd (is_not_canonical r e)
+one_results rows input input' (LineResults.Report r) (LineResults.Collect u) e h k = absurd (is_not_canonical r e)
+one_results rows input input' (LineResults.Write t) (LineResults.Report s) e h k = absurd (is_not_canonical s (sym e))
+one_results rows input input' (LineResults.Collect t) (LineResults.Report s) e h k = absurd (is_not_canonical s (sym e))
+one_results rows input input' (LineResults.Write t) (LineResults.Write u) e h k =
+    let f = two_files _ input (target_name t) input' (target_name u) h.words.0 k.words.0 in
+    (f.0, one_target rows t u f.1 h.target k.target)
+one_results rows input input' (LineResults.Write t) (LineResults.Collect u) e h k = absurd (let f = sym h.words.2 ∙ k.1.word in cc)
+one_results rows input input' (LineResults.Collect t) (LineResults.Write u) e h k = absurd (let f = sym h.1.word ∙ k.words.2 in cc)
+one_results rows input input' (LineResults.Collect t) (LineResults.Collect u) e h k =
+    (one_file _ input input' h.0.0 k.0.0, one_target rows t u (some_is _ _ (sym h.1.word ∙ k.1.word)) h.1.target k.1.target)
+
+elements_are : (r s : Reading) (a b : Option Limit) (m n : Option ℕ) (x y : Bool) → r ≡ s → a ≡ b → m ≡ n → x ≡ y
+    → ◌≡◌ {A = Elements} (record { reading = r; keep_going = a; message = m; html = x }) (record { reading = s; keep_going = b; message = n; html = y })
+elements_are r s a b m n x y e f g h = cc
+
+one_elements : (rows : List Row) (a b : Elements) → AreElements rows a → AreElements rows b → a ≡ b
+one_elements rows a b h k =
+    elements_are a.reading b.reading a.keep_going b.keep_going a.message b.message a.html b.html (one_reading rows a.reading b.reading h.reading k.reading)
+    (one_limit rows a.keep_going b.keep_going h.keep_going k.keep_going) (one_number _ a.message b.message h.message k.message) (h.html ∙ sym k.html)
+
+one_work : (rows : List Row) (one other : Work) → form_of_work one ≡ form_of_work other → verb_of_work one ≡ verb_of_work other → HasWork rows one → HasWork rows other → IsSameWork one other
+one_work rows (Work.Print job json named messages inputs) (Work.Print job' json' named' messages' inputs') f e h k = (
+  sym (job_again job) ∙ ap job_of e ∙ job_again job',
+  h.1 ∙ sym k.1,
+  h.2 ∙ sym k.2,
+  one_messages rows messages messages' h.3 k.3,
+  one_inputs rows inputs inputs' h.4.files k.4.files,
+)
+one_work rows (Work.Dump elements named inputs) (Work.Dump elements' named' inputs') f e h k =
+    (one_elements rows elements elements' h.0 k.0, h.1 ∙ sym k.1, one_inputs rows inputs inputs' h.2.files k.2.files)
+one_work rows (Work.Write messages input output) (Work.Write messages' input' output') f e h k =
+    let two = two_files _ input.now (target_name output) input'.now (target_name output') h.2.words.0 k.2.words.0 in
+    (one_messages rows messages messages' h.1 k.1, two.0, one_target rows output output' two.1 h.2.target k.2.target)
+one_work rows (Work.Collect messages inputs output) (Work.Collect messages' inputs' output') f e h k = (
+  one_messages rows messages messages' h.1 k.1,
+  one_inputs rows inputs inputs' h.2.files k.2.files,
+  one_target rows output output' (some_is _ _ (sym h.3.word ∙ k.3.word)) h.3.target k.3.target,
+)
+one_work rows (Work.Lines profile input results) (Work.Lines profile' input' results') f e h k =
+    let same = one_results rows input.now input'.now results results' e h.2 k.2 in
+    (one_profile rows profile profile' h.0 k.0, same.0, same.1)
+one_work rows _ _ f e h k = absurd cc
+
+one_words : (rows : List Row) (one other : Order) → form_of one ≡ form_of other → verb one ≡ verb other → HasWords rows one → HasWords rows other → IsSameOrder one other
+one_words rows (Order.Each work) (Order.Each work') f e h k = one_work rows work work' f e h k
+one_words rows (Order.Compare reading first second) (Order.Compare reading' first' second') f e h k =
+    (one_reading rows reading reading' h.0 k.0, some_is _ _ (sym h.1.0 ∙ k.1.0), some_is _ _ (sym h.1.1 ∙ k.1.1))
+one_words rows (Order.Each work) (Order.Compare reading first second) f e h k = absurd (is_work work f)
+one_words rows (Order.Compare reading first second) (Order.Each work) f e h k = absurd (is_work work (sym f))
 
 -- what was found is of one command, with one list of rows
-one_found : (found : Option (Text × List Row)) (name other : Text) (rows more : List Row) → found ≡ Some (name, rows) → found ≡ Some (other, more) → (name ≡ other) × (rows ≡ more)
+pub one_found : (found : Option (Text × List Row)) (name other : Text) (rows more : List Row) → found ≡ Some (name, rows) → found ≡ Some (other, more) → (name ≡ other) × (rows ≡ more)
 one_found found name other rows more e f =
-    let g : Some (name, rows) ≡ Some (other, more) = sym e ∙ f in (
-      ap (λ (o : Option (Text × List Row)). unwrap_or (option_map (λ (p : Text × List Row). p.0) o) []) g,
-      ap (λ (o : Option (Text × List Row)). unwrap_or (option_map (λ (p : Text × List Row). p.1) o) []) g,
-    )
+    let g = some_is _ _ (sym e ∙ f) in
+    (ap (λ (p : Text × List Row). p.0) g, ap (λ (p : Text × List Row). p.1) g)
 
-pub same_task : (found : Option (Text × List Row)) (one other : Order) → IsOrderOf found one → IsOrderOf found other → IsSameTask one.task other.task
-same_task found one other h k =
-    let f = one_found found (verb_name (verb one.task)) (verb_name (verb other.task)) h.rows k.rows h.command k.command in
-    let v = verb_is (verb one.task) (verb other.task) f.0 in
-    (v, sym (named_is h.rows one.task h.files) ∙ ap₂ named_by v f.1 ∙ named_is k.rows other.task k.files)
-
-pub same_flags : (found : Option (Text × List Row)) (one other : Order) → IsOrderOf found one → IsOrderOf found other → HasSameFlags one other
-same_flags found one other h k =
-    let rows = (one_found found (verb_name (verb one.task)) (verb_name (verb other.task)) h.rows k.rows h.command k.command).1 in
-    let flag = λ (name : Text). ap (is_set name) rows in (
-      one_profile h.rows k.rows one.profile other.profile rows h.profile k.profile,
-      h.hex ∙ flag (codes "hex") ∙ sym k.hex,
-      h.lines ∙ flag (codes "lines") ∙ sym k.lines,
-      h.keep_going ∙ flag (codes "keep-going") ∙ sym k.keep_going,
-      h.summary ∙ flag (codes "summary") ∙ sym k.summary,
-      h.json ∙ flag (codes "json") ∙ sym k.json,
-      h.whole ∙ flag (codes "whole") ∙ sym k.whole,
-      one_number _ _ one.message other.message (ap (one_of (codes "message")) rows) h.message k.message,
-      h.html ∙ flag (codes "html") ∙ sym k.html,
-    )
-
--- ---- the same word
-
-first_of_two : (a b c d : Text) (m n : Option Text × Option Text) → ◌≡◌ {A = Named} (a ∷ b ∷ [], m) (c ∷ d ∷ [], n) → (a ≡ c) × (b ≡ d)
-first_of_two a b c d m n e = (ap (λ (t : Named). slice_index_or t.0 0 []) e, ap (λ (t : Named). slice_index_or t.0 1 []) e)
-
-abbrev SameWordIn : Task → Type 0
-SameWordIn task = elim task as (λ _. Type 0) [
-  | Task.Each job inputs ↦ ⊥
-  | Task.Canonicalise input output ↦ (input.now ≢ codes "-") × (output.now ≡ input.now)
-  | Task.Collect inputs output ↦ ⊥
-  | Task.Compare first second ↦ (first.now ≡ codes "-") × (second.now ≡ codes "-")
-]
-
-same_word : (one other : Task) → IsSameTask one other → SameWordIn other → SameWordIn one
-same_word one (Task.Each job inputs) s h = absurd h
-same_word one (Task.Collect inputs output) s h = absurd h
-same_word (Task.Each FileJob.Show inputs) (Task.Canonicalise input output) s h = absurd cc
-same_word (Task.Each FileJob.Check inputs) (Task.Canonicalise input output) s h = absurd cc
-same_word (Task.Each FileJob.Digest inputs) (Task.Canonicalise input output) s h = absurd cc
-same_word (Task.Each FileJob.Dump inputs) (Task.Canonicalise input output) s h = absurd cc
-same_word (Task.Canonicalise i o) (Task.Canonicalise input output) s h =
-    let e = first_of_two _ _ _ _ _ _ s.1 in
-    ((λ dash. h.0 (sym e.0 ∙ dash)), e.1 ∙ h.1 ∙ sym e.0)
-same_word (Task.Collect inputs out) (Task.Canonicalise input output) s h =
-    let none : Some out.now ≡ None = ap (λ (t : Named). t.1.1) s.1 in
-    absurd cc
-same_word (Task.Compare a b) (Task.Canonicalise input output) s h = absurd cc
-same_word (Task.Each FileJob.Show inputs) (Task.Compare first second) s h = absurd cc
-same_word (Task.Each FileJob.Check inputs) (Task.Compare first second) s h = absurd cc
-same_word (Task.Each FileJob.Digest inputs) (Task.Compare first second) s h = absurd cc
-same_word (Task.Each FileJob.Dump inputs) (Task.Compare first second) s h = absurd cc
-same_word (Task.Canonicalise i o) (Task.Compare first second) s h = absurd cc
-same_word (Task.Collect inputs out) (Task.Compare first second) s h = absurd cc
-same_word (Task.Compare a b) (Task.Compare first second) s h =
-    let e = first_of_two _ _ _ _ _ _ s.1 in
-    (e.0 ∙ h.0, e.1 ∙ h.1)
+pub same_order : (found : Option (Text × List Row)) (one other : Order) → IsOrderOf found one → IsOrderOf found other → IsSameOrder one other
+same_order found one other h k =
+    let f = one_found found (verb_name (verb one)) (verb_name (verb other)) h.rows k.rows h.command k.command in
+    let v = verb_is (verb one) (verb other) f.0 in
+    let words = subst (λ rows. HasWords rows other) (sym f.1) k.words in
+    let form = form_is h.rows one h.words
+    ∙ ap (λ v. form_in v (is_set (codes "lines") h.rows) (is_some (first_of (codes "output") h.rows))) v
+    ∙ sym (form_is h.rows other words) in
+    one_words h.rows one other form v h.words words
 
 -- what words give once, and what they give again
 
 pub given : (found : Option (Text × List Row)) (r : Result Order LineFault) (one : Order) → r ≡ Ok one → IfOk r (IsOrderOf found) → IsOrderOf found one
 given found r one e h = subst (λ x. IfOk x (IsOrderOf found)) e h
 
-pub no_same_word : (found : Option (Text × List Row)) (r again : Result Order LineFault) (one : Order) → r ≡ Ok one → again ≡ Err LineFault.SameWord → IfOk r (IsOrderOf found)
-    → IfOk r (λ order. HasSameWord order → ⊥) → IfErr again (IsFaultOf found) → ⊥
-no_same_word found r again one e f h none fault =
-    let same = subst (λ x. IfErr x (IsFaultOf found)) f fault in
-    subst (λ x. IfOk x (λ order. HasSameWord order → ⊥)) e none (same_word one.task same.0.task (same_task found one same.0 (given found r one e h) same.1) same.2)
+-- the profile of an order
+
+names_profile : (rows : List Row) (order : Order) → HasWords rows order → NamesProfile rows (profile_of order)
+names_profile rows (Order.Each (Work.Print job json named messages inputs)) h = h.3.reading.profile
+names_profile rows (Order.Each (Work.Dump elements named inputs)) h = h.0.reading.profile
+names_profile rows (Order.Each (Work.Write messages input output)) h = h.1.reading.profile
+names_profile rows (Order.Each (Work.Collect messages inputs output)) h = h.1.reading.profile
+names_profile rows (Order.Each (Work.Lines profile input results)) h = h.0
+names_profile rows (Order.Compare reading first second) h = h.0.profile
+
+pub has_profile : (rows : List Row) (order : Order) (profile : Profile) → HasWords rows order → NamesProfile rows profile → profile_of order ≡ profile
+has_profile rows order profile h named = one_profile rows (profile_of order) profile (names_profile rows order h) named

@@ -7,14 +7,15 @@ use Rattle.ill_tables.specs.declared.profile.Profile.{Profile}
 use Rattle.ill_args.specs.CommandLine.{program}
 use Rattle.ill_args.specs.Orders.{profile_name, IsOrderOf}
 use Rattle.ill_args.specs.declared.orders.Order.{Order}
-use Rattle.test_cli.proofs.OneOrder.{one_profile}
+use Rattle.test_cli.specs.Orders.{profile_of}
+use Rattle.test_cli.proofs.OneOrder.{has_profile}
 
 -- the value of `--profile` for the command that was found
 abbrev pub named_in : Option (Text × List Row) → Option Text
 named_in = option_and_then (λ (p : Text × List Row). first_of (codes "profile") p.1)
 
-pub profile_of : (found : Option (Text × List Row)) (order : Order) (profile : Profile) → IsOrderOf found order → named_in found ≡ Some (profile_name profile) → order.profile ≡ profile
-profile_of found order profile h named = one_profile h.rows h.rows order.profile profile refl h.profile (sym (ap named_in h.command) ∙ named)
+pub found_profile : (found : Option (Text × List Row)) (order : Order) (profile : Profile) → IsOrderOf found order → named_in found ≡ Some (profile_name profile) → profile_of order ≡ profile
+found_profile found order profile h named = has_profile h.rows order profile h.words (sym (ap named_in h.command) ∙ named)
 
 pub no_name : named_in (subcommand_of program (codes "illcanon" ∷ codes "check" ∷ codes "A" ∷ [])) ≡ Some (codes "2")
 unfolding clap_on_literals

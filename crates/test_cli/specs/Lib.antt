@@ -1,1 +1,1 @@
-pub mod Tasks
+pub mod Orders

@@ -1,7 +1,5 @@
 -- The arguments of a command, as clap's contracts see them.
-use Rattle.std.specs.Prelude.{List, [], ◌∷◌}
 use Rattle.clap.specs.Walk.{Rule}
-use Rattle.clap.specs.Simple.{App, with_rule}
 use Rattle.ill_args.specs.CommandLine.{file_rule, filename_rule, files_rule, flag_rule, list_rule, max_refused_rule, message_rule, output_rule, refused_rule}
 use Rattle.ill_args.specs.declared.commands.Argument.{Argument}
 
@@ -15,8 +13,3 @@ rule_for Argument.Refused = refused_rule
 rule_for Argument.MaxRefused = max_refused_rule
 rule_for Argument.Output = output_rule
 rule_for Argument.Message = message_rule
-
--- a command to which these arguments are added
-abbrev pub with_rules : App → List Rule → App
-with_rules a [] = a
-with_rules a (r ∷ rs) = with_rules (with_rule a r) rs

@@ -1,17 +1,15 @@
--- The command that was found in the words, and the files that it has.
-use Rattle.std.specs.Prelude.{◌≡◌, ◌⊎◌, ◌<◌, true, List, [], ◌∷◌, length, map, codes, Option, Some, None, is_some, IsTrue}
+-- The command that was found in the words, and the faults of its words.
+use Rattle.std.specs.Prelude.{◌≡◌, ◌⊎◌, true, false, List, [], ◌∷◌, map, codes, Option, Some, is_some}
 use Rattle.clap.specs.Walk.{Row, Text, first_of}
-use Rattle.clap.specs.Words.{kind_of}
-use Rattle.clap.specs.declared.error.kind.ErrorKind.{ErrorKind}
 use Rattle.ill_tables.specs.declared.profile.Profile.{Profile}
 use Rattle.ill_args.specs.CommandLine.{ProfileNames}
-use Rattle.ill_args.specs.Orders.{profile_name, verb_name, NamesProfile}
-use Rattle.ill_args.specs.Refused.{IsOutOfMemory}
+use Rattle.ill_args.specs.Orders.{is_set, profile_name, verb, verb_name, verb_of_work, HasOne, HasTwo, HasWords, HasWork, NamesProfile}
+use Rattle.ill_args.specs.Refused.{HasFault, IsOutOfMemory}
 use Rattle.ill_args.specs.declared.fault.LineFault.{LineFault}
-use Rattle.ill_args.specs.declared.fault.LineFault.TheVariants.{Missing, Unexpected}
-use Rattle.ill_args.specs.declared.orders.Inputs.{Inputs}
-use Rattle.ill_args.specs.declared.orders.Task.{Task}
+use Rattle.ill_args.specs.declared.fault.LineFault.TheVariants.{NotOneFile}
+use Rattle.ill_args.specs.declared.orders.Order.{Order}
 use Rattle.ill_args.specs.declared.orders.Verb.{Verb}
+use Rattle.ill_args.specs.declared.orders.Work.{Work}
 
 -- the two files of `same` are there
 abbrev pub HasBoth : List Row → Type 0
@@ -38,14 +36,30 @@ pub record IsCommand (found : Option (Text × List Row)) : Type 0 where
   pub profile : HasProfile rows
   pub both : name ≡ codes "same" → HasBoth rows
 
--- the words FILE are IN and OUT, and there is no list of files
-abbrev pub IsInAndOut : Inputs → Task → Type 0
-IsInAndOut inputs (Task.Canonicalise input output) = (map (λ word. word.now) inputs.files.items ≡ input.now ∷ output.now ∷ []) × (inputs.list ≡ None)
-IsInAndOut inputs _ = ⊥
+-- the order of a command with these words
+abbrev pub IsOrder : Verb → List Row → Order → Type 0
+IsOrder of rows order = (verb order ≡ of) × HasWords rows order
 
--- why the words FILE are not IN and OUT
-abbrev pub IsNotInAndOut : Inputs → LineFault → Type 0
-IsNotInAndOut inputs (Missing error) = (kind_of error ≡ ErrorKind.MissingRequiredArgument)
-    × ((length inputs.files.items < 2) ⊎ IsTrue (is_some inputs.list))
-IsNotInAndOut inputs (Unexpected error) = (kind_of error ≡ ErrorKind.UnknownArgument) × (2 < length inputs.files.items)
-IsNotInAndOut inputs fault = IsOutOfMemory fault
+-- the work of a command with these words
+abbrev pub IsWork : Verb → List Row → Work → Type 0
+IsWork of rows work = (verb_of_work work ≡ of) × HasWork rows work
+
+-- a fault of the words of a command, or memory ran out
+abbrev pub IsFault : Verb → List Row → LineFault → Type 0
+IsFault of rows fault = IsOutOfMemory fault ⊎ HasFault of rows fault
+
+-- lines are read, with no flag that excludes them
+pub record ReadsLinesAlone (rows : List Row) : Type 0 where
+  pub lines : is_set (codes "lines") rows ≡ true
+  pub hex : is_set (codes "hex") rows ≡ false
+  pub keep_going : is_set (codes "keep-going") rows ≡ false
+  pub summary : is_set (codes "summary") rows ≡ false
+  pub json : is_set (codes "json") rows ≡ false
+
+-- OUT is this word
+abbrev pub IsOutput : List Row → Text → Type 0
+IsOutput rows word = (first_of (codes "output") rows ≡ Some word) ⊎ ((input : Text) × HasTwo rows input word)
+
+-- there are no words of one file
+abbrev pub IsNotOne : List Row → LineFault → Type 0
+IsNotOne rows fault = (fault ≡ NotOneFile) × ((file : Text) → HasOne rows file → ⊥)

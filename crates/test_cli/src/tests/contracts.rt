@@ -1,10 +1,14 @@
 //! Contracts that leave one result: what the calls return is proved of their contracts alone. So a body that returns anything else
 //! doesn't meet its contract.
+ghost use Rattle.std.specs.Prelude.{◌≡◌};
+ghost use Rattle.ill_cli.specs.Plans.{read_options_of};
+
 use ber_core::{Pieces, Source};
-use ill_args::{FileJob, Inputs, Order, Task};
-use ill_cli::{Action, InputAction, Plan, ReadOptions};
+use ill_args::{FileJob, Inputs, LineResults, Messages, Reading, Report, Target, Work};
+use ill_cli::{Action, InputAction, ReadOptions};
 use ill_commands::{Job, LineJob, LineOptions, Verdict};
 use ill_files::{Opened, ProgramError, is_output_lost, keeps_output, status_of};
+use ill_tables::Profile;
 
 /// The end has one status, which is 0 only where all is well.
 fn ends_have_one_status(done: &Result<Verdict, ProgramError>) {
@@ -26,77 +30,77 @@ fn files_end_only_at_their_end(octets: &[u8], buffer: &mut [u8]) {
     }
 }
 
-/// `canonicalise` makes normal forms, of hexadecimal text where that is asked for, and of lines where these are. It replaces its output as a
-/// whole where that is asked for.
-fn canonicalise_makes_normal_forms(order: Order<'_>, input: &str, output: &str) {
-    let lines = order.lines;
-    let asked = order.whole;
-    let reading = ReadOptions {
-        profile: order.profile,
-        hex: order.hex,
-        keep_going: order.keep_going,
-        compares: order.summary,
-        names_inputs: order.with_filename,
-    };
-    let results = LineOptions {
-        profile: order.profile,
-        job: LineJob::Canonicalise,
-    };
-    let task = Task::Canonicalise { input, output };
-    match Plan::new(Order { task, ..order }) {
-        Plan::Write { action, whole, .. } if lines => {
-            prove!(action == Action::Lines(results));
-            prove!(whole == asked);
-        }
-        Plan::Write { action, whole, .. } => {
-            prove!(action == Action::Messages(Job::Canonicalise, reading));
-            prove!(whole == asked);
-        }
-        _ => unreachable!(),
+/// The options by which an order's messages are read.
+fn options_of(messages: Messages<'_>, names_inputs: bool) -> ReadOptions
+    ensures { result ≡ read_options_of messages.entry names_inputs }
+{
+    ReadOptions {
+        profile: messages.reading.profile,
+        hex: messages.reading.hex,
+        keep_going: messages.keep_going.is_some(),
+        compares: messages.summary,
+        names_inputs,
     }
 }
 
-/// `check` checks each message, and says so in words or as JSON, or each line.
-fn check_checks(order: Order<'_>, inputs: Inputs<'_>) {
-    let lines = order.lines;
-    let json = order.json;
-    let reading = ReadOptions {
-        profile: order.profile,
-        hex: order.hex,
-        keep_going: order.keep_going,
-        compares: order.summary,
-        names_inputs: order.with_filename,
+/// `canonicalise` makes normal forms, of hexadecimal text where that is asked for.
+fn canonicalise_makes_normal_forms<'a>(messages: Messages<'a>, input: &'a str, output: Target<'a>) {
+    let work = Work::Write {
+        messages,
+        input,
+        output,
     };
-    let results = LineOptions {
-        profile: order.profile,
+    let action = Action::new(&work);
+    let reading = options_of(messages, false);
+    prove!(action == Action::Messages(Job::Canonicalise, reading));
+}
+
+/// A line has a normal form by `canonicalise`, and is checked by `check`.
+fn lines_have_the_job_of_their_command<'a>(profile: Profile, input: &'a str, output: Target<'a>) {
+    let written = Action::new(&Work::Lines {
+        profile,
+        input,
+        results: LineResults::Write(output),
+    });
+    let checked = Action::new(&Work::Lines {
+        profile,
+        input,
+        results: LineResults::Report(Report::Check),
+    });
+    let normal_form = LineOptions {
+        profile,
+        job: LineJob::Canonicalise,
+    };
+    let verdict = LineOptions {
+        profile,
         job: LineJob::Check,
     };
-    let task = Task::Each {
-        job: FileJob::Check,
+    prove!(written == Action::Lines(normal_form));
+    prove!(checked == Action::Lines(verdict));
+}
+
+/// `check` checks each message, and says so in words or as JSON.
+fn check_checks<'a>(json: bool, with_filename: bool, messages: Messages<'a>, inputs: Inputs<'a>) {
+    let work = Work::Print {
+        job: FileJob::Report(Report::Check),
+        json,
+        with_filename,
+        messages,
         inputs,
     };
-    match Plan::new(Order { task, ..order }) {
-        Plan::Print { action, .. } if lines => {
-            prove!(action == Action::Lines(results));
-        }
-        Plan::Print { action, .. } if json => {
-            prove!(action == Action::Messages(Job::CheckJson, reading));
-        }
-        Plan::Print { action, .. } => prove!(action == Action::Messages(Job::Check, reading)),
-        _ => unreachable!(),
+    let action = Action::new(&work);
+    let reading = options_of(messages, with_filename);
+    if json {
+        prove!(action == Action::Messages(Job::CheckJson, reading));
+    } else {
+        prove!(action == Action::Messages(Job::Check, reading));
     }
 }
 
 /// `same` reads messages of the profile that is asked for, and hexadecimal text exactly where that is.
-fn same_reads_what_it_is_asked_to(order: Order<'_>, first: &str, second: &str) {
-    let (profile, hex) = (order.profile, order.hex);
-    let task = Task::Compare { first, second };
-    match Plan::new(Order { task, ..order }) {
-        Plan::Compare { reading, .. } => {
-            prove!(reading.profile == profile && reading.hex == hex);
-        }
-        _ => unreachable!(),
-    }
+fn same_reads_what_it_is_asked_to(reading: Reading) {
+    let options = ReadOptions::new(reading);
+    prove!(options.profile == reading.profile && options.hex == reading.hex);
 }
 
 /// The lines of an input name it exactly where it is one of several, or where that is asked for. It is read as hexadecimal text exactly where that is asked for, and

@@ -2,7 +2,7 @@
 mod contracts;
 
 use clap::error::ErrorKind;
-use ill_args::{LineFault, Order, Task, order};
+use ill_args::{LineFault, LineResults, Order, Work, order};
 use ill_tables::Profile;
 use std::alloc::{AllocError, Global};
 use std::test::Fail;
@@ -77,15 +77,77 @@ fn words_of(alloc: Global, text: &str) -> Result<Vec<String>, AllocError> {
 }
 
 fn flags_of(order: &Order<'_>) -> Flags {
-    [
-        order.hex,
-        order.lines,
-        order.keep_going,
-        order.json,
-        order.summary,
-        order.whole,
-        order.with_filename,
-    ]
+    match order {
+        Order::Each(work) => flags_of_work(work),
+        Order::Compare { reading, .. } => [reading.hex, false, false, false, false, false, false],
+    }
+}
+
+fn flags_of_work(work: &Work<'_>) -> Flags {
+    match work {
+        Work::Print {
+            json,
+            with_filename,
+            messages,
+            ..
+        } => [
+            messages.reading.hex,
+            false,
+            messages.keep_going.is_some(),
+            *json,
+            messages.summary,
+            false,
+            *with_filename,
+        ],
+        Work::Dump {
+            elements,
+            with_filename,
+            ..
+        } => [
+            elements.reading.hex,
+            false,
+            elements.keep_going.is_some(),
+            false,
+            false,
+            false,
+            *with_filename,
+        ],
+        Work::Write {
+            messages,
+            output,
+            ..
+        }
+        | Work::Collect {
+            messages,
+            output,
+            ..
+        } => [
+            messages.reading.hex,
+            false,
+            messages.keep_going.is_some(),
+            false,
+            messages.summary,
+            output.is_whole(),
+            false,
+        ],
+        Work::Lines { results, .. } => [
+            false,
+            true,
+            false,
+            false,
+            false,
+            replaces_whole(*results),
+            false,
+        ],
+    }
+}
+
+/// Tells whether an output of lines is replaced only if every line was good.
+fn replaces_whole(results: LineResults<'_>) -> bool {
+    match results {
+        LineResults::Report(_) => false,
+        LineResults::Write(output) | LineResults::Collect(output) => output.is_whole(),
+    }
 }
 
 /// Tells whether words set these flags and no others.
@@ -101,8 +163,19 @@ fn are_set(alloc: Global, words: &str, flags: Flags) -> Result<bool, AllocError>
 fn profile_of(alloc: Global, words: &str) -> Result<Option<Profile>, AllocError> {
     let words = words_of(alloc, words)?;
     match order(alloc, &words) {
-        Ok(order) => Ok(Some(order.profile)),
+        Ok(Order::Compare { reading, .. }) => Ok(Some(reading.profile)),
+        Ok(Order::Each(work)) => Ok(Some(profile_of_work(&work))),
         Err(_fault) => Ok(None),
+    }
+}
+
+fn profile_of_work(work: &Work<'_>) -> Profile {
+    match work {
+        Work::Print { messages, .. }
+        | Work::Write { messages, .. }
+        | Work::Collect { messages, .. } => messages.reading.profile,
+        Work::Dump { elements, .. } => elements.reading.profile,
+        Work::Lines { profile, .. } => *profile,
     }
 }
 
@@ -190,11 +263,11 @@ fn gives_canonicalise(
 ) -> Result<bool, AllocError> {
     let words = words_of(alloc, words)?;
     match order(alloc, &words) {
-        Ok(order) => Ok(
-            flags_of(&order) == flags
-                && matches!(order.task, Task::Canonicalise { input, output } if input == from && output == to),
+        Ok(Order::Each(work)) => Ok(
+            flags_of_work(&work) == flags
+                && matches!(work, Work::Write { input, output, .. } if input == from && output.name() == to),
         ),
-        Err(_fault) => Ok(false),
+        _ => Ok(false),
     }
 }
 

@@ -5,11 +5,11 @@ ghost use Rattle.std.specs.String.{string_bytes};
 ghost use Rattle.clap.specs.declared.error.kind.ErrorKind.TheVariants.{ArgumentConflict, InvalidValue};
 ghost use Rattle.ill_args.specs.Refused.{IsRefusedBy};
 ghost use Rattle.ill_tables.specs.declared.profile.Profile.TheVariants.{Two, Module};
-ghost use Rattle.ill_args.specs.declared.fault.LineFault.TheVariants.{SameWord};
+ghost use Rattle.ill_args.specs.declared.fault.LineFault.{LineFault};
 ghost use Rattle.ill_args.specs.declared.orders.Order.{Order};
-ghost use Rattle.test_cli.specs.Tasks.{HasSameFlags, IsSameTask};
+ghost use Rattle.test_cli.specs.Orders.{profile_of, IsOfFiles, IsSameOrder};
 
-use ill_args::{LineFault, Order, Task, order};
+use ill_args::{LineFault, Order, Work, order};
 use std::alloc::Global;
 
 /// Words that give an order give one command on the same files, one profile, and one value of each flag.
@@ -17,20 +17,19 @@ fn words_give_one_order<'a>(
     words: &'a [String],
     alloc: Global,
 ) -> (Result<Order<'a>, LineFault>, Result<Order<'a>, LineFault>)
-    ensures task { (one other : Order) → result.0 ≡ Ok one → result.1 ≡ Ok other
-        → IsSameTask one.task other.task }
-    ensures flags { (one other : Order) → result.0 ≡ Ok one → result.1 ≡ Ok other
-        → HasSameFlags one other }
+    ensures { (one other : Order) → result.0 ≡ Ok one → result.1 ≡ Ok other
+        → IsSameOrder one other }
 {
     (order(alloc, words), order(alloc, words))
 }
 
-/// Words that give an order are not refused for the same word.
-fn words_have_no_same_word<'a>(
+/// Words that give an order have no fault of their files.
+fn words_have_no_fault_of_files<'a>(
     words: &'a [String],
     alloc: Global,
 ) -> (Result<Order<'a>, LineFault>, Result<Order<'a>, LineFault>)
-    ensures { (one : Order) → result.0 ≡ Ok one → result.1 ≡ Err SameWord → ⊥ }
+    ensures { (one : Order) (fault : LineFault) → result.0 ≡ Ok one → result.1 ≡ Err fault
+        → IsOfFiles fault → ⊥ }
 {
     (order(alloc, words), order(alloc, words))
 }
@@ -38,7 +37,7 @@ fn words_have_no_same_word<'a>(
 /// Words that name no profile are read in profile 2.
 fn profile_two_needs_no_name<'a>(words: &'a [String], alloc: Global) -> Result<Order<'a>, LineFault>
     requires { map string_bytes words.now ≡ codes "illcanon" ∷ codes "check" ∷ codes "A" ∷ [] }
-    ensures { IfOk result (λ order. order.profile ≡ Two) }
+    ensures { IfOk result (λ order. profile_of order ≡ Two) }
 {
     order(alloc, words)
 }
@@ -50,7 +49,7 @@ fn the_module_profile_is_named<'a>(
 ) -> Result<Order<'a>, LineFault>
     requires { map string_bytes words.now ≡ codes "illcanon" ∷ codes "same" ∷ codes "--profile"
         ∷ codes "module" ∷ codes "A" ∷ codes "B" ∷ [] }
-    ensures { IfOk result (λ order. order.profile ≡ Module) }
+    ensures { IfOk result (λ order. profile_of order ≡ Module) }
 {
     order(alloc, words)
 }
@@ -73,22 +72,25 @@ fn a_profile_is_named_once<'a>(words: &'a [String], alloc: Global) -> Result<Ord
     order(alloc, words)
 }
 
-/// No order reads standard input twice or writes a file that it reads by the same word, and each has a file.
+/// No order compares standard input with itself or writes a file that it reads by the same word, and each has a file.
 fn orders_have_files_of_their_own(words: &[String], alloc: Global) {
-    if let Ok(order) = order(alloc, words) {
-        prove!(!order.lines || !order.hex);
-        prove!(!order.lines || !order.keep_going);
-        prove!(!order.lines || !order.summary);
-        match order.task {
-            Task::Canonicalise { input, output } => {
-                prove!(input == "-" || input != output);
-            }
-            Task::Compare { first, second } => {
-                prove!(first != "-" || second != "-");
-            }
-            Task::Each { inputs, .. } | Task::Collect { inputs, .. } => {
-                prove!(!inputs.files.is_empty() || inputs.list.is_some());
-            }
+    match order(alloc, words) {
+        Ok(Order::Compare { first, second, .. }) => {
+            prove!(first != "-" || second != "-");
         }
+        Ok(Order::Each(Work::Write { input, output, .. })) => {
+            let name = output.name();
+            prove!(input == "-" || input != name);
+        }
+        Ok(
+            Order::Each(
+                Work::Print { inputs, .. }
+                | Work::Dump { inputs, .. }
+                | Work::Collect { inputs, .. },
+            ),
+        ) => {
+            prove!(!inputs.files.is_empty() || inputs.list.is_some());
+        }
+        Ok(Order::Each(Work::Lines { .. })) | Err(_) => {}
     }
 }

@@ -3,8 +3,8 @@ use Rattle.std.proofs.lemmas.Result.{IfOk-weaker}
 use Rattle.clap.specs.Words.{subcommand_of}
 use Rattle.ill_tables.specs.declared.profile.Profile.{Profile}
 use Rattle.ill_args.specs.CommandLine.{program}
-use Rattle.test_cli.proofs.Profiles.{named_in, profile_of, module_name}
+use Rattle.test_cli.proofs.Profiles.{found_profile, named_in, module_name}
 use Rattle.test_cli.proofs.tests.orders.contracts.the_module_profile_is_named.Goals as goal
 
 pub returns : goal.returns
-returns c = IfOk-weaker c.order.result _ _ (λ order h. profile_of _ order Profile.Module h (ap (λ words. named_in (subcommand_of program words)) c.requires ∙ module_name)) c.order.ensures.order
+returns c = IfOk-weaker c.order.result _ _ (λ order h. found_profile _ order Profile.Module h (ap (λ words. named_in (subcommand_of program words)) c.requires ∙ module_name)) c.order.ensures.order

@@ -1,7 +1,0 @@
-use Rattle.std.proofs.Common.{◌∙◌, sym, codes}
-use Rattle.clap.specs.Words.{found_of}
-use Rattle.clap.proofs.WalkLemmas.{first_value-rows}
-use Rattle.ill_args.proofs.matches.refused.Goals as goal
-
-pub returns : goal.returns
-returns c = sym (first_value-rows (found_of c.args.words.now) (codes "refused")) ∙ sym c.get_str.ensures
