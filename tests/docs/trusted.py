@@ -259,8 +259,8 @@ COLUMNS = [
     ("K", "Causes and depths in each profile", [("ill_refusals", name) for name in ("causes_of_profiles", "few_elements_are_open", "the_module_refuses_other_tags")]),
     ("J", "The program's jobs", [("ill_commands", "run_as"), ("ill_commands", "run_same_as")]),
     ("S", "Refused messages skipped, results as JSON", [
-        ("ill_normal", "for_each_accepted_message"),
-        ("ill_commands", "run_skipping"),
+        ("ill_normal", "read_input"),
+        ("ill_commands", "run_job"),
         ("ill_commands", "refused_json"),
         ("ill_json", "result_line"),
         ("ill_json", "refused_line"),
@@ -270,6 +270,9 @@ COLUMNS = [
         ("ill_args", "order"),
         ("ill_cli", "Action::new"),
         ("ill_cli", "InputAction::new"),
+        ("ill_cli", "do_in_turn"),
+        ("ill_cli", "run_order"),
+        ("ill_cli", "Summary::add"),
         *(("ill_files", name) for name in ("status_of", "combined_status", "is_output_lost", "keeps_output", "keeps_refused")),
     ]),
     ("C", "The calls for C", [("ill_c", None)]),
@@ -306,7 +309,7 @@ READING = "Rattle.ber_core.specs.Reading"
 LAWS = {(READING, name): ("ber_core", "headers_are_read") for name in ("class_of", "tagged", "read_digits", "read_number", "read_identifier", "read_length")}
 FEEDING = "Rattle.ill_read.specs.Feeding"
 LAWS.update({(FEEDING, name): ("ill_read", "decoders_are_apart") for name in ("IsOpenAt", "IsOpenAfter", "IsWholeWith", "HasFailedWith")})
-PRODUCT = "ber_tree ber_core ber_framing ber_leaf ill_tables ill_schema ill_refusals ill_inputs ill_read ill_write ill_normal ill_text ill_json ill_commands ill_walk ill_dump ill_args ill_files ill_batch ill_cli ill_c ill_parts ill_apdu".split()
+PRODUCT = "ber_tree ber_core ber_framing ber_leaf ill_tables ill_schema ill_refusals ill_inputs ill_read ill_write ill_normal ill_text ill_json ill_commands ill_walk ill_dump ill_args ill_files ill_cli ill_c ill_parts ill_apdu".split()
 
 
 def columns():

@@ -28,7 +28,7 @@ UNTOUCHED = {
     "ber_leaf": "null::NullLeaf::check",
     "ill_c": "profile::profile_numbered",
     "ill_grammar": "cell::levels_in",
-    "ill_normal": "visit::MessageCounts::new",
+    "ill_normal": "counts::Counts::none",
     "ill_parts": "leaves::number_value",
     "ill_read": "reader::Reader::outcome",
     "ill_schema": "entry::may_lack",

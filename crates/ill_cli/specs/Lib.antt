@@ -1,1 +1,5 @@
+pub mod Counts
+pub mod Ends
+pub mod Limit
 pub mod Plans
+pub mod code

@@ -15,6 +15,7 @@ use Rattle.ill_args.specs.declared.orders.Messages.{Messages}
 use Rattle.ill_args.specs.declared.orders.Reading.{Reading}
 use Rattle.ill_args.specs.declared.orders.Report.{Report}
 use Rattle.ill_args.specs.declared.orders.Work.{Work}
+use Rattle.ill_normal.specs.declared.messages.OnRefusal.{OnRefusal}
 use Rattle.ill_cli.specs.declared.plan.Action.{Action}
 use Rattle.ill_cli.specs.declared.plan.InputAction.{InputAction}
 use Rattle.ill_cli.specs.declared.plan.ReadOptions.{ReadOptions}
@@ -68,6 +69,10 @@ abbrev pub is_document : Action → Bool
 is_document (Action.Elements elements with_filename) = elements.html
 is_document _ = false
 
+-- with `--keep-going` the work goes on after a refused message; else it ends so
+abbrev pub on_refusal_of : Bool → OnRefusal → OnRefusal
+on_refusal_of keep_going last = if keep_going then OnRefusal.GoOn else last
+
 -- the work of a job on the input of this name, which its lines have where it is one of several, or where that is asked for
 abbrev pub options_of : Job → ReadOptions → Bor (List ℕ) → ℕ → JobOptions
 options_of job reading name count = record {
@@ -77,6 +82,7 @@ options_of job reading name count = record {
   name = name;
   names_input = reading.names_inputs || nat_lt 1 count;
   compares = reading.compares;
+  on_refusal = on_refusal_of reading.keep_going OnRefusal.Stop;
 }
 
 abbrev pub format_if : Bool → DumpFormat
@@ -91,12 +97,11 @@ dump_of elements with_filename name count = record {
   names_input = (with_filename || elements.html) || nat_lt 1 count;
   only = elements.message;
   format = format_if elements.html;
+  on_refusal = on_refusal_of (is_some elements.keep_going) OnRefusal.EndWith;
 }
 
 -- what is done with the input of this name, one of this many
 abbrev pub input_action_of : Action → Bor (List ℕ) → ℕ → InputAction
-input_action_of (Action.Messages job reading) name count =
-    if reading.keep_going then InputAction.AcceptedMessages (options_of job reading name count) else InputAction.Messages (options_of job reading name count)
-input_action_of (Action.Elements elements with_filename) name count =
-    if is_some elements.keep_going then InputAction.AllElements (dump_of elements with_filename name count) else InputAction.Elements (dump_of elements with_filename name count)
+input_action_of (Action.Messages job reading) name count = InputAction.Messages (options_of job reading name count)
+input_action_of (Action.Elements elements with_filename) name count = InputAction.Elements (dump_of elements with_filename name count)
 input_action_of (Action.Lines work) name count = InputAction.Lines work

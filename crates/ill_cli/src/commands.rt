@@ -1,8 +1,14 @@
 //! The commands: what is opened, and what is done with it.
+ghost use Rattle.std.specs.Prelude.{ℕ};
+ghost use Rattle.ill_files.specs.Status.{error_status};
+ghost use Rattle.ill_cli.specs.Ends.{IsClosedStatus, IsStatusOfLines, IsStatusOfOrder, IsStatusOfWork};
+
 use crate::compare::compare;
 use crate::plan::{Action, ReadOptions};
+use crate::run::Run;
+use crate::summary::{JsonSummary, Summary};
+use crate::tally::{Tally, end};
 use ill_args::{Inputs, LineResults, Order, Work, order};
-use ill_batch::{JsonSummary, Tally, collect, end, print_each, write_one};
 use ill_files::{
     Host, ProgramError, ProgressLine, print_error, printable_error, status_of, words_of,
 };
@@ -23,7 +29,9 @@ pub fn run_program<R: Print + Eprint + Input + Files + Env + AllocGlobal + Host>
 }
 
 /// Prints why words give no order, or the help that they ask for, and returns the exit status.
-fn end_of_words<R: Print + Eprint>(rt: &R, error: ProgramError) -> u8 {
+fn end_of_words<R: Print + Eprint>(rt: &R, error: ProgramError) -> u8
+    ensures { IsClosedStatus (error_status error) result }
+{
     let printed = print_error(rt, &error);
     let status = status_of(&Err(error));
     match printed {
@@ -37,7 +45,9 @@ fn end_of_words<R: Print + Eprint>(rt: &R, error: ProgramError) -> u8 {
 pub fn run_order<R: Print + Eprint + Input + Files + AllocGlobal + Host>(
     rt: &R,
     order: Order<'_>,
-) -> u8 {
+) -> u8
+    ensures { IsStatusOfOrder order.entry result }
+{
     match order {
         Order::Each(work) => run_work(rt, work),
         Order::Compare {
@@ -49,21 +59,22 @@ pub fn run_order<R: Print + Eprint + Input + Files + AllocGlobal + Host>(
 }
 
 /// Does the work on each input, prints the line of each error and that of the summary, and returns the exit status.
-fn run_work<R: Print + Eprint + Input + Files + AllocGlobal + Host>(rt: &R, work: Work<'_>) -> u8 {
+fn run_work<R: Print + Eprint + Input + Files + AllocGlobal + Host>(rt: &R, work: Work<'_>) -> u8
+    ensures { (status : ℕ) × IsStatusOfWork work.entry status × IsClosedStatus status result }
+{
     let is_counted = work.is_counted();
     let progress = if is_counted {
         ProgressLine::begin(rt)
     } else {
         ProgressLine::none()
     };
-    let mut tally = Tally::new(is_counted, work.max_refused(), &progress);
+    let tally = Tally::new(is_counted, work.max_refused(), &progress);
     let is_json = work.has_json_reports();
-    let status = run_inputs(rt, work, &mut tally);
+    let (status, summary) = run_inputs(rt, work, tally);
     if !is_counted {
         return status;
     }
     progress.clear(rt);
-    let summary = tally.summary;
     if is_json {
         return print_json(rt, JsonSummary(summary), status);
     }
@@ -73,89 +84,70 @@ fn run_work<R: Print + Eprint + Input + Files + AllocGlobal + Host>(rt: &R, work
 }
 
 /// Prints the numbers as a line of the output, and returns the exit status of the work, or that of the line where it can't be written.
-fn print_json<R: Print + Eprint>(rt: &R, summary: JsonSummary, status: u8) -> u8 {
+fn print_json<R: Print + Eprint>(rt: &R, summary: JsonSummary, status: u8) -> u8
+    ensures { IsClosedStatus status result }
+{
     match println!(rt; "{summary}") {
         Ok(()) => status,
         Err(error) => end(rt, &Err(ProgramError::of_output(&error))),
     }
 }
 
-/// Does the work on each input, prints the line of each error, and returns the exit status.
+/// Does the work on each input, prints the line of each error, and returns the exit status and the numbers.
 fn run_inputs<R: Print + Eprint + Input + Files + AllocGlobal + Host>(
     rt: &R,
     work: Work<'_>,
-    tally: &mut Tally<'_>,
-) -> u8 {
-    let action = Action::new(&work);
+    tally: Tally<'_>,
+) -> (u8, Summary)
+    ensures { IsStatusOfWork work.entry result.0 }
+{
+    let mut run = Run::new(rt, Action::new(&work), refused_file(&work), tally);
+    let status = run_each(&mut run, work);
+    (status, run.tally.summary)
+}
+
+/// Does the work on each input, prints the line of each error, and returns the exit status.
+fn run_each<R: Print + Eprint + Input + Files + AllocGlobal + Host>(
+    run: &mut Run<'_, '_, '_, R>,
+    work: Work<'_>,
+) -> u8
+    ensures { IsStatusOfWork work.entry result }
+{
     match work {
-        Work::Print {
-            messages,
-            inputs,
-            ..
-        } => print_each(rt, action, &inputs, messages.refused(), tally),
-        Work::Dump { inputs, .. } => print_each(rt, action, &inputs, None, tally),
-        Work::Write {
-            messages,
-            input,
-            output,
-        } => write_one(
-            rt,
-            action,
-            input,
-            output.name(),
-            output.is_whole(),
-            messages.refused(),
-            tally,
-        ),
-        Work::Collect {
-            messages,
-            inputs,
-            output,
-        } => collect(
-            rt,
-            action,
-            &inputs,
-            output.name(),
-            output.is_whole(),
-            messages.refused(),
-            tally,
-        ),
-        Work::Lines { input, results, .. } => run_lines(rt, action, input, results, tally),
+        Work::Print { inputs, .. } => run.print_each(&inputs),
+        Work::Dump { inputs, .. } => run.print_each(&inputs),
+        Work::Write { input, output, .. } => run.write_one(input, output.name(), output.is_whole()),
+        Work::Collect { inputs, output, .. } => {
+            run.collect(&inputs, output.name(), output.is_whole())
+        }
+        Work::Lines { input, results, .. } => run_lines(run, input, results),
+    }
+}
+
+/// The name of the file that gets the octets of refused messages, if there is one.
+fn refused_file<'a>(work: &Work<'a>) -> Option<&'a str> {
+    match work {
+        Work::Print { messages, .. }
+        | Work::Write { messages, .. }
+        | Work::Collect { messages, .. } => messages.refused(),
+        Work::Dump { .. } | Work::Lines { .. } => None,
     }
 }
 
 /// Writes the result of each line of an input, prints the line of each error, and returns the exit status.
 fn run_lines<R: Print + Eprint + Input + Files + AllocGlobal + Host>(
-    rt: &R,
-    action: Action,
+    run: &mut Run<'_, '_, '_, R>,
     input: &str,
     results: LineResults<'_>,
-    tally: &mut Tally<'_>,
-) -> u8 {
-    let Ok(inputs) = Inputs::one(rt.alloc(), input) else {
-        return end(rt, &Err(ProgramError::out_of_memory()));
+) -> u8
+    ensures { IsStatusOfLines results.entry result }
+{
+    let Ok(inputs) = Inputs::one(run.rt.alloc(), input) else {
+        return end(run.rt, &Err(ProgramError::out_of_memory()));
     };
     match results {
-        LineResults::Report(_) => print_each(rt, action, &inputs, None, tally),
-        LineResults::Write(output) => {
-            write_one(
-                rt,
-                action,
-                input,
-                output.name(),
-                output.is_whole(),
-                None,
-                tally,
-            )
-        }
-        LineResults::Collect(output) => collect(
-            rt,
-            action,
-            &inputs,
-            output.name(),
-            output.is_whole(),
-            None,
-            tally,
-        ),
+        LineResults::Report(_) => run.print_each(&inputs),
+        LineResults::Write(output) => run.write_one(input, output.name(), output.is_whole()),
+        LineResults::Collect(output) => run.collect(&inputs, output.name(), output.is_whole()),
     }
 }

@@ -9,13 +9,23 @@
 //! ```
 #![tactic(auto)]
 
+mod collect;
 mod commands;
 mod compare;
+mod in_turn;
 mod input;
+mod limit;
 mod plan;
-mod put_inputs;
+mod print;
+mod refused;
+mod report_lines;
 mod results;
+mod run;
+mod summary;
+mod tally;
+mod write;
 
 pub use commands::{run_order, run_program};
-pub use ill_batch::{JsonSummary, LeftAt, ReportLine, Summary};
 pub use plan::{Action, InputAction, ReadOptions};
+pub use report_lines::ReportLine;
+pub use summary::{JsonSummary, LeftAt, Summary};

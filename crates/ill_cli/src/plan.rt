@@ -1,10 +1,11 @@
 //! Actions of orders: what is done with each input, by which flags.
 ghost use Rattle.std.specs.Prelude.{◌≡◌};
-ghost use Rattle.ill_cli.specs.Plans.{action_of, format_if, input_action_of, is_document, job_of, line_job_of, names_inputs, read_options_of};
+ghost use Rattle.ill_cli.specs.Plans.{action_of, format_if, input_action_of, is_document, job_of, line_job_of, names_inputs, on_refusal_of, read_options_of};
 
 use ill_args::{Elements, FileJob, LineResults, Messages, Reading, Report, Work};
 use ill_commands::{Job, JobOptions, LineJob, LineOptions};
 use ill_dump::{DumpFormat, DumpOptions};
+use ill_normal::OnRefusal;
 use ill_schema::Profile;
 
 /// The options of reading messages.
@@ -182,17 +183,23 @@ fn format_if(html: bool) -> DumpFormat
     }
 }
 
+/// What is done at a refused message, where `last` is done at one with which the work ends.
+fn on_refusal(keep_going: bool, last: OnRefusal) -> OnRefusal
+    ensures { result ≡ on_refusal_of keep_going last }
+{
+    if keep_going {
+        return OnRefusal::GoOn;
+    }
+    last
+}
+
 /// The action on one input.
 #[derive(Clone, Copy)]
 pub enum InputAction<'a> {
-    /// A job with one message after another, up to one that is refused.
+    /// A job with one message after another.
     Messages(JobOptions<'a>),
-    /// A job with each message that isn't refused. A line is printed for each of the others.
-    AcceptedMessages(JobOptions<'a>),
-    /// The elements of one message after another, up to one that is refused.
+    /// The elements of one message after another.
     Elements(DumpOptions<'a>),
-    /// The elements of each message. A line is printed for each that is refused.
-    AllElements(DumpOptions<'a>),
     /// A result for each line.
     Lines(LineOptions),
 }
@@ -208,39 +215,27 @@ impl<'a> InputAction<'a> {
         ensures { result ≡ input_action_of action name.entry count }
     {
         match action {
-            Action::Messages(job, reading) => {
-                let work = JobOptions {
-                    job,
-                    profile: reading.profile,
-                    hex: reading.hex,
-                    name,
-                    names_input: reading.names_inputs || count > 1,
-                    compares: reading.compares,
-                };
-                if reading.keep_going {
-                    InputAction::AcceptedMessages(work)
-                } else {
-                    InputAction::Messages(work)
-                }
-            }
+            Action::Messages(job, reading) => InputAction::Messages(JobOptions {
+                job,
+                profile: reading.profile,
+                hex: reading.hex,
+                name,
+                names_input: reading.names_inputs || count > 1,
+                compares: reading.compares,
+                on_refusal: on_refusal(reading.keep_going, OnRefusal::Stop),
+            }),
             Action::Elements {
                 elements,
                 names_inputs,
-            } => {
-                let dump = DumpOptions {
-                    profile: elements.reading.profile,
-                    hex: elements.reading.hex,
-                    name,
-                    names_input: names_inputs || elements.html || count > 1,
-                    only: elements.message,
-                    format: format_if(elements.html),
-                };
-                if elements.keep_going.is_some() {
-                    InputAction::AllElements(dump)
-                } else {
-                    InputAction::Elements(dump)
-                }
-            }
+            } => InputAction::Elements(DumpOptions {
+                profile: elements.reading.profile,
+                hex: elements.reading.hex,
+                name,
+                names_input: names_inputs || elements.html || count > 1,
+                only: elements.message,
+                format: format_if(elements.html),
+                on_refusal: on_refusal(elements.keep_going.is_some(), OnRefusal::EndWith),
+            }),
             Action::Lines(work) => InputAction::Lines(work),
         }
     }

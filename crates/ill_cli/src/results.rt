@@ -1,19 +1,19 @@
 //! Results as lines of JSON, those of refused messages among them.
-ghost use Rattle.std.specs.Prelude.{◌≡◌, None, IfOk};
-ghost use Rattle.ill_normal.specs.Calls.{putting, taking};
-ghost use Rattle.ill_normal.specs.Skipping.{reporting};
-ghost use Rattle.ill_normal.specs.declared.skipping.SkippingCounts.{SkippingCounts};
+ghost use Rattle.std.specs.Prelude.{◌≡◌, IfOk};
+ghost use Rattle.ill_normal.specs.Calls.{taking};
+ghost use Rattle.ill_normal.specs.declared.messages.OnRefusal.{OnRefusal as Mode};
 ghost use Rattle.ill_inputs.specs.declared.place.RefusalPlace.{RefusalPlace};
 ghost use Rattle.ill_commands.specs.Refusals.{IsRefusedLine};
-ghost use Rattle.ill_commands.specs.Skipping.{verdict_of_counts, RunsSkipping};
+ghost use Rattle.ill_cli.specs.code.Puts.{IsJobPut};
 ghost use Rattle.ill_cli.specs.Plans.{is_json_result};
 
-use crate::input::left_at;
+use crate::limit::RefusalLimit;
+use crate::refused::KeepRefused;
+use crate::tally::Tally;
 use ber_core::{Buffered, BufferedSource, Sink, put_all};
-use ill_batch::{KeepRefused, LeftAt, RefusalLimit, Tally};
 use ill_commands::{
-    Job, JobOptions, RefusalKind, RefusalReport, RefusedLine, ReportRefusals, RunFault,
-    SkippingCounts, Verdict, refused_json, run_skipping_peeking, verdict_of,
+    Job, JobOptions, RefusalKind, RefusalReport, RefusedLine, ReportRefusals, RunFault, Verdict,
+    refused_json, run_job, verdict_of,
 };
 use ill_dump::place_of_refusal;
 use ill_files::ProgramError;
@@ -30,7 +30,7 @@ pub(crate) fn has_json_result(job: Job) -> bool
 
 /// Writes the line of each message that is refused, and counts the kinds of refusals.
 #[derive(Drop)]
-struct WriteRefused<'a, V, S: Write + Drop, F: Write + Drop> {
+pub(crate) struct WriteRefused<'a, V, P: Write + Drop, Q: Write + Drop> {
     alloc: Global,
     work: JobOptions<'a>,
     sink: V,
@@ -39,11 +39,9 @@ struct WriteRefused<'a, V, S: Write + Drop, F: Write + Drop> {
     /// The number of messages that are only not read.
     not_read: u32,
     /// Gets the octets of the messages.
-    kept: KeepRefused<'a, S, F>,
+    kept: KeepRefused<'a, P, Q>,
     /// The number of messages that the work goes on to.
     limit: RefusalLimit,
-    /// The place of the last message, if its end is unknown.
-    endless: Option<LeftAt>,
     /// The reason why the work ended with a message.
     stop: Option<Stop>,
 }
@@ -57,7 +55,31 @@ enum Stop {
     Limit(RefusalReport),
 }
 
-impl<V: Sink, S: Write + Drop, F: Write + Drop> WriteRefused<'_, V, S, F> {
+impl<'a, V, P: Write + Drop, Q: Write + Drop> WriteRefused<'a, V, P, Q> {
+    /// No message was refused yet. The lines go to `sink`.
+    pub(crate) fn new(
+        alloc: Global,
+        work: JobOptions<'a>,
+        sink: V,
+        kept: KeepRefused<'a, P, Q>,
+        limit: RefusalLimit,
+    ) -> WriteRefused<'a, V, P, Q>
+        ensures { result.work ≡ work.entry }
+    {
+        WriteRefused {
+            alloc,
+            work,
+            sink,
+            buffer: Vec::new(alloc),
+            not_read: 0,
+            kept,
+            limit,
+            stop: None,
+        }
+    }
+}
+
+impl<V: Sink, P: Write + Drop, Q: Write + Drop> WriteRefused<'_, V, P, Q> {
     /// Writes the line of a message.
     fn write(&mut self, report: RefusalReport, octets: &[u8]) -> Result<(), RunFault> {
         let mut buffer = Vec::new(self.alloc);
@@ -75,14 +97,13 @@ impl<V: Sink, S: Write + Drop, F: Write + Drop> WriteRefused<'_, V, S, F> {
     }
 }
 
-impl<V: Sink, S: Write + Drop, F: Write + Drop> ReportRefusals for WriteRefused<'_, V, S, F> {
+impl<V: Sink, P: Write + Drop, Q: Write + Drop> ReportRefusals for WriteRefused<'_, V, P, Q> {
     ghost use Rattle.std.specs.Prelude.{None};
 
     ghost reported = { λ _. None };
 
     fn report(&mut self, report: RefusalReport, octets: &[u8]) -> Result<(), NotReported> {
         self.kept.keep(report, octets);
-        self.endless = LeftAt::of_endless(report);
         if let Err(fault) = self.write(report, octets) {
             self.stop = Some(Stop::Fault(fault));
             return Err(NotReported);
@@ -110,91 +131,31 @@ fn line_of(
     refused_json(alloc, work, report, octets, &place, buffer)
 }
 
-/// Writes the result of each message, of refused ones too. `refused` is a second sink to the output.
-pub(crate) fn put_results<'a, S: BufferedSource, W: Sink, V: Sink + Drop, P, Q>(
-    alloc: Global,
-    work: JobOptions<'a>,
+/// Writes the result of each message, of refused ones too. Their lines go to `reports`, which has a second sink to the output.
+pub(crate) fn put_results<S: BufferedSource, W: Sink + Drop, P, Q>(
     source: &mut S,
     sink: &mut W,
-    refused: V,
-    kept: KeepRefused<'a, P, Q>,
+    mut reports: WriteRefused<'_, W, P, Q>,
     tally: &mut Tally<'_>,
 ) -> Result<Verdict, ProgramError>
 where
     P: Write + Drop,
     Q: Write + Drop,
-    ensures { IfOk result (λ verdict. (counts : SkippingCounts)
-        × (verdict ≡ verdict_of_counts work.entry.job counts)
-        × RunsSkipping work.entry.hex work.entry
-        (taking (S.left source.old) (S.left source.new) (S.is_broken source.new))
-        (putting (W.contents sink.old) (W.contents sink.new) (W.is_broken sink.new))
-        (reporting None None) counts) }
+    ensures { let work = reports.entry.work in work.on_refusal ≡ Mode.GoOn
+        → IfOk result (λ verdict. IsJobPut work
+        (taking (S.left source.old) (S.left source.new) (S.is_broken source.new)) verdict) }
 {
-    let mut reports = reports_to(alloc, work, refused, kept, tally.limit);
-    let ran = run_skipping_peeking::<S, Buffered, W, _>(alloc, work, source, sink, &mut reports);
+    let alloc = reports.alloc;
+    let work = reports.work;
+    let end = run_job::<S, Buffered, W, _>(alloc, work, source, sink, &mut reports);
     reports.kept.add_to(tally);
     tally.limit = reports.limit;
     tally.summary.add_not_read(reports.not_read);
-    match ran {
-        Ok(counts) => {
-            tally.left_at = reports.endless;
-            tally.summary.add_skipping(counts);
-            Ok(verdict_of(work.job, counts))
-        }
-        Err(error) => Err(match reports.stop {
-            Some(Stop::Limit(last)) => tally.stop(error.before, last),
-            Some(Stop::Fault(fault)) => stopped(fault, error.before, tally),
-            None => stopped(error.fault, error.before, tally),
-        }),
-    }
-}
-
-/// Writes the result of each message up to the first that is refused.
-pub(crate) fn put_first_results<S: BufferedSource, W: Sink, V: Sink + Drop, P, Q>(
-    alloc: Global,
-    work: JobOptions<'_>,
-    source: &mut S,
-    sink: &mut W,
-    refused: V,
-    kept: KeepRefused<'_, P, Q>,
-    tally: &mut Tally<'_>,
-) -> Result<Verdict, ProgramError>
-where
-    P: Write + Drop,
-    Q: Write + Drop,
-{
-    // The first refused message is the last one.
-    tally.limit = RefusalLimit::new(Some(1));
-    match put_results(alloc, work, source, sink, refused, kept, tally) {
-        Err(ProgramError::RefusedEnough(_)) => Ok(Verdict::NotGood),
-        done => done,
-    }
-}
-
-/// No message was refused yet.
-fn reports_to<'a, V, P: Write + Drop, Q: Write + Drop>(
-    alloc: Global,
-    work: JobOptions<'a>,
-    sink: V,
-    kept: KeepRefused<'a, P, Q>,
-    limit: RefusalLimit,
-) -> WriteRefused<'a, V, P, Q> {
-    WriteRefused {
-        alloc,
-        work,
-        sink,
-        buffer: Vec::new(alloc),
-        not_read: 0,
-        kept,
-        limit,
-        endless: None,
-        stop: None,
-    }
-}
-
-/// Counts the messages before a fault, and says what it is.
-fn stopped(fault: RunFault, before: SkippingCounts, tally: &mut Tally<'_>) -> ProgramError {
-    tally.left_at = left_at(fault, before.messages, before.octets);
-    tally.summary.add_skipping(before);
-    ProgramError::from(fault)
+    let last = match reports.stop {
+        Some(Stop::Fault(fault)) => return Err(tally.fail(end.counts, fault)),
+        Some(Stop::Limit(last)) => Some(last),
+        None => None,
+    };
+    let counts = tally.add_input(end, work.on_refusal, last)?;
+    Ok(verdict_of(work.job, counts))
 }

@@ -12,10 +12,9 @@ use Rattle.ill_tables.specs.declared.profile.Profile.{Profile as Named}
 use Rattle.ill_inputs.proofs.TakenOctets.{front}
 use Rattle.ill_normal.specs.Messages.{Spelling, AreSpelledIn}
 use Rattle.ill_normal.proofs.LongestStreams.{nothing_over, no_longer, one_rest}
-use Rattle.ill_normal.proofs.WrittenMessages.{spelled_front}
+use Rattle.ill_normal.proofs.StoppedReading.{spelled_front}
 use Rattle.ill_normal.proofs.NormalStreams.{apdus_of, as_many, stream_of}
 use Rattle.ill_normal.specs.Calls.{taking, putting}
-use Rattle.ill_commands.specs.declared.job.Counts.{Counts}
 use Rattle.ill_inputs.specs.declared.verdict.Verdict.{Verdict}
 use Rattle.ill_commands.specs.declared.job.JobOptions.{JobOptions}
 use Rattle.ill_inputs.specs.declared.run_fault.RunFault.{RunFault}
@@ -66,11 +65,11 @@ one_left p s r t ms ns h k e =
 over : (p : Profile) (a : Apdu) (n : ℕ) → Accepts p [] a n → ⊥
 over p a n h = nothing_over p [] refl a n h
 
-module _ (work : JobOptions) (s : List ℕ) (left' held held' : Option (List ℕ)) (counts : Counts) where
+module _ (work : JobOptions) (s : List ℕ) (left' held held' : Option (List ℕ)) where
   abbrev q : Profile
   q = profile_of work.profile
 
-  module _ (v : Verdict) (d : Done work (Some s) left' held held' counts v) where
+  module _ (v : Verdict) (d : Done work (Some s) left' held held' v) where
     whole : AreSpelledIn q s d.messages []
     whole =
         let t = taken_of work s left' held held' d.messages d.writes in
@@ -155,18 +154,18 @@ module _ (work : JobOptions) (s : List ℕ) (left' held held' : Option (List ℕ
 
   -- the result of messages of which s is made
   module _ (x y : Bool) where
-    pub does : (answer : Result Verdict RunFault) → IfOk answer (Done work (Some s) left' held held' counts) → IfErr answer (JobStopsAfter work (taking (Some s) left' x) (putting held held' y) counts)
+    pub does : (answer : Result Verdict RunFault) → IfOk answer (Done work (Some s) left' held held') → IfErr answer (JobStopsAfter work (taking (Some s) left' x) (putting held held' y))
         → (ms : List Spelling) → AreSpelledIn q s ms [] → length ms ≤ 1_000_000 → AnswersVerdict answer (verdict_of q work.job ms)
     does (Ok v) d n ms h le = done_does v d ms h
     does (Err e) d n ms h le = stop_does x y n.messages n.rest n.grown n.writes e n.stops ms h le
 
-    pub refuses : (answer : Result Verdict RunFault) → IfOk answer (Done work (Some s) left' held held' counts) → IfErr answer (JobStopsAfter work (taking (Some s) left' x) (putting held held' y) counts)
+    pub refuses : (answer : Result Verdict RunFault) → IfOk answer (Done work (Some s) left' held held') → IfErr answer (JobStopsAfter work (taking (Some s) left' x) (putting held held' y))
         → (rest : List ℕ) (ms : List Spelling) (f : Fault) → AreSpelledIn q s ms rest → length ms < 1_000_000 → 0 < length rest → OnlyRefuses q rest f
         → AnswersRefused answer (length ms + 1) f
     refuses (Ok v) d n rest ms f h lt some only = absurd (done_refuses v d rest ms f h some only)
     refuses (Err e) d n rest ms f h lt some only = stop_refuses x y n.messages n.rest n.grown n.writes e n.stops rest ms f h lt some only
 
-    pub refuses_more : (answer : Result Verdict RunFault) → IfOk answer (Done work (Some s) left' held held' counts) → IfErr answer (JobStopsAfter work (taking (Some s) left' x) (putting held held' y) counts)
+    pub refuses_more : (answer : Result Verdict RunFault) → IfOk answer (Done work (Some s) left' held held') → IfErr answer (JobStopsAfter work (taking (Some s) left' x) (putting held held' y))
         → (rest : List ℕ) (ms : List Spelling) → AreSpelledIn q s ms rest → length ms ≡ 1_000_000 → 0 < length rest → AnswersFault answer RunFault.TooManyMessages
     refuses_more (Ok v) d n rest ms h many some = absurd (done_many v d rest ms h many some)
     refuses_more (Err e) d n rest ms h many some = stop_many x y n.messages n.rest n.grown n.writes e n.stops rest ms h many some

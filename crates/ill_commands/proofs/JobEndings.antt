@@ -1,29 +1,28 @@
 -- What a job leaves that read the messages of its input.
-use Rattle.std.proofs.Common.{◌≡◌, ℕ, ◌+◌, ◌<◌, ◌≤◌, Bool, true, List, [], ◌∷◌, ◌++◌, length, take, Option, refl, sym, ap, subst, ◌∙◌, arith, length-append}
+use Rattle.std.proofs.Common.{◌≡◌, ℕ, ◌+◌, Bool, true, false, ◌&&◌, List, [], ◌∷◌, ◌++◌, length, take, Option, Some, None, refl, sym, ap, ap₂, subst, ◌∙◌, arith, inl, inr, length-append}
+use Rattle.std.specs.Prelude.{IfOk, IfErr, ◌==◌}
 use Rattle.std.specs.List.{list_all}
-use Rattle.std.specs.Io.KnownBytes.{Appends}
-use Rattle.std.proofs.KnownBytes.{Appends-trans}
+use Rattle.std.specs.Io.KnownBytes.{Appends, Keeps}
+use Rattle.std.proofs.KnownBytes.{Appends-trans, Keeps-refl}
 use Rattle.std.proofs.Math.Seq.{take-append-add}
 use Rattle.ber_leaf.specs.Profile.{Profile}
 use Rattle.ill_schema.specs.Profiles.{profile_of}
-use Rattle.ill_read.specs.declared.failure.ReadFailure.{ReadFailure}
 use Rattle.ill_normal.specs.Calls.{Taking, taking, Putting, putting}
-use Rattle.ill_normal.specs.Messages.{Spelling, position, position_after, good_of, PassesAllIn, BreaksWithinIn, EndsIn, EndsAfterIn, TakesNoFurtherIn, part_written}
-use Rattle.ill_normal.specs.declared.messages.MessagePlace.{MessagePlace}
-use Rattle.ill_normal.specs.declared.messages.StreamCounts.{StreamCounts}
-use Rattle.ill_normal.specs.declared.messages.StreamError.{StreamError}
-use Rattle.ill_normal.specs.declared.messages.StreamErrorKind.{StreamErrorKind}
-use Rattle.ill_normal.proofs.WrittenMessages.{output_push}
+use Rattle.ill_normal.specs.Messages.{Spelling, first, good_of, position_after}
+use Rattle.std.proofs.lemmas.Result.{IfErr-weaker, IfOk-weaker}
+use Rattle.ill_normal.specs.Entries.{BreaksText, WritesText}
+use Rattle.ill_normal.specs.Reading.{ReadsInput, Reporting}
+use Rattle.ill_normal.specs.declared.counts.Counts.{Counts}
+use Rattle.ill_normal.specs.declared.messages.OnRefusal.{OnRefusal}
+use Rattle.ill_normal.specs.declared.messages.StreamEnd.{StreamEnd}
+use Rattle.ill_normal.proofs.StoppedReading.{BreaksWithin, PassesAll, Reads, StopsAfter, StopsFor, all_good, output_push, passes, stops_after}
+use Rattle.ill_inputs.specs.Inputs.{verdict_if}
+use Rattle.ill_inputs.specs.declared.run_fault.RunFault.{RunFault}
 use Rattle.ill_commands.specs.declared.job.JobOptions.{JobOptions}
 use Rattle.ill_commands.specs.declared.job.Job.{Job}
-use Rattle.ill_inputs.specs.Inputs.{verdict_if}
-use Rattle.ill_commands.specs.Output.{message_output, output, counts_as_good, counts_of, is_counted_good, verdict_of}
-use Rattle.ill_commands.specs.Runs.{WritesMessages, BrokeAt, Stops, JobStopsAfter, Done}
-use Rattle.ill_commands.specs.code.Endings.{counts_with, fault_after, run_fault, verdict_by}
-
--- where the first message is
-abbrev start : MessagePlace
-start = position 1 0
+use Rattle.ill_commands.specs.Output.{message_output, output, counts_as_good, is_counted_good, verdict_of, verdict_of_counts}
+use Rattle.ill_commands.specs.Runs.{BrokeAt, Stops, JobStopsAfter, Done, RunDone, RunFails}
+use Rattle.ill_commands.specs.code.Endings.{answer_by, answer_of}
 
 all_true : (ms : List Spelling) → list_all (λ m. true) ms ≡ true
 all_true [] = refl
@@ -34,82 +33,96 @@ module _ (work : JobOptions) where
   q = profile_of work.profile
 
   -- the job asks for what was counted, or for nothing
-  is_verdict : (job : Job) (compares : Bool) (ms : List Spelling) → verdict_by job (list_all (counts_as_good q job compares) ms) ≡ verdict_of q job ms
-  is_verdict Job.Check compares ms = refl
-  is_verdict Job.CheckJson compares ms = refl
-  is_verdict Job.DigestJson compares ms = sym (ap verdict_if (all_true ms))
-  is_verdict Job.Show compares ms = sym (ap verdict_if (all_true ms))
-  is_verdict Job.Json compares ms = sym (ap verdict_if (all_true ms))
-  is_verdict Job.Digest compares ms = sym (ap verdict_if (all_true ms))
-  is_verdict Job.Canonicalise compares ms = sym (ap verdict_if (all_true ms))
+  is_verdict : (job : Job) (compares : Bool) (counts : Counts) (ms : List Spelling) → counts.messages ≡ length ms → counts.refused ≡ 0 → counts.good ≡ good_of (counts_as_good q job compares) ms
+      → verdict_of_counts job counts ≡ verdict_of q job ms
+  is_verdict Job.Check compares counts ms count none goods =
+      ap verdict_if (ap₂ (λ (a b : Bool). a && b) (ap (λ (n : ℕ). n == 0) none) (ap₂ (λ (a b : ℕ). a == b) (ap₂ (λ (a b : ℕ). a + b) none goods ∙ plain) count ∙ all_good (counts_as_good q Job.Check compares) ms))
+    where
+      plain : 0 + good_of (counts_as_good q Job.Check compares) ms ≡ good_of (counts_as_good q Job.Check compares) ms
+      plain = omega arith
+  is_verdict Job.CheckJson compares counts ms count none goods =
+      ap verdict_if (ap₂ (λ (a b : Bool). a && b) (ap (λ (n : ℕ). n == 0) none) (ap₂ (λ (a b : ℕ). a == b) (ap₂ (λ (a b : ℕ). a + b) none goods ∙ plain) count ∙ all_good (counts_as_good q Job.CheckJson compares) ms))
+    where
+      plain : 0 + good_of (counts_as_good q Job.CheckJson compares) ms ≡ good_of (counts_as_good q Job.CheckJson compares) ms
+      plain = omega arith
+  is_verdict Job.DigestJson compares counts ms count none goods = ap verdict_if (ap (λ (n : ℕ). n == 0) none ∙ sym (all_true ms))
+  is_verdict Job.Show compares counts ms count none goods = ap verdict_if (ap (λ (n : ℕ). n == 0) none ∙ sym (all_true ms))
+  is_verdict Job.Json compares counts ms count none goods = ap verdict_if (ap (λ (n : ℕ). n == 0) none ∙ sym (all_true ms))
+  is_verdict Job.Digest compares counts ms count none goods = ap verdict_if (ap (λ (n : ℕ). n == 0) none ∙ sym (all_true ms))
+  is_verdict Job.Canonicalise compares counts ms count none goods = ap verdict_if (ap (λ (n : ℕ). n == 0) none ∙ sym (all_true ms))
 
-  same_counts : (octets : List ℕ) (ms : List Spelling) (messages good size : ℕ) → messages ≡ length ms → good ≡ good_of (is_counted_good work) ms → size ≡ length octets
-      → counts_with messages good size ≡ counts_of work octets ms
-  same_counts octets ms messages good size a b c =
-      ap (λ (n : ℕ). counts_with n good size) a ∙ ap (λ (n : ℕ). counts_with (length ms) n size) b
-      ∙ ap (counts_with (length ms) (good_of (is_counted_good work) ms)) c
-
-  pub done_all : (left left' held held' : Option (List ℕ)) (p : StreamCounts) → PassesAllIn q (message_output work) (is_counted_good work) left left' held held' p
-      → Done work left left' held held' (counts_with p.whole p.good p.octets) (verdict_by work.job p.all_good)
-  done_all left left' held held' p h = record {
+  done_all : (left left' held held' : Option (List ℕ)) (counts : Counts) → PassesAll q (message_output work) (is_counted_good work) left left' held held' counts
+      → Done work left left' held held' (verdict_of_counts work.job counts)
+  done_all left left' held held' counts h = record {
     messages = h.messages;
     writes = h.writes;
-    counted = same_counts h.writes.octets h.messages p.whole p.good p.octets h.count h.good h.octets;
     end = h.end;
     few = h.few;
-    is_verdict = ap (verdict_by work.job) h.all ∙ is_verdict work.job work.compares h.messages;
+    is_verdict = is_verdict work.job work.compares counts h.messages h.count h.none h.goods;
   }
 
   -- the sink broke within a message
-  broke_within : (left : Option (List ℕ)) (source : Taking) (sink : Putting) (first : Option (List ℕ)) (ms : List Spelling) (n written : ℕ)
-      → WritesMessages work left source.left first sink.held ms → written ≡ length (output work ms) + n
-      → BreaksWithinIn q (message_output work (position_after start ms)) source sink n → BrokeAt work source.left source.left' first sink.held' ms written
-  broke_within left source sink first ms n written w size b =
-      let text = message_output work (position_after start ms) in
+  broke_within : (source : Taking) (sink : Putting) (held : Option (List ℕ)) (ms : List Spelling) (written k n : ℕ) → Appends held sink.held (output work ms) → written ≡ length (output work ms)
+      → n ≡ written + k → BreaksWithin q (message_output work (position_after first ms)) source sink k → BrokeAt work source.left source.left' held sink.held' ms n
+  broke_within source sink held ms written k n w size sum b =
+      let text = message_output work (position_after first ms) in
       let m = b.message in
       let so_far = output work ms in
-      let all : output work (ms ++ m ∷ []) ≡ so_far ++ text m = output_push (message_output work) start ms m in
-      let part : so_far ++ take n (text m) ≡ take written (output work (ms ++ m ∷ [])) =
-      sym (ap (λ (k : ℕ). take k (output work (ms ++ m ∷ []))) size ∙ ap (λ l. take (length so_far + n) l) all ∙ take-append-add so_far (text m) n) in
+      let all : output work (ms ++ m ∷ []) ≡ so_far ++ text m = output_push (message_output work) first ms m in
+      let total : n ≡ length so_far + k = omega (arith, size, sum) in
+      let part : so_far ++ take k (text m) ≡ take n (output work (ms ++ m ∷ [])) =
+      sym (ap (λ (i : ℕ). take i (output work (ms ++ m ∷ []))) total ∙ ap (λ l. take (length so_far + k) l) all ∙ take-append-add so_far (text m) k) in
       record {
         message = m;
         spells = b.spells;
         taken = b.taken;
-        written = subst (Appends first sink.held') part (Appends-trans first sink.held sink.held' _ _ w.written b.written);
-        some = omega (arith, size);
-        not_all = omega (arith, size, b.fewer, ap length all, length-append so_far (text m));
+        written = subst (Appends held sink.held') part (Appends-trans held sink.held sink.held' _ _ w b.written);
+        some = omega (arith, total);
+        not_all = omega (arith, total, b.fewer, ap length all, length-append so_far (text m));
       }
 
-  stops : (left : Option (List ℕ)) (source : Taking) (sink : Putting) (first : Option (List ℕ)) (ms : List Spelling) (whole written : ℕ) (why : StreamErrorKind)
-      → WritesMessages work left source.left first sink.held ms → whole ≡ length ms → written ≡ length (output work ms) + part_written why
-      → EndsIn q (message_output work) source sink whole (position_after start ms) why → Stops work source sink first ms (fault_after whole written why)
-  stops left source sink first ms whole written (StreamErrorKind.Read (ReadFailure.Refused refusal)) w count size h =
-      (ap (λ (n : ℕ). n + 1) count, omega (arith, count, h.0), h.1, h.2)
-  stops left source sink first ms whole written (StreamErrorKind.Read ReadFailure.OutOfMemory) w count size h = (omega (arith, count, h.0), h.1)
-  stops left source sink first ms whole written (StreamErrorKind.Read ReadFailure.ReadFault) w count size h =
-      (omega (arith, count, h.0), h.1, subst (λ (n : ℕ). TakesNoFurtherIn q n source.left source.left') count h.2, h.3)
-  stops left source sink first ms whole written (StreamErrorKind.Write n) w count size h =
-      (omega (arith, count, h.0), h.1.broken, broke_within left source sink first ms n written w size h.1)
-  stops left source sink first ms whole written StreamErrorKind.TooMany w count size h = (omega (arith, count, h.0), h.1, h.2)
+  stops : (source : Taking) (sink : Putting) (held : Option (List ℕ)) (ms : List Spelling) (written : ℕ) (why : RunFault) → Appends held sink.held (output work ms) → written ≡ length (output work ms)
+      → StopsFor q (message_output work) source sink (length ms) (position_after first ms) written why → Stops work source sink held ms why
+  stops source sink held ms written (RunFault.Refused message refusal) w size h = (h.1, h.0, h.2, h.3)
+  stops source sink held ms written RunFault.OutOfMemory w size h = h
+  stops source sink held ms written RunFault.ReadFault w size h = h
+  stops source sink held ms written (RunFault.WriteFault n) w size h = (h.0, h.1, broke_within source sink held ms written h.2.0 n w size h.2.2 h.2.1)
+  stops source sink held ms written RunFault.TooManyMessages w size h = h
+  stops source sink held ms written RunFault.NotReported w size h = absurd h
+  stops source sink held ms written (RunFault.RefusedSide side refusal) w size h = absurd h
+  stops source sink held ms written RunFault.OddHex w size h = absurd h
+  stops source sink held ms written (RunFault.BadHex place) w size h = absurd h
+  stops source sink held ms written RunFault.HexTooLong w size h = absurd h
 
-  pub stops_after : (source : Taking) (sink : Putting) (e : StreamError) → EndsAfterIn q (message_output work) (is_counted_good work) source sink e
-      → JobStopsAfter work source sink (counts_with e.whole e.good e.before) (run_fault e)
-  stops_after source sink e h = record {
+  stops_job : (source : Taking) (sink : Putting) (counts : Counts) (why : RunFault) → StopsAfter q (message_output work) source sink counts why → JobStopsAfter work source sink why
+  stops_job source sink counts why h = record {
     messages = h.messages;
     rest = h.rest;
     grown = h.grown;
     writes = h.writes;
-    counted = same_counts h.writes.octets h.messages e.whole e.good e.before h.count h.good h.before;
     taken = h.taken;
-    stops = stops source.left (taking h.rest source.left' source.broken) (putting h.grown sink.held' sink.broken) sink.held h.messages e.whole e.written e.why h.writes h.count h.written h.ends;
+    stops = stops (taking h.rest source.left' source.broken) (putting h.grown sink.held' sink.broken) sink.held h.messages counts.written why h.writes.written h.written h.stops;
   }
 
-  few : (source : Taking) (sink : Putting) (whole : ℕ) (next : MessagePlace) (why : StreamErrorKind) → EndsIn q (message_output work) source sink whole next why → whole ≤ 1_000_000
-  few source sink whole next (StreamErrorKind.Read (ReadFailure.Refused refusal)) h = omega (arith, h.0)
-  few source sink whole next (StreamErrorKind.Read ReadFailure.OutOfMemory) h = omega (arith, h.0)
-  few source sink whole next (StreamErrorKind.Read ReadFailure.ReadFault) h = omega (arith, h.0)
-  few source sink whole next (StreamErrorKind.Write n) h = omega (arith, h.0)
-  few source sink whole next StreamErrorKind.TooMany h = omega (arith, h.0)
+  module _ (source : Taking) (sink : Putting) (reports : Reporting) where
+    -- the answer where the messages of the input were read
+    answer_items : (counts : Counts) (fault : Option RunFault) → Reads work.profile (message_output work) (is_counted_good work) source sink reports counts work.hex fault
+        → IfOk (answer_by work.job counts fault) (Done work source.left source.left' sink.held sink.held') × IfErr (answer_by work.job counts fault) (JobStopsAfter work source sink)
+    answer_items counts None h =
+        (done_all source.left source.left' sink.held sink.held' counts (passes work.profile (message_output work) (is_counted_good work) source sink reports counts work.hex h), tt)
+    answer_items counts (Some why) h =
+        (tt, stops_job source sink counts why (stops_after work.profile (message_output work) (is_counted_good work) source sink reports counts work.hex why h))
 
-  pub few_before : (source : Taking) (sink : Putting) (e : StreamError) → EndsAfterIn q (message_output work) (is_counted_good work) source sink e → e.whole < 4_294_967_295
-  few_before source sink e h = let le = few _ _ e.whole _ e.why h.ends in omega (arith, le)
+  -- the answer of a job that stops at a refused message
+  pub answers : (hex : Bool) (source : Taking) (sink : Putting) (reports : Reporting) (end : StreamEnd)
+      → ReadsInput hex (record { hex = work.hex; on_refusal = OnRefusal.Stop; only = None }) q (WritesText (message_output work)) (BreaksText (message_output work)) (is_counted_good work) source sink reports end
+      → IfOk (answer_of work.job end) (RunDone hex work source.left source.left' sink.held sink.held') × IfErr (answer_of work.job end) (RunFails hex work source sink)
+  answers false source sink reports end h = answer_items source sink reports end.counts end.fault h
+  answers true source sink reports end (inl h) =
+      subst (λ (f : Option RunFault). IfOk (answer_by work.job end.counts f) (RunDone true work source.left source.left' sink.held sink.held') × IfErr (answer_by work.job end.counts f) (RunFails true work source sink)) (sym h.1)
+      (tt, inl (h.2, subst (Keeps sink.held) h.4 (Keeps-refl sink.held)))
+  answers true source sink reports end (inr h) =
+      let a = answer_items (taking (Some h.0) (Some h.2.0) false) sink reports end.counts end.fault h.2.1 in (
+        IfOk-weaker (answer_of work.job end) _ _ (λ verdict d. (h.0, h.1, (h.2.0, d))) a.0,
+        IfErr-weaker (answer_of work.job end) _ _ (λ fault d. inr (h.0, h.1, (h.2.0, d))) a.1,
+      )

@@ -5,4 +5,3 @@ pub mod Refusals
 pub mod Runs
 pub mod Compared
 pub mod code
-pub mod Skipping

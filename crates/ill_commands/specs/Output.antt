@@ -1,5 +1,5 @@
 -- What a job writes.
-use Rattle.std.specs.Prelude.{ℕ, Bool, true, false, List, ◌++◌, length, codes, decimal, Option, Some, None}
+use Rattle.std.specs.Prelude.{ℕ, ◌+◌, ◌==◌, ◌&&◌, Bool, true, false, List, ◌++◌, length, codes, decimal, Option, Some, None}
 use Rattle.std.specs.List.{list_all}
 use Rattle.hex.specs.Hex.{encode_lower}
 use Rattle.sha2.specs.Sha256.{sha256}
@@ -13,10 +13,10 @@ use Rattle.ill_json.specs.Json.{json_line_in}
 use Rattle.ill_json.specs.Results.{result_line_of}
 use Rattle.ill_json.specs.declared.line.LineHead.{LineHead}
 use Rattle.ill_normal.specs.CheckWords.{check_words}
-use Rattle.ill_normal.specs.Messages.{Spelling, first, good_of, is_normal, output_from}
+use Rattle.ill_normal.specs.Messages.{Spelling, first, is_normal, output_from}
 use Rattle.ill_inputs.specs.Inputs.{label_of, verdict_if}
 use Rattle.ill_normal.specs.declared.messages.MessagePlace.{MessagePlace}
-use Rattle.ill_commands.specs.declared.job.Counts.{Counts}
+use Rattle.ill_normal.specs.declared.counts.Counts.{Counts}
 use Rattle.ill_commands.specs.declared.job.Job.{Job}
 use Rattle.ill_inputs.specs.declared.verdict.Verdict.{Verdict}
 use Rattle.ill_commands.specs.declared.job.JobOptions.{JobOptions}
@@ -113,9 +113,11 @@ good_by job work = counts_as_good (profile_of work.profile) job work.compares
 abbrev pub is_counted_good : JobOptions → Spelling → Bool
 is_counted_good work = good_by work.job work
 
--- the numbers of messages that have these octets
-abbrev pub counts_of : JobOptions → List ℕ → List Spelling → Counts
-counts_of work octets ms = record { messages = length ms; good = good_of (is_counted_good work) ms; octets = length octets }
-
 abbrev pub verdict_of : Profile → Job → List Spelling → Verdict
 verdict_of q job ms = verdict_if (list_all (is_good q job) ms)
+
+-- the verdict by the counts of an input that was read to its end: no message is refused, and what the job asks for holds
+abbrev pub verdict_of_counts : Job → Counts → Verdict
+verdict_of_counts Job.Check counts = verdict_if ((counts.refused == 0) && (counts.refused + counts.good == counts.messages))
+verdict_of_counts Job.CheckJson counts = verdict_if ((counts.refused == 0) && (counts.refused + counts.good == counts.messages))
+verdict_of_counts _ counts = verdict_if (counts.refused == 0)

@@ -1,25 +1,37 @@
 -- What a job does to its source and its sink.
-use Rattle.std.specs.Prelude.{◌≡◌, ◌⊎◌, ℕ, ◌+◌, ◌<◌, ◌≤◌, Bool, true, false, List, [], ◌∷◌, ◌++◌, length, take, codes, Option, Some, Result, Ok, Err, IfSome, IsTrue}
+use Rattle.std.specs.Prelude.{◌≡◌, ◌⊎◌, ℕ, ◌+◌, ◌<◌, ◌≤◌, Bool, true, false, List, [], ◌∷◌, ◌++◌, length, take, codes, Option, None, Some, Result, Ok, Err, IfSome, IsTrue}
 use Rattle.std.specs.Io.KnownBytes.{Consumes, Keeps, Appends, IsAtEnd}
 use Rattle.ber_leaf.specs.Profile.{Profile}
 use Rattle.ill_schema.specs.Apdu.{SpellsApdu}
 use Rattle.ill_schema.specs.Profiles.{profile_of}
 use Rattle.ill_tables.specs.declared.profile.Profile.{Profile as Named}
 use Rattle.ill_refusals.specs.Fault.{Fault, fault_of}
-use Rattle.ill_read.specs.declared.failure.ReadFailure.{ReadFailure}
 use Rattle.ill_read.specs.Answers.{TakesFront}
 use Rattle.ill_refusals.specs.Outcome.{OnlyRefuses}
 use Rattle.ill_normal.specs.Calls.{Taking, taking, Putting, putting}
-use Rattle.ill_commands.specs.declared.job.Counts.{Counts}
 use Rattle.ill_commands.specs.declared.job.Job.{Job}
 use Rattle.ill_inputs.specs.declared.verdict.Verdict.{Verdict}
 use Rattle.ill_commands.specs.declared.job.JobOptions.{JobOptions}
 use Rattle.ill_inputs.specs.declared.run_fault.RunFault.{RunFault}
 use Rattle.ill_normal.specs.Messages.{Spelling, AreSpelledIn, TakesNoFurtherIn}
 use Rattle.ill_normal.specs.Messages as messages
+use Rattle.ill_normal.specs.Entries.{BreaksText, WritesText}
+use Rattle.ill_normal.specs.Reading.{ReadsInput, Reporting}
+use Rattle.ill_normal.specs.declared.messages.OnRefusal.{OnRefusal}
+use Rattle.ill_normal.specs.declared.messages.Reading.{Reading}
+use Rattle.ill_normal.specs.declared.messages.StreamEnd.{StreamEnd}
 use Rattle.ill_inputs.specs.Inputs.{FailsText, IsResourceFault, TextOf}
-use Rattle.ill_commands.specs.Output.{counts_of, message_output, output, verdict_of}
+use Rattle.ill_commands.specs.Output.{is_counted_good, message_output, output, verdict_of}
 use Rattle.ill_inputs.specs.Hexadecimal.{hex_octets}
+
+-- how a job reads its input
+abbrev pub reading_of : JobOptions → Reading
+reading_of work = record { hex = work.hex; on_refusal = work.on_refusal; only = None }
+
+-- the messages of an input were read up to this end, and the output of the accepted ones was written
+abbrev pub RunsJob : JobOptions → Taking → Putting → Reporting → StreamEnd → Type 0
+RunsJob work source sink reports end =
+    ReadsInput work.hex (reading_of work) (profile_of work.profile) (WritesText (message_output work)) (BreaksText (message_output work)) (is_counted_good work) source sink reports end
 
 -- the octets that were taken are these messages, and their output was written
 abbrev pub WritesMessages : JobOptions → Option (List ℕ) → Option (List ℕ) → Option (List ℕ) → Option (List ℕ) → List Spelling → Type 0
@@ -48,42 +60,34 @@ Stops work source sink first ms (RunFault.WriteFault n) =
     (length ms < 1_000_000) × IsTrue sink.broken × BrokeAt work source.left source.left' first sink.held' ms n
 Stops work source sink first ms _ = ⊥
 
--- the failure to read message i
-abbrev pub run_fault_at : ℕ → ReadFailure → RunFault
-run_fault_at i (ReadFailure.Refused refusal) = RunFault.Refused i refusal
-run_fault_at i ReadFailure.OutOfMemory = RunFault.OutOfMemory
-run_fault_at i ReadFailure.ReadFault = RunFault.ReadFault
-
 -- the messages before the fault, and why the job went no further; of what follows them no more was taken than a message may have
-pub record JobStopsAfter (work : JobOptions) (source : Taking) (sink : Putting) (counts : Counts) (fault : RunFault) : Type 0 where
+pub record JobStopsAfter (work : JobOptions) (source : Taking) (sink : Putting) (fault : RunFault) : Type 0 where
   pub messages : List Spelling
   pub rest : Option (List ℕ)
   pub grown : Option (List ℕ)
   pub writes : WritesMessages work source.left rest sink.held grown messages
-  pub counted : counts ≡ counts_of work writes.octets messages
   pub taken : TakesFront rest source.left'
   pub stops : Stops work (taking rest source.left' source.broken) (putting grown sink.held' sink.broken) sink.held messages fault
 
 -- the job was done: the octets are messages to their end, at most 1,000,000
-pub record Done (work : JobOptions) (left left' held held' : Option (List ℕ)) (counts : Counts) (verdict : Verdict) : Type 0 where
+pub record Done (work : JobOptions) (left left' held held' : Option (List ℕ)) (verdict : Verdict) : Type 0 where
   pub messages : List Spelling
   pub writes : WritesMessages work left left' held held' messages
-  pub counted : counts ≡ counts_of work writes.octets messages
   pub end : IsAtEnd left'
   pub few : length messages ≤ 1_000_000
   pub is_verdict : verdict ≡ verdict_of (profile_of work.profile) work.job messages
 
 -- the same of an input that is read as octets, or as hexadecimal text
-abbrev pub RunDone : Bool → JobOptions → Option (List ℕ) → Option (List ℕ) → Option (List ℕ) → Option (List ℕ) → Counts → Verdict → Type 0
-RunDone false work left left' held held' counts verdict = Done work left left' held held' counts verdict
-RunDone true work left left' held held' counts verdict =
-    (octets : List ℕ) × TextOf left left' octets × ((rest : List ℕ) × Done work (Some octets) (Some rest) held held' counts verdict)
+abbrev pub RunDone : Bool → JobOptions → Option (List ℕ) → Option (List ℕ) → Option (List ℕ) → Option (List ℕ) → Verdict → Type 0
+RunDone false work left left' held held' verdict = Done work left left' held held' verdict
+RunDone true work left left' held held' verdict =
+    (octets : List ℕ) × TextOf left left' octets × ((rest : List ℕ) × Done work (Some octets) (Some rest) held held' verdict)
 
-abbrev pub RunFails : Bool → JobOptions → Taking → Putting → Counts → RunFault → Type 0
-RunFails false work source sink counts fault = JobStopsAfter work source sink counts fault
-RunFails true work source sink counts fault =
-    (FailsText source.left source.left' source.broken fault × Keeps sink.held sink.held' × (counts ≡ counts_of work [] []))
-    ⊎ ((octets : List ℕ) × TextOf source.left source.left' octets × ((rest : List ℕ) × JobStopsAfter work (taking (Some octets) (Some rest) false) sink counts fault))
+abbrev pub RunFails : Bool → JobOptions → Taking → Putting → RunFault → Type 0
+RunFails false work source sink fault = JobStopsAfter work source sink fault
+RunFails true work source sink fault =
+    (FailsText source.left source.left' source.broken fault × Keeps sink.held sink.held')
+    ⊎ ((octets : List ℕ) × TextOf source.left source.left' octets × ((rest : List ℕ) × JobStopsAfter work (taking (Some octets) (Some rest) false) sink fault))
 
 -- the work of a job on an input that no line names, of messages of the profile
 pub record IsUnnamed (q : Named) (job : Job) (hex : Bool) (work : JobOptions) : Type 0 where
@@ -93,20 +97,19 @@ pub record IsUnnamed (q : Named) (job : Job) (hex : Bool) (work : JobOptions) : 
   pub name : work.name.now ≡ codes "-"
   pub not_named : work.names_input ≡ false
   pub not_compared : work.compares ≡ false
+  pub stops : work.on_refusal ≡ OnRefusal.Stop
 
 -- a job was done on an input that no line names
 pub record JobDone (q : Named) (job : Job) (hex : Bool) (source : Taking) (sink : Putting) (verdict : Verdict) : Type 0 where
   pub work : JobOptions
   pub unnamed : IsUnnamed q job hex work
-  pub counts : Counts
-  pub done : RunDone hex work source.left source.left' sink.held sink.held' counts verdict
+  pub done : RunDone hex work source.left source.left' sink.held sink.held' verdict
 
 -- it was not
 pub record JobFails (q : Named) (job : Job) (hex : Bool) (source : Taking) (sink : Putting) (fault : RunFault) : Type 0 where
   pub work : JobOptions
   pub unnamed : IsUnnamed q job hex work
-  pub counts : Counts
-  pub fails : RunFails hex work source sink counts fault
+  pub fails : RunFails hex work source sink fault
 
 -- ---- which result an input has
 

@@ -1,8 +1,11 @@
 //! Jobs on the messages of an input, and their results.
 ghost use Rattle.std.specs.Prelude.{◌≡◌, codes, false};
 ghost use Rattle.ill_tables.specs.declared.profile.Profile.{Profile as Named};
+ghost use Rattle.ill_normal.specs.declared.messages.OnRefusal.{OnRefusal as Mode};
+ghost use Rattle.ill_commands.specs.Output.{verdict_of_counts};
+ghost use Rattle.ill_commands.specs.code.Endings.{answer_of};
 
-use ill_normal::{RunFault, Verdict};
+use ill_normal::{Counts, OnRefusal, RunFault, StreamEnd, Verdict};
 use ill_schema::Profile;
 
 /// The output for each message of an input.
@@ -39,6 +42,8 @@ pub struct JobOptions<'a> {
     /// True if each message is compared with its normal form, as `Check` and lines of JSON always do, so that those in normal form are
     /// counted.
     pub compares: bool,
+    /// What is done at a message that is refused. Nothing is written of it.
+    pub on_refusal: OnRefusal,
 }
 
 impl Job {
@@ -62,7 +67,7 @@ impl Job {
 
 impl JobOptions<'_> {
     /// The work on an input that no line needs to name, such as standard input: its name is `-`. Messages are read in profile 2, and
-    /// compared by `Check` and for lines of JSON alone.
+    /// compared by `Check` and for lines of JSON alone. The work stops at a refused one.
     pub fn new(job: Job, hex: bool) -> JobOptions<'static>
         ensures job { result.job ≡ job }
         ensures profile { result.profile ≡ Named.Two }
@@ -70,6 +75,7 @@ impl JobOptions<'_> {
         ensures name { result.name.now ≡ codes "-" }
         ensures not_named { result.names_input ≡ false }
         ensures not_compared { result.compares ≡ false }
+        ensures stops { result.on_refusal ≡ Mode.Stop }
     {
         JobOptions {
             job,
@@ -78,33 +84,34 @@ impl JobOptions<'_> {
             name: "-",
             names_input: false,
             compares: false,
+            on_refusal: OnRefusal::Stop,
         }
     }
 }
 
-/// The messages that a job was done with, in numbers.
-#[derive(Clone, Copy, Debug, PartialEq, Eq)]
-pub struct Counts {
-    /// Their number.
-    pub messages: u32,
-    /// The number of those that are good: those in normal form where messages are compared, else all.
-    pub good: u32,
-    /// The number of octets that they have in the input.
-    pub octets: u64,
+/// The verdict of a job that read its input to the end: good if no message is refused, and for a check each is in normal form.
+///
+/// ```
+/// let verdict = verdict_of(work.job, end.counts);
+/// ```
+pub fn verdict_of(job: Job, counts: Counts) -> Verdict
+    ensures { result ≡ verdict_of_counts job counts }
+{
+    if counts.refused > 0 {
+        return Verdict::NotGood;
+    }
+    match job {
+        Job::Check | Job::CheckJson if !counts.are_all_good() => Verdict::NotGood,
+        _ => Verdict::Good,
+    }
 }
 
-impl Counts {
-    /// No message.
-    pub const NONE: Counts = Counts {
-        messages: 0,
-        good: 0,
-        octets: 0,
-    };
-}
-
-/// The result of a job, and the counts of the messages that it was done with.
-#[derive(Clone, Copy, Debug, PartialEq, Eq)]
-pub struct JobOutcome {
-    pub result: Result<Verdict, RunFault>,
-    pub counts: Counts,
+/// The answer of a job that stops at a refused message: its verdict, or the reason why it was not done.
+pub(crate) fn answer_of(job: Job, end: StreamEnd) -> Result<Verdict, RunFault>
+    ensures { result ≡ answer_of job end }
+{
+    match end.fault {
+        None => Ok(verdict_of(job, end.counts)),
+        Some(fault) => Err(fault),
+    }
 }

@@ -13,17 +13,17 @@ mod piece;
 mod refused;
 mod result;
 mod same;
-mod skipping;
+mod write_job;
 mod written;
 
 pub use ill_json::{RefusalKind, RefusalPlace};
 pub use ill_normal::{
-    JobError, MAX_HEX_TEXT, ReadError, RefusalReport, ReportRefusals, RunFault, SkippingCounts,
+    Counts, MAX_HEX_TEXT, OnRefusal, ReadError, RefusalReport, ReportRefusals, RunFault, StreamEnd,
     Verdict, read_at_most, read_hex, text_octets,
 };
-pub use job::{Counts, Job, JobOptions, JobOutcome};
+pub use job::{Job, JobOptions, verdict_of};
 pub use lines::{LineJob, LineOptions, LinesFault, run_lines, run_lines_as};
-pub use messages::{run, run_as, run_counting, run_with};
+pub use messages::{run, run_as, run_job, run_with};
 pub use refused::{RefusedLine, refused_json};
 pub use same::{run_same, run_same_as};
-pub use skipping::{run_skipping, run_skipping_peeking, verdict_of};
+pub use write_job::WriteJob;

@@ -5,7 +5,6 @@ ghost use Rattle.ill_grammar.specs.Outline.{IsOutlineOf};
 ghost use Rattle.ill_schema.specs.Apdu.{Apdu, SpellsApdu};
 ghost use Rattle.ill_schema.specs.Profiles.{profile_of};
 ghost use Rattle.ill_tables.specs.declared.profile.Profile.{Profile as Named};
-ghost use Rattle.ill_normal.specs.Checking.{DescribesIn};
 ghost use Rattle.ill_normal.specs.Messages.{spelling};
 ghost use Rattle.ill_normal.specs.ReadMessages.{IsMessage, wants};
 ghost use Rattle.ill_normal.specs.declared.message_reader.Wants.{Wants as Wanted};
@@ -15,15 +14,15 @@ ghost use Rattle.ill_commands.specs.declared.job.Job.{Job as Task};
 ghost use Rattle.ill_inputs.specs.Inputs.{label_of};
 ghost use Rattle.ill_commands.specs.Output.{file_of, good_if, head_of, line_of_check, line_of_digest};
 ghost use Rattle.ill_commands.specs.code.Rendering.{Renders, needs_of};
-ghost use Rattle.ill_commands.specs.code.Writing.{IsWritten};
+ghost use Rattle.ill_commands.specs.code.Writing.{IsCheckOf, IsWritten};
 
 use crate::job::{Job, JobOptions};
 use crate::result::{check_json_message, digest_json_message};
-use crate::written::JobOutput;
+use crate::written::{JobOutput, RenderedMessage};
 use ill_json::{LineHead, json_line_as};
 use ill_normal::{
-    Checked, MessagePlace, ReadMessage, Render, RenderedMessage, Wants, apdu_name_or_empty,
-    apdu_number, normal_digest, put_check_words,
+    Checked, MessagePlace, ReadMessage, Wants, apdu_name_or_empty, apdu_number, normal_digest,
+    put_check_words,
 };
 use ill_read::Outline;
 use ill_schema::{LIMIT, Profile};
@@ -35,42 +34,9 @@ use std::mem;
 /// The number of octets of a label that are counted with those of a text.
 const MAX_LABEL_LEN: usize = 1 << 62;
 
-impl Render for JobOptions<'_> {
-    type Out = JobOutput;
-
-    ghost use Rattle.ill_commands.specs.Output.{is_counted_good, message_output};
-
-    ghost reads = { λ work. work.profile };
-
-    ghost needs = { λ work. needs_of work.job work.compares };
-
-    ghost text = { λ work. message_output work };
-
-    ghost is_good = { λ work. is_counted_good work };
-
-    fn profile(&self) -> Profile {
-        self.profile
-    }
-
-    #[inline(always)]
-    fn wants(&self) -> Wants {
-        needs_of(*self)
-    }
-
-    #[inline(always)]
-    fn render(
-        &self,
-        alloc: Global,
-        place: MessagePlace,
-        message: &mut ReadMessage,
-        buffer: JobOutput,
-    ) -> Result<RenderedMessage<JobOutput>, AllocError> {
-        render_message(alloc, *self, place, message, buffer)
-    }
-}
-
 /// What a job needs of each message.
-fn needs_of(work: JobOptions<'_>) -> Wants
+#[inline(always)]
+pub(crate) fn needs_of(work: JobOptions<'_>) -> Wants
     ensures { result ≡ needs_of work.entry.job work.entry.compares }
 {
     match work.job {
@@ -90,13 +56,13 @@ fn wants(spelled: bool, outline: bool) -> Wants
 
 /// Makes the output of a job for a message, in the memory of both. Their contents are forgotten.
 #[inline(always)]
-fn render_message(
+pub(crate) fn render_message(
     alloc: Global,
     work: JobOptions<'_>,
     place: MessagePlace,
     message: &mut ReadMessage,
     buffer: JobOutput,
-) -> Result<RenderedMessage<JobOutput>, AllocError>
+) -> Result<RenderedMessage, AllocError>
     ensures { Renders work.entry.job work.entry place message.old result }
 {
     match work.job {
@@ -132,8 +98,8 @@ fn is_good_if(compares: bool, message: &ReadMessage) -> bool
 #[inline(always)]
 pub(crate) fn checked_of(message: &ReadMessage) -> Checked
     ensures { (profile : Named) (wants : Wanted) (octets : List ℕ)
-        → IsMessage (profile_of profile) wants message.now octets → IsTrue wants.spelled
-        → DescribesIn (profile_of profile) result octets }
+        → (h : IsMessage (profile_of profile) wants message.now octets) → IsTrue wants.spelled
+        → IsCheckOf (profile_of profile) result (spelling h.apdu octets) }
 {
     let size = message.normal.as_slice().len();
     Checked {
@@ -150,18 +116,14 @@ fn show_message(
     place: MessagePlace,
     message: &mut ReadMessage,
     buffer: JobOutput,
-) -> Result<RenderedMessage<JobOutput>, AllocError>
+) -> Result<RenderedMessage, AllocError>
     ensures { Renders Task.Show work.entry place message.old result }
 {
     let is_good = is_good_if(work.compares, message);
     let (label, memory) = buffer.into_both(alloc);
     let outline = mem::replace(&mut message.outline, memory);
     let text = labelled_text(alloc, label, work, place.number, outline)?;
-    Ok(RenderedMessage {
-        text,
-        is_good,
-        octets: message.len,
-    })
+    Ok(RenderedMessage { text, is_good })
 }
 
 fn json_message(
@@ -170,7 +132,7 @@ fn json_message(
     place: MessagePlace,
     message: &mut ReadMessage,
     buffer: Vec<u8>,
-) -> Result<RenderedMessage<JobOutput>, AllocError>
+) -> Result<RenderedMessage, AllocError>
     ensures { Renders Task.Json work.entry place message.old result }
 {
     let is_good = is_normal(message);
@@ -180,7 +142,6 @@ fn json_message(
     Ok(RenderedMessage {
         text: JobOutput::Octets(line),
         is_good,
-        octets: message.len,
     })
 }
 
@@ -253,7 +214,7 @@ fn check_message(
     place: MessagePlace,
     message: &mut ReadMessage,
     buffer: Vec<u8>,
-) -> Result<RenderedMessage<JobOutput>, AllocError>
+) -> Result<RenderedMessage, AllocError>
     ensures { Renders Task.Check work.entry place message.old result }
 {
     let found = checked_of(message);
@@ -261,7 +222,6 @@ fn check_message(
     Ok(RenderedMessage {
         text: JobOutput::Octets(line),
         is_good: found.is_normal,
-        octets: found.octets,
     })
 }
 
@@ -300,7 +260,7 @@ fn digest_message(
     place: MessagePlace,
     message: &mut ReadMessage,
     buffer: Vec<u8>,
-) -> Result<RenderedMessage<JobOutput>, AllocError>
+) -> Result<RenderedMessage, AllocError>
     ensures { Renders Task.Digest work.entry place message.old result }
 {
     let is_good = is_good_if(work.compares, message);
@@ -309,7 +269,6 @@ fn digest_message(
     Ok(RenderedMessage {
         text: JobOutput::Octets(line),
         is_good,
-        octets: message.len,
     })
 }
 
@@ -335,14 +294,14 @@ fn digest_line(
     Ok(line)
 }
 
-/// Most messages pass here, so it is a part of the loop.
+/// Makes the normal form, or its line of digits. Most messages pass here, so it is a part of the loop.
 #[inline(always)]
 fn canonical_message(
     alloc: Global,
     work: JobOptions<'_>,
     message: &mut ReadMessage,
     buffer: Vec<u8>,
-) -> Result<RenderedMessage<JobOutput>, AllocError>
+) -> Result<RenderedMessage, AllocError>
     ensures { (place : Place) → Renders Task.Canonicalise work.entry place message.old result }
 {
     let is_good = is_good_if(work.compares, message);
@@ -350,14 +309,12 @@ fn canonical_message(
         return Ok(RenderedMessage {
             text: JobOutput::Octets(mem::replace(&mut message.normal, buffer)),
             is_good,
-            octets: message.len,
         });
     }
     let line = hex_line(alloc, &message.normal)?;
     Ok(RenderedMessage {
         text: JobOutput::Octets(line),
         is_good,
-        octets: message.len,
     })
 }
 

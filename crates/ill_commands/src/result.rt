@@ -7,11 +7,9 @@ ghost use Rattle.ill_commands.specs.code.Rendering.{Renders};
 
 use crate::job::JobOptions;
 use crate::piece::{checked_of, file_of, head};
-use crate::written::JobOutput;
+use crate::written::{JobOutput, RenderedMessage};
 use ill_json::result_line;
-use ill_normal::{
-    Checked, MessagePlace, ReadMessage, RenderedMessage, apdu_name_or_empty, normal_digest,
-};
+use ill_normal::{Checked, MessagePlace, ReadMessage, apdu_name_or_empty, normal_digest};
 use std::alloc::{AllocError, Global};
 
 /// The line of a message that is checked.
@@ -21,7 +19,7 @@ pub fn check_json_message(
     place: MessagePlace,
     message: &mut ReadMessage,
     buffer: Vec<u8>,
-) -> Result<RenderedMessage<JobOutput>, AllocError>
+) -> Result<RenderedMessage, AllocError>
     ensures { Renders Job.CheckJson work.entry place message.old result }
 {
     let found = checked_of(message);
@@ -29,7 +27,6 @@ pub fn check_json_message(
     Ok(RenderedMessage {
         text: JobOutput::Octets(line),
         is_good: found.is_normal,
-        octets: found.octets,
     })
 }
 
@@ -40,7 +37,7 @@ pub fn digest_json_message(
     place: MessagePlace,
     message: &mut ReadMessage,
     buffer: Vec<u8>,
-) -> Result<RenderedMessage<JobOutput>, AllocError>
+) -> Result<RenderedMessage, AllocError>
     ensures { Renders Job.DigestJson work.entry place message.old result }
 {
     let found = checked_of(message);
@@ -49,7 +46,6 @@ pub fn digest_json_message(
     Ok(RenderedMessage {
         text: JobOutput::Octets(line),
         is_good: found.is_normal,
-        octets: found.octets,
     })
 }
 

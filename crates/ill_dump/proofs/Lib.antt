@@ -1,2 +1,1 @@
-pub mod DumpedMessages
-pub mod SkippedMessages
+pub mod WrittenLines

@@ -1,3 +1,2 @@
 pub mod Dumped
-pub mod Skipping
 pub mod code

@@ -1,3 +1,1 @@
-pub mod Dumping
-pub mod Failing
 pub mod Putting

@@ -2,25 +2,25 @@
 //! not normal in it.
 //!
 //! ```
-//! let options = DumpOptions {
+//! let dump = DumpOptions {
 //!     profile: Profile::Two,
 //!     hex: false,
 //!     name: "messages.ber",
 //!     names_input: false,
 //!     only: None,
 //!     format: DumpFormat::Text,
+//!     on_refusal: OnRefusal::EndWith,
 //! };
-//! let messages = run_dump::<R, Unbuffered, W>(alloc, options, &mut source, &mut sink)?;
+//! let end = run_dump::<R, Unbuffered, W, NoReports>(alloc, dump, &mut source, &mut sink, &mut NoReports);
 //! ```
 #![tactic(auto)]
 
 mod message;
 mod put;
-mod rest;
 mod run;
-mod skipping;
+mod write_dump;
 
 pub use ill_walk::{DumpFormat, HTML_BEGIN, HTML_END, place_of_refusal, texts_have_no_markup};
 pub use message::{DumpedMessage, dump_message};
 pub use run::{DumpOptions, run_dump};
-pub use skipping::{DumpCounts, run_dump_skipping};
+pub use write_dump::WriteDump;

@@ -5,6 +5,7 @@ ghost use Rattle.ill_dump.specs.Dumped.{IsJudged};
 
 use crate::put::{put_check, put_head, put_refused_line};
 use crate::run::DumpOptions;
+use ill_normal::OnRefusal;
 use ill_read::{Failure, decode_normal_as};
 use ill_schema::{Cause, LIMIT, Profile, Refusal};
 use ill_walk::{DumpFormat, ElementWalk, LineBuffer, Steps, UnjudgedWalk, put_refusal_lines};
@@ -41,6 +42,7 @@ pub fn dump_message(
         names_input: false,
         only: None,
         format: DumpFormat::Text,
+        on_refusal: OnRefusal::Stop,
     };
     let mut lines = LineBuffer::new(alloc, DumpFormat::Text);
     put_head(dump, number, &mut lines)?;

@@ -1,10 +1,7 @@
 -- The status of several files, file by file.
-use Rattle.std.proofs.Common.{◌≡◌, ◌==◌, ◌||◌, ◌≤◌, ◌+◌, ℕ, Bool, true, false, List, [], ◌∷◌, ◌++◌, Result, map, refl, sym, ap, ap₂, ◌∙◌, arith, length-append, if◌then◌else◌}
+use Rattle.std.proofs.Common.{◌≡◌, ◌==◌, ◌||◌, ℕ, Bool, true, false, List, [], ◌∷◌, ◌++◌, refl, sym, ap, ap₂, ◌∙◌, if◌then◌else◌}
 use Rattle.std.specs.List.{list_any}
-use Rattle.std.proofs.lemmas.List.{map-append}
-use Rattle.ill_inputs.specs.declared.verdict.Verdict.{Verdict}
-use Rattle.ill_files.specs.Status.{IsStatusOfEach, status_is, worst}
-use Rattle.ill_files.specs.declared.error.ProgramError.{ProgramError}
+use Rattle.ill_files.specs.Status.{worst}
 
 abbrev worst_by : Bool → Bool → ℕ
 worst_by three one = if three then 3 else (if one then 1 else 0)
@@ -22,17 +19,7 @@ step true one s = refl
 step false true s = refl
 step false false s = refl
 
-worst_more : (statuses : List ℕ) (s : ℕ) → worst (worst statuses ∷ s ∷ []) ≡ worst (statuses ++ s ∷ [])
+-- one status more
+pub worst_more : (statuses : List ℕ) (s : ℕ) → worst (worst statuses ∷ s ∷ []) ≡ worst (statuses ++ s ∷ [])
 worst_more statuses s =
     step (list_any (λ x. x == 3) statuses) (list_any (λ x. x == 1) statuses) s ∙ ap₂ worst_by (sym (any_more 3 statuses s)) (sym (any_more 1 statuses s))
-
--- one file more was done
-pub one_more : (n status : ℕ) (done : Result Verdict ProgramError) → IsStatusOfEach n status → IsStatusOfEach (n + 1) (worst (status ∷ status_is done ∷ []))
-one_more n status done h = (
-  h.0 ++ done ∷ [],
-  omega (arith, h.1, length-append h.0 (done ∷ [])),
-  ap (λ (s : ℕ). worst (s ∷ status_is done ∷ [])) h.2 ∙ worst_more (map status_is h.0) (status_is done) ∙ ap worst (sym (map-append status_is h.0 (done ∷ []))),
-)
-
-pub no_more : (n m status : ℕ) → n ≤ m → IsStatusOfEach n status → IsStatusOfEach m status
-no_more n m status le h = (h.0, omega (arith, le, h.1), h.2)

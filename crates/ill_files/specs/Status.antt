@@ -1,5 +1,5 @@
 -- The status that the program ends with.
-use Rattle.std.specs.Prelude.{◌≡◌, ◌≤◌, ◌==◌, ℕ, Bool, true, false, List, map, length, Result, Ok, Err, if◌then◌else◌}
+use Rattle.std.specs.Prelude.{◌==◌, ℕ, Bool, true, false, List, Result, Ok, Err, if◌then◌else◌}
 use Rattle.std.specs.List.{list_any}
 use Rattle.clap.specs.Words.{kind_of}
 use Rattle.clap.specs.declared.error.Error.{Error}
@@ -44,6 +44,11 @@ status_is (Ok Verdict.Good) = 0
 status_is (Ok Verdict.NotGood) = 1
 status_is (Err fault) = error_status fault
 
+-- the input could not be read
+abbrev pub is_read_fault : ProgramError → Bool
+is_read_fault (ProgramError.Run line) = elim line.0 as (λ _. Bool) [ RunFault.ReadFault ↦ true | _ ↦ false ]
+is_read_fault _ = false
+
 -- some of the output was not written: a write, flush or sync fault, or nobody reads it
 abbrev pub is_output_lost : Result Verdict ProgramError → Bool
 is_output_lost (Err ProgramError.Flush) = true
@@ -73,7 +78,3 @@ keeps_refused done = keeps_output false done
 -- of several files: 3 if one of them gave 3, else 1 if one gave 1
 abbrev pub worst : List ℕ → ℕ
 worst statuses = if list_any (λ s. s == 3) statuses then 3 else (if list_any (λ s. s == 1) statuses then 1 else 0)
-
--- the status of files of which some were done, at most n, and ended so
-abbrev pub IsStatusOfEach : ℕ → ℕ → Type 0
-IsStatusOfEach n status = (ends : List (Result Verdict ProgramError)) × (length ends ≤ n) × (status ≡ worst (map status_is ends))

@@ -1,6 +1,6 @@
 //! The line that the program prints where it fails, and the status that it ends with.
-ghost use Rattle.std.specs.Prelude.{◌≡◌, [], ◌∷◌};
-ghost use Rattle.ill_files.specs.Status.{is_output_lost, keeps_output, keeps_refused, line_status_is, loses_output, run_status_is, status_is, worst};
+ghost use Rattle.std.specs.Prelude.{◌≡◌, [], ◌∷◌, true, IsTrue};
+ghost use Rattle.ill_files.specs.Status.{is_output_lost, is_read_fault, keeps_output, keeps_refused, line_status_is, loses_output, run_status_is, status_is, worst};
 
 use crate::count::Count;
 use crate::names::{FileName, FileNameRef};
@@ -67,7 +67,9 @@ impl ProgramError {
     }
 
     /// The end of the output could not be written, for this reason.
-    pub fn of_output(error: &io::Error) -> ProgramError {
+    pub fn of_output(error: &io::Error) -> ProgramError
+        ensures { is_output_lost (Err result) ≡ true }
+    {
         match error.kind() {
             io::ErrorKind::BrokenPipe => ProgramError::Closed,
             _ => ProgramError::Flush,
@@ -350,7 +352,9 @@ pub fn print_error_of<R: Print + Eprint + Files>(
 }
 
 /// Tells whether an error is that a folder was read: a folder can be opened, but not read.
-pub fn is_of_folder<R: Files>(rt: &R, name: &[u8], error: &ProgramError) -> bool {
+pub fn is_of_folder<R: Files>(rt: &R, name: &[u8], error: &ProgramError) -> bool
+    ensures { IsTrue result → is_read_fault error.now ≡ true }
+{
     if !matches!(error, ProgramError::Run(RunLine(RunFault::ReadFault))) {
         return false;
     }

@@ -238,11 +238,11 @@ pub fn open_standard_output<'r, R: Print + Files + AllocGlobal>(
 
 /// The destination of the octets of an output until it is closed.
 #[derive(Drop)]
-pub enum OutputDestination {
-    /// To the output itself.
-    InPlace,
-    /// To a new file with this name, which takes the name of the output at the end.
-    NewFile(String),
+pub struct OutputDestination<'n> {
+    /// The name of the output.
+    pub name: &'n str,
+    /// The name of a new file that has them, and takes the name of the output at the end; None where they go to the output itself.
+    pub part: Option<String>,
 }
 
 /// Opens the output with this name, which is standard output as [`is_standard_output`] says. Nothing else is opened where it is to be replaced
@@ -251,22 +251,28 @@ pub enum OutputDestination {
 /// # Errors
 ///
 /// The output can't be opened, or not replaced as a whole, or memory ran out.
-pub fn open_output<'r, R: Print + Eprint + Host + AllocGlobal>(
+pub fn open_output<'n, 'r, R: Print + Eprint + Host + AllocGlobal>(
     rt: &'r R,
     output: &OutputOf<'r, R>,
-    name: &str,
+    name: &'n str,
     whole: bool,
-) -> Result<OutputDestination, ProgramError> {
+) -> Result<OutputDestination<'n>, ProgramError> {
     if is_standard_output(name) {
         if whole {
             let fault = ReplaceFault::NoRegularFile;
             return Err(ProgramError::cannot_replace(rt.alloc(), name, fault));
         }
         open_standard_output(rt, output)?;
-        return Ok(OutputDestination::InPlace);
+        return Ok(OutputDestination { name, part: None });
     }
     match replacement::begin(rt, name)? {
-        ReplaceMode::Beside(new) => open_beside(rt, output, new),
+        ReplaceMode::Beside(new) => {
+            let part = open_beside(rt, output, new)?;
+            Ok(OutputDestination {
+                name,
+                part: Some(part),
+            })
+        }
         ReplaceMode::Direct(obstacle) if whole => {
             let fault = match obstacle {
                 Some(obstacle) => ReplaceFault::Direct(obstacle),
@@ -274,19 +280,22 @@ pub fn open_output<'r, R: Print + Eprint + Host + AllocGlobal>(
             };
             Err(ProgramError::cannot_replace(rt.alloc(), name, fault))
         }
-        ReplaceMode::Direct(obstacle) => open_directly(rt, output, name, obstacle),
+        ReplaceMode::Direct(obstacle) => {
+            open_directly(rt, output, name, obstacle)?;
+            Ok(OutputDestination { name, part: None })
+        }
     }
 }
 
-/// Opens a new file as the output.
+/// Opens a new file as the output, and returns its name.
 fn open_beside<'r, R: Print + Host + AllocGlobal>(
     rt: &'r R,
     output: &OutputOf<'r, R>,
     new: Replacement<R::File>,
-) -> Result<OutputDestination, ProgramError> {
+) -> Result<String, ProgramError> {
     let Replacement { name: part, file } = new;
     match output.open(rt.alloc(), OutputKind::File(file)) {
-        Ok(()) => Ok(OutputDestination::NewFile(part)),
+        Ok(()) => Ok(part),
         Err(error) => {
             let _ = fs::remove_file(rt, part.as_str());
             Err(error)
@@ -300,7 +309,7 @@ fn open_directly<'r, R: Print + Eprint + Host + AllocGlobal>(
     output: &OutputOf<'r, R>,
     name: &str,
     obstacle: Option<ReplaceObstacle>,
-) -> Result<OutputDestination, ProgramError> {
+) -> Result<(), ProgramError> {
     let alloc = rt.alloc();
     let file = match fs::create(rt, name) {
         Ok(file) => file,
@@ -315,7 +324,7 @@ fn open_directly<'r, R: Print + Eprint + Host + AllocGlobal>(
         // A line that can't be written changes nothing of the output.
         let _ = eprintln!(rt; "illcanon: {name} is written directly: {obstacle}");
     }
-    Ok(OutputDestination::InPlace)
+    Ok(())
 }
 
 /// Writes what is still in the buffer, and gives a new file the name of the output. Where the old one has to be kept, or not all of the output
@@ -323,13 +332,16 @@ fn open_directly<'r, R: Print + Eprint + Host + AllocGlobal>(
 pub fn close_output<'r, R: Print + Host + AllocGlobal>(
     rt: &'r R,
     output: &OutputOf<'r, R>,
-    destination: OutputDestination,
-    name: &str,
+    destination: OutputDestination<'_>,
     keep: bool,
     done: Result<Verdict, ProgramError>,
 ) -> Result<Verdict, ProgramError> {
     let done = output.finish(done);
-    let OutputDestination::NewFile(part) = destination else {
+    let OutputDestination {
+        name,
+        part: Some(part),
+    } = destination
+    else {
         return done;
     };
     if keep || keeps_output(false, &done) {

@@ -1,5 +1,5 @@
 -- Which result an input has.
-use Rattle.std.proofs.Common.{◌≡◌, ◌<◌, ℕ, Bool, List, [], ◌++◌, length, Option, Some, None, Err, IfSome, refl, ap, ◌∙◌, arith}
+use Rattle.std.proofs.Common.{◌≡◌, ◌<◌, ℕ, Bool, List, [], length, Option, Some, None, Err, IfSome, ap, ◌∙◌, arith}
 use Rattle.std.specs.Io.KnownBytes.{Consumes, IsAtEnd}
 use Rattle.ill_schema.specs.Apdu.{Apdu, Accepts, normal_form_in}
 use Rattle.ill_refusals.specs.Fault.{Fault, fault_of}

@@ -5,29 +5,26 @@ use Rattle.ill_schema.specs.Profiles.{profile_of}
 use Rattle.ill_tables.specs.declared.profile.Profile.{Profile as Named}
 use Rattle.ber_framing.specs.Framed.{IsFrame}
 use Rattle.ber_framing.proofs.Frames.{one_frame}
-use Rattle.ill_normal.specs.Skipping.{HasNoEnd}
+use Rattle.ill_normal.specs.Next.{HasNoEnd}
+use Rattle.ill_normal.specs.Entries.{AreWritten, WritesText}
 use Rattle.ill_schema.specs.declared.refusal.Refusal.{Refusal}
 use Rattle.ill_schema.specs.Apdu.{Apdu, SpellsApdu}
 use Rattle.ill_refusals.specs.Fault.{Fault, fault_of, Refuses}
 use Rattle.ill_schema.specs.declared.refusal.Cause.{Cause}
 use Rattle.ill_refusals.proofs.Prefixes.{refusal_stays}
 use Rattle.ill_refusals.specs.Outcome.{OnlyRefuses}
-use Rattle.ill_normal.specs.Messages.{Spelling, first, after, output_from}
+use Rattle.ill_normal.specs.Messages.{Spelling, after, output_from}
 use Rattle.ill_normal.specs.declared.messages.MessagePlace.{MessagePlace}
 use Rattle.ill_normal.proofs.Canonical.{spells_once, refuses_whole}
-use Rattle.ill_normal.specs.Items.{Item, good, bad, AreItems, written_from, good_ones, HasNoMore, IsRefusedFor}
+use Rattle.ill_normal.specs.Items.{Item, good, bad, AreItems, good_ones, HasNoMore, IsRefusedFor}
 use Rattle.ill_normal.proofs.TakenElements.{spelling_framed, none_begins}
 
-module _ (text : MessagePlace → Spelling → List ℕ) (same : (q r : MessagePlace) (m : Spelling) → text q m ≡ text r m) where
-  output_at : (p q : MessagePlace) (ms : List Spelling) → output_from text p ms ≡ output_from text q ms
-  output_at p q [] = refl
-  output_at p q (m ∷ ms) = ap₂ (λ (a b : List ℕ). a ++ b) (same p q m) (output_at (after p (length m.octets)) (after q (length m.octets)) ms)
-
-  pub good_written : (p : MessagePlace) (items : List Item) → written_from text p items ≡ output_from text first (good_ones items)
-  good_written p [] = refl
-  good_written p (good m ∷ items) =
-      let n = length m.octets in ap₂ (λ (a b : List ℕ). a ++ b) (same p first m) (good_written (after p n) items ∙ output_at first (after first n) (good_ones items))
-  good_written p (bad octets refusal ∷ items) = good_written (after p (length octets)) items
+module _ (text : MessagePlace → Spelling → List ℕ) (same : (p q : MessagePlace) (m : Spelling) → text p m ≡ text q m) where
+  pub good_written : (p q : MessagePlace) (items : List Item) (n : ℕ) (octets : List ℕ) → AreWritten (WritesText text) p items n octets → octets ≡ output_from text q (good_ones items)
+  good_written p q [] n octets h = h.1
+  good_written p q (good m ∷ items) n octets h =
+      h.5 ∙ ap₂ (λ (a b : List ℕ). a ++ b) (h.6.0 ∙ same p q m) (good_written (after p (length m.octets)) (after q (length m.octets)) items h.1 h.3 h.7)
+  good_written p q (bad given refusal ∷ items) n octets h = h.5 ∙ ap (λ z. z ++ h.3) h.6.0 ∙ good_written (after p (length given)) q items h.1 h.3 h.7
 
 -- where no end can be known no message ends
 pub no_end_no_more : (octets rest : List ℕ) → HasNoEnd octets (Some rest) → length octets < 18_446_744_073_709_551_615 → HasNoMore (octets ++ rest)

@@ -1,5 +1,5 @@
 -- Octets of an element that are taken, fed to a framer and recorded.
-use Rattle.std.proofs.Common.{◌≡◌, ℕ, zero, suc, ◌+◌, ◌-◌, ◌<◌, ◌≤◌, Bool, false, List, [], ◌∷◌, ◌++◌, length, take, drop, Option, Some, refl, sym, ap, ap₂, subst, ◌∙◌, arith, inl, inr, append_assoc, append-nil, length-append, lit≤}
+use Rattle.std.proofs.Common.{◌≡◌, ℕ, zero, suc, ◌+◌, ◌-◌, ◌<◌, ◌≤◌, false, List, [], ◌∷◌, ◌++◌, length, take, drop, Option, Some, refl, sym, ap, ap₂, subst, ◌∙◌, arith, inl, inr, append_assoc, append-nil, length-append, lit≤}
 use Rattle.std.specs.Prelude.{MatchOption}
 use Rattle.std.proofs.lemmas.Bool.{cases_lt}
 use Rattle.std.proofs.lemmas.List.{length-take, length-take-le, take-take, take_all, take-append-le, take-append-drop}
@@ -25,13 +25,10 @@ use Rattle.ill_normal.proofs.FramedRefusals.{frame_not_truncated, truncated_shor
 use Rattle.ill_schema.specs.declared.refusal.Cause.{Cause}
 use Rattle.ill_refusals.specs.Outcome.{OnlyRefuses}
 use Rattle.ill_read.specs.Answers.{IsUnfinishedIn}
-use Rattle.ill_normal.specs.Messages.{Spelling, counted, MakesIn}
-use Rattle.ill_normal.proofs.WrittenMessages.{counted_left}
-use Rattle.ill_normal.specs.declared.messages.RenderedMessage.{RenderedMessage}
-use Rattle.ill_normal.specs.declared.next_message.NextMessage.{NextMessage}
-use Rattle.ill_normal.specs.Skipping.{HasNoEnd}
+use Rattle.ill_normal.specs.Messages.{counted}
+use Rattle.ill_normal.proofs.Counted.{counted_left}
 use Rattle.ill_normal.specs.Items.{IsCutAtEnd}
-use Rattle.ill_normal.specs.Next.{IsNext, TakesPart}
+use Rattle.ill_normal.specs.Next.{HasNoEnd, IsNextRefused, TakesPart}
 use Rattle.ill_normal.specs.code.Taking.{IsFraming, Takes, TakesElement, TakesUnframed, TakesWhereCut, Took, end_of}
 
 -- all octets of a slice of which no fewer leave more to be needed
@@ -215,11 +212,8 @@ module _ (left left' : Option (List ℕ)) (recorded : List ℕ) (size : ℕ) (fr
       none_left [] z = refl
       none_left (o ∷ x) z = absurd (omega (arith, z))
 
-  pub read_next : {T : Type 0} (q : Named) (is : T → List ℕ → Type 0) (text : Spelling → List ℕ) (is_good : Spelling → Bool) (piece : RenderedMessage T) (rest : List ℕ) (m : List ℕ) → Consumes (Some recorded) (Some rest) m
-      → MakesIn (profile_of q) is text is_good piece m → IsNext (profile_of q) is text is_good left left' recorded (NextMessage.Read piece)
-  read_next q is text is_good piece rest m c h =
-      let same = message_is q h.apdu m rest h.spells c in
-      (m, subst (Consumes left left') same t.taken, h)
+  pub read_next : (q : Named) (a : Apdu) (rest m : List ℕ) → Consumes (Some recorded) (Some rest) m → SpellsApdu (profile_of q) a m → Consumes left left' m
+  read_next q a rest m c h = subst (Consumes left left') (message_is q a m rest h c) t.taken
 
   pub none_next : (rest : List ℕ) → Consumes (Some recorded) (Some rest) [] → IsAtEnd (Some rest) → Consumes left left' [] × IsAtEnd left'
   none_next rest c end =
@@ -248,9 +242,9 @@ module _ (left left' : Option (List ℕ)) (recorded : List ℕ) (size : ℕ) (fr
       go framed.Unframed n j = absurd (n refl)
       go framed.Part _ j = elim (t.part j) [ inl e ↦ e | inr le ↦ absurd (omega (arith, le, short, ap length all)) ]
 
-  pub refused_next : {T : Type 0} (q : Named) (is : T → List ℕ → Type 0) (text : Spelling → List ℕ) (is_good : Spelling → Bool) (refusal : Refusal) (end : Option ℕ) → end ≡ end_of frame size
-      → (frame ≡ framed.Unframed → ⊥) → OnlyRefuses (profile_of q) recorded (fault_of refusal) → IsNext (profile_of q) {T = T} is text is_good left left' recorded (NextMessage.Refused refusal end)
-  refused_next q is text is_good refusal end e known h = (
+  pub refused_next : (q : Named) (refusal : Refusal) (end : Option ℕ) → end ≡ end_of frame size → (frame ≡ framed.Unframed → ⊥) → OnlyRefuses (profile_of q) recorded (fault_of refusal)
+      → IsNextRefused (profile_of q) left left' recorded refusal end
+  refused_next q refusal end e known h = (
     t.octets,
     t.taken,
     subst (λ z. OnlyRefuses (profile_of q) z (fault_of refusal)) t.keeps h,
@@ -318,14 +312,13 @@ fewer_missing q recorded recorded' refusal octet h cut k =
 
 module _ (left left' : Option (List ℕ)) (recorded : List ℕ) (size : ℕ) where
   -- what the reader made of what was recorded
-  pub read_took : {T : Type 0} (q : Named) (is : T → List ℕ → Type 0) (text : Spelling → List ℕ) (is_good : Spelling → Bool) (frame : Framing) → Took left left' recorded size frame → (piece : RenderedMessage T) (rest m : List ℕ)
-      → Consumes (Some recorded) (Some rest) m → MakesIn (profile_of q) is text is_good piece m → IsNext (profile_of q) is text is_good left left' recorded (NextMessage.Read piece)
-  read_took q is text is_good framed.Whole t piece rest m c h = read_next left left' recorded size framed.Whole t q is text is_good piece rest m c h
-  read_took q is text is_good framed.Part t piece rest m c h = read_next left left' recorded size framed.Part t q is text is_good piece rest m c h
-  read_took q is text is_good framed.Unframed t piece rest m c h =
+  pub read_took : (q : Named) (frame : Framing) → Took left left' recorded size frame → (a : Apdu) (rest m : List ℕ) → Consumes (Some recorded) (Some rest) m → SpellsApdu (profile_of q) a m → Consumes left left' m
+  read_took q framed.Whole t a rest m c h = read_next left left' recorded size framed.Whole t q a rest m c h
+  read_took q framed.Part t a rest m c h = read_next left left' recorded size framed.Part t q a rest m c h
+  read_took q framed.Unframed t a rest m c h =
       let all : t.octets ++ t.more ≡ m ++ (rest ++ drop 1_048_576 (t.octets ++ t.more)) =
       sym (take-append-drop 1_048_576 (t.octets ++ t.more)) ∙ ap (λ z. z ++ drop 1_048_576 (t.octets ++ t.more)) (sym t.keeps ∙ c) ∙ append_assoc m rest (drop 1_048_576 (t.octets ++ t.more)) in
-      absurd (none_begins t.octets t.more t.unframed t.within m _ (spelling_framed q h.apdu m h.spells) all)
+      absurd (none_begins t.octets t.more t.unframed t.within m _ (spelling_framed q a m h) all)
 
   nothing_first : (a b : List ℕ) → a ++ b ≡ [] → a ≡ []
   nothing_first [] b e = refl
@@ -338,11 +331,11 @@ module _ (left left' : Option (List ℕ)) (recorded : List ℕ) (size : ℕ) whe
       let none : t.octets ≡ [] = nothing_first t.octets t.more (nothing_recorded 1_048_575 (t.octets ++ t.more) (sym t.keeps ∙ c ∙ end)) in
       absurd (t.unframed none_is_part.0 (subst (λ z. IsFrame (z ++ none_is_part.0)) (sym none) none_is_part.2))
 
-  pub refused_took : {T : Type 0} (q : Named) (is : T → List ℕ → Type 0) (text : Spelling → List ℕ) (is_good : Spelling → Bool) (frame : Framing) → Took left left' recorded size frame → (refusal : Refusal) (end : Option ℕ)
-      → end ≡ end_of frame size → (frame ≡ framed.Unframed → IsCutAtEnd refusal left') → OnlyRefuses (profile_of q) recorded (fault_of refusal) → IsNext (profile_of q) {T = T} is text is_good left left' recorded (NextMessage.Refused refusal end)
-  refused_took q is text is_good framed.Whole t refusal end e cut h = refused_next left left' recorded size framed.Whole t q is text is_good refusal end e (λ k. cc) h
-  refused_took q is text is_good framed.Part t refusal end e cut h = refused_next left left' recorded size framed.Part t q is text is_good refusal end e (λ k. cc) h
-  refused_took q is text is_good framed.Unframed t refusal end e cut h = (
+  pub refused_took : (q : Named) (frame : Framing) → Took left left' recorded size frame → (refusal : Refusal) (end : Option ℕ) → end ≡ end_of frame size → (frame ≡ framed.Unframed → IsCutAtEnd refusal left')
+      → OnlyRefuses (profile_of q) recorded (fault_of refusal) → IsNextRefused (profile_of q) left left' recorded refusal end
+  refused_took q framed.Whole t refusal end e cut h = refused_next left left' recorded size framed.Whole t q refusal end e (λ k. cc) h
+  refused_took q framed.Part t refusal end e cut h = refused_next left left' recorded size framed.Part t q refusal end e (λ k. cc) h
+  refused_took q framed.Unframed t refusal end e cut h = (
     t.octets ++ t.more,
     t.taken,
     subst (λ z. OnlyRefuses (profile_of q) z (fault_of refusal)) t.keeps h,
@@ -353,15 +346,15 @@ module _ (left left' : Option (List ℕ)) (recorded : List ℕ) (size : ℕ) whe
   )
 
 -- where no octet more was taken
-pub refused_last : (left left' left'' : Option (List ℕ)) (recorded recorded' : List ℕ) (size : ℕ) {T : Type 0} (q : Named) (is : T → List ℕ → Type 0) (text : Spelling → List ℕ) (is_good : Spelling → Bool) (frame : Framing) (refusal : Refusal) (end : Option ℕ)
+pub refused_last : (left left' left'' : Option (List ℕ)) (recorded recorded' : List ℕ) (size : ℕ) (q : Named) (frame : Framing) (refusal : Refusal) (end : Option ℕ)
     → Took left left' recorded size frame → TakesWhereCut left' left'' recorded recorded' frame refusal.cause false → end ≡ end_of frame size → OnlyRefuses (profile_of q) recorded (fault_of refusal)
-    → IsNext (profile_of q) {T = T} is text is_good left left'' recorded' (NextMessage.Refused refusal end)
-refused_last left left' left'' recorded recorded' size {T = T} q is text is_good frame refusal end t last e h =
-    subst (λ w. IsNext (profile_of q) {T = T} is text is_good left left'' w (NextMessage.Refused refusal end)) (sym last.0) (elim last.1 [
-      | inl n ↦ subst (λ l. IsNext (profile_of q) {T = T} is text is_good left l recorded (NextMessage.Refused refusal end)) (sym n.0)
-          (refused_took left left' recorded size q is text is_good frame t refusal end e (λ f c. absurd (n.1 f c)) h)
+    → IsNextRefused (profile_of q) left left'' recorded' refusal end
+refused_last left left' left'' recorded recorded' size q frame refusal end t last e h =
+    subst (λ w. IsNextRefused (profile_of q) left left'' w refusal end) (sym last.0) (elim last.1 [
+      | inl n ↦ subst (λ l. IsNextRefused (profile_of q) left l recorded refusal end) (sym n.0)
+          (refused_took left left' recorded size q frame t refusal end e (λ f c. absurd (n.1 f c)) h)
       | inr n ↦
           let unframed : TakesUnframed left left' recorded = subst (λ f. Took left left' recorded size f) n.0 t in
-          refused_took left left'' recorded size q is text is_good frame
+          refused_took left left'' recorded size q frame
           (subst (λ f. Took left left'' recorded size f) (sym n.0) (unframed_end left left' left'' recorded recorded unframed refl n.1)) refusal end e (λ _ _. n.2) h
     ])

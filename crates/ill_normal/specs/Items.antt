@@ -1,5 +1,5 @@
 -- An input that isn't given up at a message that is refused: what it is, what is written of it, and what is reported.
-use Rattle.std.specs.Prelude.{◌≡◌, ℕ, ◌+◌, Bool, true, ◌&&◌, List, [], ◌∷◌, ◌++◌, length, take, Option, Some, None, MatchOption}
+use Rattle.std.specs.Prelude.{◌≡◌, ℕ, ◌+◌, Bool, List, [], ◌∷◌, ◌++◌, length, take, Option, Some, None, MatchOption}
 use Rattle.std.specs.Io.KnownBytes.{IsAtEnd}
 use Rattle.ber_leaf.specs.Profile.{Profile}
 use Rattle.ber_framing.specs.Framed.{IsFrame}
@@ -42,16 +42,6 @@ abbrev pub position_past : MessagePlace → List Item → MessagePlace
 position_past p [] = p
 position_past p (x ∷ items) = position_past (after p (length (item_octets x))) items
 
--- what is written of one message, where `text` is written of it if it isn't refused
-abbrev pub written_of : (Spelling → List ℕ) → Item → List ℕ
-written_of text (good m) = text m
-written_of text (bad octets refusal) = []
-
--- what is written of messages from this position on, where `text p m` is written of the message at p if it isn't refused
-abbrev pub written_from : (MessagePlace → Spelling → List ℕ) → MessagePlace → List Item → List ℕ
-written_from text p [] = []
-written_from text p (x ∷ items) = written_of (text p) x ++ written_from text (after p (length (item_octets x))) items
-
 -- of the message at a position: why it is refused, and how many octets it has, where its end is known
 abbrev pub report : MessagePlace → Refusal → Option ℕ → RefusalReport
 report p refusal octets = record { message = p.number; offset = p.offset; refusal = refusal; octets = octets }
@@ -70,12 +60,6 @@ abbrev pub reports_from : MessagePlace → List Item → List RefusalReport
 reports_from p [] = []
 reports_from p (good m ∷ items) = reports_from (after p (length m.octets)) items
 reports_from p (bad octets refusal ∷ items) = report p refusal (Some (counted (length octets))) ∷ reports_from (after p (length octets)) items
-
--- whether each message that isn't refused is as it should be
-abbrev pub all_good : (Spelling → Bool) → List Item → Bool
-all_good is_good [] = true
-all_good is_good (good m ∷ items) = is_good m && all_good is_good items
-all_good is_good (bad octets refusal ∷ items) = all_good is_good items
 
 -- how many messages that aren't refused are as they should be
 abbrev pub good_in : (Spelling → Bool) → List Item → ℕ

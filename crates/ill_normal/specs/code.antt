@@ -1,3 +1,3 @@
-pub mod Ending
 pub mod Taking
-pub mod SkippingEnds
+pub mod Loop
+pub mod Streaming

@@ -1,5 +1,5 @@
-//! The next message of an input: its octets, up to where they end by their framing, and the output for it.
-ghost use Rattle.std.specs.Prelude.{◌≡◌, ℕ, ◌-◌, ◌<◌, ◌≤◌, List, [], ◌++◌, length, take, Option, IfOk, IfErr, OnOk, IsTrue, MatchOption};
+//! The next message of an input: its octets, up to where they end by their framing.
+ghost use Rattle.std.specs.Prelude.{◌≡◌, ℕ, ◌-◌, ◌<◌, ◌≤◌, List, [], ◌++◌, length, take, Option, IfOk, IfErr, OnOk, IsTrue};
 ghost use Rattle.std.specs.Io.KnownBytes.{Consumes, IsAtEnd, Keeps};
 ghost use Rattle.ber_framing.specs.Framed.{IsPartOfFrame};
 ghost use Rattle.ill_schema.specs.Profiles.{profile_of};
@@ -8,28 +8,28 @@ ghost use Rattle.ber_framing.specs.declared.framer.Framing.{Framing};
 ghost use Rattle.ill_normal.specs.Next.{IsNext, TakesPart};
 ghost use Rattle.ill_normal.specs.code.Taking.{end_of, Takes, TakesElement, TakesOctet, TakesUnframed, TakesWhereCut, Took};
 
-use crate::message_reader::MessageReader;
-use crate::messages::{MessagePlace, Render, Rendered, RenderedMessage, render_next};
-use crate::skipping::SkippingErrorKind;
+use crate::message_reader::{MessageReader, Wants};
 use ber_core::{Buffered, FromSlice, Lookahead, Source};
 use ber_framing::{Framer, Framing};
 use ill_read::ReadFailure;
-use ill_schema::{Cause, LIMIT, Refusal};
-use std::alloc::{AllocError, Global};
+use ill_schema::{Cause, LIMIT, Profile, Refusal};
+use std::alloc::AllocError;
 
 /// The number of octets that are asked of a source at once.
 const READ_LEN: usize = 1024;
 
 /// The next message of an input.
-#[derive(Drop)]
-pub enum NextMessage<T: Drop> {
-    /// The output for it.
-    Read(RenderedMessage<T>),
+#[derive(Clone, Copy)]
+pub enum NextMessage {
+    /// It was read.
+    Read,
     /// The reason why it is refused, and how many octets it has, where its end is known; 18,446,744,073,709,551,615 where they are more.
     Refused { refusal: Refusal, end: Option<u64> },
+    /// There is none.
+    AtEnd,
 }
 
-/// The reason why no message was read.
+/// The reason why no message was taken.
 #[derive(Clone, Copy)]
 pub enum TakeError {
     OutOfMemory,
@@ -37,45 +37,22 @@ pub enum TakeError {
     Broken,
 }
 
-impl TakeError {
-    ghost use Rattle.ill_normal.specs.code.SkippingEnds.{why_of};
-
-    /// The reason why the work stops.
-    pub(crate) fn why(self) -> SkippingErrorKind
-        ensures { result ≡ why_of self }
-    {
-        match self {
-            TakeError::OutOfMemory => SkippingErrorKind::OutOfMemory,
-            TakeError::Broken => SkippingErrorKind::ReadFault,
-        }
-    }
-}
-
-/// Reads the next message, and makes the output for it, or says why it is refused; None at the end of the input. It takes the octets
-/// of one element, as its framing gives it, and records the first 1,048,576 of them; `recorded` forgets what it had before. Where the
-/// element's end can't be known, it takes a length that is too great as a whole: a message is Truncated only where the input ends.
-///
-/// ```
-/// let next = take_message::<M, R, L>(alloc, &maker, &mut reader, position, &mut source, &mut recorded, buffer)?;
-/// ```
+/// Takes the octets of the next element, as its framing gives it, and records the first 1,048,576 of them; `recorded` forgets what it had
+/// before. Then the reader reads them as a message of the profile. Where the element's end can't be known, a length that is too great is taken as a
+/// whole: a message is Truncated only where the input ends.
 ///
 /// # Errors
 ///
 /// Memory ran out, or the source is broken.
-pub fn take_message<M: Render, R: Source, L: Lookahead<R>>(
-    alloc: Global,
-    maker: &M,
+pub fn take_message<R: Source, L: Lookahead<R>>(
+    profile: Profile,
+    wants: Wants,
     reader: &mut MessageReader,
-    position: MessagePlace,
     source: &mut R,
     recorded: &mut Vec<u8>,
-    buffer: M::Out,
-) -> Result<Option<NextMessage<M::Out>>, TakeError>
-    ensures next { IfOk result (λ found. MatchOption found
-        (Consumes (R.left source.old) (R.left source.new) [] × IsAtEnd (R.left source.new))
-        (IsNext (profile_of (M.reads maker.now)) M.Out.is (M.text maker.now position)
-        (M.is_good maker.now) (R.left source.old) (R.left source.new)
-        recorded.new.items)) }
+) -> Result<NextMessage, TakeError>
+    ensures next { IfOk result (IsNext (profile_of profile) wants (R.left source.old)
+        (R.left source.new) recorded.new.items reader.new.message) }
     ensures broken { IfErr result (λ e. e ≡ TakeError.Broken → IsTrue (R.is_broken source.new)
         × TakesPart (R.left source.old) (R.left source.new)) }
     ensures stays { IsTrue (R.is_broken source.old) → IsTrue (R.is_broken source.new) }
@@ -84,28 +61,20 @@ pub fn take_message<M: Render, R: Source, L: Lookahead<R>>(
         Ok(taken) => taken,
         Err(unread) => return Err(unread),
     };
-    let mut buffer = buffer;
     'judged: loop {
         let mut octets = FromSlice::new(recorded.as_slice());
-        let refusal = match render_next::<M, FromSlice<'_>, Buffered>(
-            alloc,
-            maker,
-            reader,
-            position,
-            &mut octets,
-            buffer,
-        ) {
-            Ok(Some(piece)) => return Ok(Some(NextMessage::Read(piece))),
-            Ok(None) => return Ok(None),
+        let refusal = match reader.read::<FromSlice<'_>, Buffered>(profile, wants, &mut octets) {
+            Ok(Some(_)) => return Ok(NextMessage::Read),
+            Ok(None) => return Ok(NextMessage::AtEnd),
             Err(ReadFailure::Refused(refusal)) => refusal,
             Err(ReadFailure::OutOfMemory) => return Err(TakeError::OutOfMemory),
             Err(ReadFailure::ReadFault) => unreachable!(),
         };
         match take_where_cut(source, recorded, taken.framing, refusal.cause) {
-            Ok(true) => buffer = M::Out::empty(alloc),
+            Ok(true) => {}
             Ok(false) => {
                 let end = end_of(taken);
-                return Ok(Some(NextMessage::Refused { refusal, end }));
+                return Ok(NextMessage::Refused { refusal, end });
             }
             Err(unread) => return Err(unread),
         }

@@ -6,16 +6,19 @@ ghost use Rattle.ill_schema.specs.declared.refusal.Refusal.{Refusal};
 ghost use Rattle.ill_refusals.specs.Fault.{fault_of, Refuses};
 ghost use Rattle.ill_normal.specs.Messages.{Spelling, first, output_from};
 ghost use Rattle.ill_normal.specs.declared.messages.MessagePlace.{MessagePlace};
-ghost use Rattle.ill_normal.specs.Skipping.{HasNoEnd};
-ghost use Rattle.ill_normal.specs.Items.{Item, AreItems, written_from, good_ones, HasNoMore, IsRefusedFor};
+ghost use Rattle.ill_normal.specs.Next.{HasNoEnd};
+ghost use Rattle.ill_normal.specs.Entries.{AreWritten, WritesText};
+ghost use Rattle.ill_normal.specs.Items.{Item, AreItems, good_ones, HasNoMore, IsRefusedFor};
 
 use ill_schema::Cause;
 
-/// The output for the accepted messages of an input is the output for them alone, if it doesn't depend on their positions.
+/// The output for the messages of an input is that for the accepted ones alone, if it doesn't depend on their places.
 pub fn accepted_messages_are_written()
-    ensures { (text : MessagePlace → Spelling → List ℕ) (p : MessagePlace) (items : List Item)
-        → ((q r : MessagePlace) (m : Spelling) → text q m ≡ text r m)
-        → written_from text p items ≡ output_from text first (good_ones items) }
+    ensures { (text : MessagePlace → Spelling → List ℕ)
+        → ((p q : MessagePlace) (m : Spelling) → text p m ≡ text q m)
+        → (p : MessagePlace) (items : List Item) (n : ℕ) (octets : List ℕ)
+        → AreWritten (WritesText text) p items n octets
+        → octets ≡ output_from text first (good_ones items) }
 {}
 
 /// In each profile an input is messages in one way, as far as their ends can be known.

@@ -2,81 +2,61 @@
 ghost use Rattle.std.specs.Prelude.{◌≡◌, ◌<◌, ◌≤◌, ℕ, List, [], true, false, length, IfOk, IfErr, IfSome, IsTrue};
 ghost use Rattle.std.specs.Io.KnownBytes.{IsAtEnd};
 ghost use Rattle.ber_leaf.specs.Profile.{profile_two};
-ghost use Rattle.ill_schema.specs.Apdu.{Apdu, IsStream, normal_form, normal_form_in};
+ghost use Rattle.ill_schema.specs.Apdu.{Apdu, IsStream};
 ghost use Rattle.ill_schema.specs.Profiles.{profile_of};
-ghost use Rattle.ill_tables.specs.declared.profile.Profile.{Profile as Named};
 ghost use Rattle.ill_refusals.specs.Fault.{Fault};
 ghost use Rattle.ill_refusals.specs.Outcome.{OnlyRefuses};
 ghost use Rattle.ill_normal.specs.Calls.{taking, putting};
-ghost use Rattle.ill_normal.specs.Messages.{part_written};
+ghost use Rattle.ill_normal.specs.Entries.{BreaksText, WritesText};
 ghost use Rattle.ill_normal.specs.ReadMessages.{wants};
-ghost use Rattle.ill_normal.specs.code.Ending.{stream_cause};
+ghost use Rattle.ill_normal.specs.code.Streaming.{IsCause, IsStreamFault, normal_text, stream_cause, stream_failure};
 ghost use Rattle.ill_normal.specs.Streamed.{Passes, PassesIn, StopsAfter, StopsAfterIn, AnswersCount, AnswersRefusedAfter, AnswersTooMany};
 
 use crate::failure::{NormalFailure, StreamCause, StreamFailure};
+use crate::item_loop::read_items;
 use crate::message_reader::{ReadMessage, Wants};
-use crate::messages::{MessagePlace, Render, RenderedMessage, StreamErrorKind, for_each_message};
-use ber_core::{Lookahead, Sink, Source, Unbuffered};
-use ill_read::ReadFailure;
+use crate::messages::{MessagePlace, OnRefusal, Reading, StreamEnd};
+use crate::report::{NoReports, RefusalReport};
+use crate::write_items::{PutError, WriteItems, Written};
+use ber_core::{Sink, Source, Unbuffered, put_all};
+use ill_inputs::RunFault;
 use ill_schema::Profile;
-use std::alloc::{AllocError, Global};
-use std::mem;
+use std::alloc::Global;
 
-/// Makes the normal form of each message.
-pub struct NormalForms;
+/// The reading of a stream, up to a message that is refused.
+const STOPPING: Reading = Reading {
+    hex: false,
+    on_refusal: OnRefusal::Stop,
+    only: None,
+};
 
-impl Render for NormalForms {
-    type Out = Vec<u8>;
-
-    ghost reads = { λ _. Named.Two };
-
-    ghost needs = { λ _. wants false false };
-
-    ghost text = { λ _ p m. normal_form m.apdu };
-
-    ghost is_good = { λ _ m. true };
-
-    fn profile(&self) -> Profile {
-        Profile::Two
-    }
-
-    fn wants(&self) -> Wants {
-        Wants {
-            spelled: false,
-            outline: false,
-        }
-    }
-
-    fn render(
-        &self,
-        alloc: Global,
-        place: MessagePlace,
-        message: &mut ReadMessage,
-        buffer: Vec<u8>,
-    ) -> Result<RenderedMessage<Vec<u8>>, AllocError> {
-        let forms = NormalFormsIn {
-            profile: Profile::Two,
-        };
-        forms.render(alloc, place, message, buffer)
-    }
-}
-
-/// Makes the normal form of each message, in a profile.
+/// Writes the normal form of each message, in a profile.
 #[derive(Clone, Copy)]
-pub struct NormalFormsIn {
+pub struct WriteNormalForms {
+    pub alloc: Global,
     pub profile: Profile,
 }
 
-impl Render for NormalFormsIn {
-    type Out = Vec<u8>;
+impl WriteItems for WriteNormalForms {
+    type Options = Profile;
 
-    ghost reads = { λ forms. forms.profile };
+    ghost options = { λ writer. writer.profile };
+
+    ghost is_ready = { λ _. Unit {0} };
+
+    ghost reads = { λ profile. profile };
 
     ghost needs = { λ _. wants false false };
 
-    ghost text = { λ forms p m. normal_form_in (profile_of forms.profile) m.apdu };
+    ghost writes = { λ profile. WritesText (normal_text profile) };
+
+    ghost fails = { λ profile. BreaksText (normal_text profile) };
 
     ghost is_good = { λ _ m. true };
+
+    fn alloc(&self) -> Global {
+        self.alloc
+    }
 
     fn profile(&self) -> Profile {
         self.profile
@@ -89,32 +69,60 @@ impl Render for NormalFormsIn {
         }
     }
 
-    fn render(
-        &self,
-        _alloc: Global,
+    fn accepted<W: Sink>(
+        &mut self,
         _place: MessagePlace,
         message: &mut ReadMessage,
-        buffer: Vec<u8>,
-    ) -> Result<RenderedMessage<Vec<u8>>, AllocError> {
-        Ok(RenderedMessage {
-            text: mem::replace(&mut message.normal, buffer),
-            is_good: true,
-            octets: message.len,
-        })
+        sink: &mut W,
+    ) -> Result<Written, PutError> {
+        match put_all(sink, &message.normal) {
+            Ok(()) => Ok(Written {
+                octets: message.normal.len() as u64,
+                is_good: true,
+            }),
+            Err(count) => Err(PutError::Broken(count as u64)),
+        }
+    }
+
+    fn refused<W: Sink>(
+        &mut self,
+        _report: RefusalReport,
+        _octets: &[u8],
+        _sink: &mut W,
+    ) -> Result<u64, PutError> {
+        Ok(0)
     }
 }
 
 /// The reason why a stream went no further.
-fn cause(why: StreamErrorKind) -> StreamCause
-    requires { part_written why ≤ 1_048_576 }
-    ensures { result ≡ stream_cause why }
+fn failure_of(end: StreamEnd, fault: RunFault) -> StreamFailure
+    requires { IsStreamFault end.counts fault }
+    ensures { result ≡ stream_failure end.counts fault }
 {
-    match why {
-        StreamErrorKind::Read(failure) => StreamCause::Normal(NormalFailure::from(failure)),
-        StreamErrorKind::Write(count) => StreamCause::Normal(NormalFailure::WriteFault(
-            count as u32,
-        )),
-        StreamErrorKind::TooMany => StreamCause::TooManyMessages,
+    StreamFailure {
+        whole: end.counts.messages - end.counts.refused,
+        before: end.counts.octets,
+        why: cause(end.counts.written, fault),
+    }
+}
+
+fn cause(written: u128, fault: RunFault) -> StreamCause
+    requires { IsCause written fault }
+    ensures { result ≡ stream_cause written fault }
+{
+    match fault {
+        RunFault::Refused { refusal, .. } => StreamCause::Normal(NormalFailure::Refused(refusal)),
+        RunFault::OutOfMemory => StreamCause::Normal(NormalFailure::OutOfMemory),
+        RunFault::ReadFault => StreamCause::Normal(NormalFailure::ReadFault),
+        RunFault::WriteFault(count) => {
+            StreamCause::Normal(NormalFailure::WriteFault((count - written) as u32))
+        }
+        RunFault::TooManyMessages => StreamCause::TooManyMessages,
+        RunFault::RefusedSide(..)
+        | RunFault::OddHex
+        | RunFault::BadHex(_)
+        | RunFault::HexTooLong
+        | RunFault::NotReported => unreachable!(),
     }
 }
 
@@ -190,13 +198,16 @@ pub fn normalise_stream_as<R: Source, W: Sink>(
     ensures source_stays { IsTrue (R.is_broken source.old) → IsTrue (R.is_broken source.new) }
     ensures sink_stays { IsTrue (W.is_broken sink.old) → IsTrue (W.is_broken sink.new) }
 {
-    let forms = NormalFormsIn { profile };
-    match for_each_message::<NormalFormsIn, R, Unbuffered, W>(alloc, &forms, source, sink) {
-        Ok(passed) => Ok(passed.whole),
-        Err(stopped) => Err(StreamFailure {
-            whole: stopped.whole,
-            before: stopped.before,
-            why: cause(stopped.why),
-        }),
+    let mut writer = WriteNormalForms { alloc, profile };
+    let end = read_items::<WriteNormalForms, R, Unbuffered, W, NoReports>(
+        STOPPING,
+        &mut writer,
+        source,
+        sink,
+        &mut NoReports,
+    );
+    match end.fault {
+        None => Ok(end.counts.messages),
+        Some(fault) => Err(failure_of(end, fault)),
     }
 }

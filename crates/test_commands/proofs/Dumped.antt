@@ -1,5 +1,5 @@
 -- What a dump of a known input says.
-use Rattle.std.proofs.Common.{◌≡◌, ◌<◌, ◌≤◌, ℕ, Bool, false, List, [], ◌∷◌, ◌++◌, Option, Some, None, Result, Ok, Err, length, sym, ap, subst, ◌∙◌, inl, inr, arith, append-nil, length-append, refl}
+use Rattle.std.proofs.Common.{◌≡◌, ◌+◌, ◌<◌, ◌≤◌, ℕ, Bool, false, true, List, [], ◌∷◌, ◌++◌, Option, Some, None, length, sym, ap, subst, ◌∙◌, inl, inr, arith, append_assoc, length-append, refl}
 use Rattle.std.proofs.lemmas.Bool.{cases_lt}
 use Rattle.ber_leaf.specs.Profile.{Profile}
 use Rattle.ill_schema.specs.Apdu.{Apdu, IsStream}
@@ -9,9 +9,20 @@ use Rattle.ill_refusals.specs.Fault.{Fault, fault_of}
 use Rattle.ill_refusals.specs.Outcome.{OnlyRefuses}
 use Rattle.ill_inputs.specs.Inputs.{IsResourceFault}
 use Rattle.ill_inputs.specs.declared.run_fault.RunFault.{RunFault}
-use Rattle.std.specs.Prelude.{IfErr, IfOk}
+use Rattle.std.specs.Prelude.{if◌then◌else◌}
+use Rattle.std.specs.Io.KnownBytes.{Appends, Consumes}
+use Rattle.ill_normal.specs.Calls.{Putting, putting, taking}
+use Rattle.ill_normal.specs.Entries.{AreWritten}
+use Rattle.ill_normal.specs.Items.{AreItems, Item, bad, good}
+use Rattle.ill_normal.specs.Messages.{after, first}
+use Rattle.ill_normal.specs.Items.{position_past}
+use Rattle.ill_normal.specs.Reading.{AreAccepted, EndsFor, GoesPast, IsLast, ReadsInput, ReadsItems, RefusesRest, Reporting, last_of, reporting}
+use Rattle.ill_normal.specs.declared.messages.MessagePlace.{MessagePlace}
+use Rattle.ill_normal.specs.declared.messages.OnRefusal.{OnRefusal}
+use Rattle.ill_normal.specs.declared.messages.StreamEnd.{StreamEnd}
 use Rattle.ill_dump.specs.declared.run.DumpOptions.{DumpOptions}
-use Rattle.ill_dump.specs.Dumped.{AreDumped, DumpDone, DumpFails, DumpsUpTo, IsLastDumped, DumpStopsIn}
+use Rattle.ill_dump.specs.Dumped.{RunsDump, WritesLines, dumped, head, is_chosen, reading_of}
+use Rattle.test_commands.specs.Heads.{AreHeaded}
 
 front_none : (b t : List ℕ) → [] ≡ b ++ t → b ≡ []
 front_none [] t e = cc
@@ -37,35 +48,40 @@ none_refused p s rest xs ys f h k some only = elim (cases_lt (length xs) (length
   | inr ge ↦ (let m = stream_fewer p s rest [] ys xs k h (omega (arith, ge)) in not_refused p m.0 rest f m.2 some only)
 ]
 
--- where no one message is asked for, the last one is at the end
-all_taken : (dump : DumpOptions) (n : ℕ) (t : List ℕ) → dump.only ≡ None → IsLastDumped dump n (Some t) → t ≡ []
-all_taken dump n t e (inl h) = h
-all_taken dump n t e (inr h) = absurd (let no : None ≡ Some n = sym e ∙ h in cc)
+-- ---- messages none of which is refused
 
-pub whole : (dump : DumpOptions) (s t : List ℕ) (held held' : Option (List ℕ)) (n : ℕ) → dump.only ≡ None → (d : AreDumped dump (Some s) (Some t) held held' n) → IsStream (profile_of dump.profile) s d.apdus []
-whole dump s t held held' n all d =
-    let e : s ≡ d.octets = d.taken ∙ ap (λ l. d.octets ++ l) (all_taken dump n t all d.last) ∙ append-nil d.octets in
-    subst (λ l. IsStream (profile_of dump.profile) l d.apdus []) (sym e) d.stream
+pub apdus_of : List Item → List Apdu
+apdus_of [] = []
+apdus_of (good m ∷ items) = m.apdu ∷ apdus_of items
+apdus_of (bad octets refusal ∷ items) = apdus_of items
 
-pub ends : (dump : DumpOptions) (s t : List ℕ) (held held' : Option (List ℕ)) (n : ℕ) → dump.only ≡ None → AreDumped dump (Some s) (Some t) held held' n → (e : RunFault) → DumpStopsIn (profile_of dump.profile) s e → IsResourceFault e
-ends dump s t held held' n all d (RunFault.Refused message refusal) h = absurd (none_refused (profile_of dump.profile) s h.1 d.apdus h.0 (fault_of refusal) (whole dump s t held held' n all d) h.2 h.4 h.5)
-ends dump s t held held' n all d RunFault.TooManyMessages h = absurd (no_more (profile_of dump.profile) s h.1 d.apdus h.0 (whole dump s t held held' n all d) h.2 h.4 (omega (arith, d.few, d.counted, h.3)))
-ends dump s t held held' n all d (RunFault.RefusedSide side refusal) h = h
-ends dump s t held held' n all d RunFault.OddHex h = h
-ends dump s t held held' n all d (RunFault.BadHex place) h = h
-ends dump s t held held' n all d RunFault.HexTooLong h = h
-ends dump s t held held' n all d RunFault.NotReported h = h
-ends dump s t held held' n all d RunFault.OutOfMemory h = h
-ends dump s t held held' n all d RunFault.ReadFault h = h
-ends dump s t held held' n all d (RunFault.WriteFault count) h = h
+counted_apdus : (items : List Item) → AreAccepted items → length (apdus_of items) ≡ length items
+unfolding apdus_of
+counted_apdus [] h = refl
+counted_apdus (good m ∷ items) h = omega (arith, counted_apdus items h)
+counted_apdus (bad octets refusal ∷ items) h = absurd h
 
-module _ (dump : DumpOptions) (s t : List ℕ) (held held' : Option (List ℕ)) where
-  pub done : (r : Result ℕ RunFault) (n : ℕ) → dump.hex ≡ false → r ≡ Ok n → IfOk r (DumpDone dump.hex dump (Some s) (Some t) held held') → AreDumped dump (Some s) (Some t) held held' n
-  done r n p e h = subst (λ b. DumpDone b dump (Some s) (Some t) held held' n) p (subst (λ r. IfOk r (DumpDone dump.hex dump (Some s) (Some t) held held')) e h)
+is_stream : (p : Profile) (s rest : List ℕ) (items : List Item) → AreItems p s items [] → AreAccepted items → IsStream p (s ++ rest) (apdus_of items) rest
+unfolding apdus_of
+is_stream p s rest [] h k = ap (λ l. l ++ rest) h
+is_stream p s rest (good m ∷ items) h k = (m.octets, h.0 ++ rest, ap (λ l. l ++ rest) h.1 ∙ append_assoc m.octets h.0 rest, h.2, is_stream p h.0 rest items h.3 k)
+is_stream p s rest (bad octets refusal ∷ items) h k = absurd k
 
-  pub fails : (r : Result ℕ RunFault) (broken : Bool) (e : RunFault) → dump.hex ≡ false → r ≡ Err e → IfErr r (DumpFails dump.hex dump (Some s) (Some t) broken held held')
-      → DumpStopsIn (profile_of dump.profile) s e × DumpsUpTo dump e held held'
-  fails r broken e p f h = subst (λ b. DumpFails b dump (Some s) (Some t) broken held held' e) p (subst (λ r. IfErr r (DumpFails dump.hex dump (Some s) (Some t) broken held held')) f h)
+-- each has its head
+headed : (dump : DumpOptions) → dump.only ≡ None → (p : MessagePlace) (i : ℕ) → p.number ≡ i → (items : List Item) (as' : List Apdu) → AreAccepted items → length items ≡ length as'
+    → (n : ℕ) (octets : List ℕ) → AreWritten (WritesLines dump) p items n octets → AreHeaded dump i as' octets
+headed dump e p i pi [] [] k len n octets h = h.1
+headed dump e p i pi [] (a ∷ as') k len n octets h = absurd (omega (arith, len))
+headed dump e p i pi (bad o refusal ∷ items) as' k len n octets h = absurd k
+headed dump e p i pi (good m ∷ items) [] k len n octets h = absurd (omega (arith, len))
+headed dump e p i pi (good m ∷ items) (a ∷ as') k len n octets h =
+    let line : dumped dump p.number h.6.0 ≡ head dump p.number ++ h.6.0 = ap (λ o. if is_chosen o p.number then head dump p.number ++ h.6.0 else []) e in
+    let here : h.2 ≡ head dump i ++ h.6.0 = h.6.1 ∙ line ∙ ap (λ j. head dump j ++ h.6.0) pi in (
+      h.6.0,
+      h.3,
+      h.5 ∙ ap (λ l. l ++ h.3) here,
+      headed dump e (after p (length m.octets)) (i + 1) (ap (λ j. j + 1) pi) items as' k (omega (arith, len)) h.1 h.3 h.7,
+    )
 
 -- octets are one number of messages
 fewer : (p : Profile) (s : List ℕ) (xs ys : List Apdu) → IsStream p s xs [] → IsStream p s ys [] → length xs ≤ length ys → length xs ≡ length ys
@@ -83,3 +99,65 @@ as_many p s xs ys h k = elim (cases_lt (length xs) (length ys)) [
   | inl lt ↦ fewer p s xs ys h k (omega (arith, lt))
   | inr ge ↦ sym (fewer p s ys xs k h (omega (arith, ge)))
 ]
+
+stream_at : (p : Profile) (s : List ℕ) (rest : Option (List ℕ)) (octets : List ℕ) (items : List Item) → Consumes (Some s) rest octets → AreItems p octets items [] → AreAccepted items
+    → (r : List ℕ) × (rest ≡ Some r) × IsStream p s (apdus_of items) r
+stream_at p s None octets items taken are k = absurd taken
+stream_at p s (Some r) octets items taken are k = (r, refl, subst (λ l. IsStream p l (apdus_of items) r) (sym taken) (is_stream p octets r items are k))
+
+module _ (dump : DumpOptions) (s t : List ℕ) (broken : Bool) (sink : Putting) (reports : Reporting) (end : StreamEnd) where
+  abbrev q : Profile
+  q = profile_of dump.profile
+
+  abbrev pub Read : Type 0
+  Read = ReadsItems (reading_of dump) q (WritesLines dump) (λ entry error held held'. Unit {0}) (λ m. true) (taking (Some s) (Some t) broken) sink reports end
+
+  pub reads : dump.hex ≡ false → RunsDump dump (taking (Some s) (Some t) broken) sink reports end → Read
+  reads e h = subst (λ (b : Bool). ReadsInput b (reading_of dump) q (WritesLines dump) (λ entry error held held'. Unit {0}) (λ m. true) (taking (Some s) (Some t) broken) sink reports end) e h
+
+  module _ (ends : dump.on_refusal ≡ OnRefusal.EndWith) (h : Read) where
+    accepted : AreAccepted h.items
+    accepted = subst (λ m. GoesPast m h.items) ends h.past
+
+    stream : (r : List ℕ) × (h.rest ≡ Some r) × IsStream q s (apdus_of h.items) r
+    stream = stream_at q s h.rest h.passes.octets h.items h.passes.taken h.passes.are accepted
+
+    abbrev EndsBy : Option RunFault → Type 0
+    EndsBy fault =
+        EndsFor q (WritesLines dump) (λ entry error held held'. Unit {0}) (reading_of dump) (taking h.rest (Some t) broken) (putting h.grown sink.held' sink.broken) (reporting h.reported reports.new) (length h.items)
+        (position_past first h.items) end.counts.written fault
+
+    pub whole : dump.only ≡ None → end.fault ≡ None → IsStream q s (apdus_of h.items) [] × (length (apdus_of h.items) ≤ 1_000_000)
+    whole all none =
+        let e : EndsBy None = subst EndsBy none h.ends in
+        let here : stream.0 ≡ t = subst (λ r. Consumes r (Some t) []) stream.1 e.1 in
+        let empty : t ≡ [] = elim e.2 [ inl x ↦ x | inr only ↦ absurd (let no : None ≡ Some (length h.items) = sym all ∙ only in cc) ] in
+        (subst (λ r. IsStream q s (apdus_of h.items) r) (here ∙ empty) stream.2, omega (arith, e.0, counted_apdus h.items accepted))
+
+    pub all_headed : dump.only ≡ None → end.fault ≡ None → (as' : List Apdu) → IsStream q s as' []
+        → (end.counts.messages ≡ length as') × ((lines : List ℕ) × AreHeaded dump 1 as' lines × Appends sink.held sink.held' lines)
+    all_headed all none as' k =
+        let e : EndsBy None = subst EndsBy none h.ends in
+        let last : last_of end.fault ≡ 0 = ap last_of none in
+        let same : length h.items ≡ length as' = sym (counted_apdus h.items accepted) ∙ as_many q s (apdus_of h.items) as' (whole all none).0 k in
+        (omega (arith, h.messages, last, same), (h.passes.output, headed dump all first 1 refl h.items as' accepted same end.counts.written h.passes.output h.passes.written, subst (λ z. Appends sink.held z h.passes.output) e.3 h.passes.put))
+
+    by_fault : (xs : List Apdu) → IsStream q s xs [] → length xs ≤ 1_000_000 → (e : RunFault) → EndsBy (Some e) → IsResourceFault e
+    by_fault xs k few (RunFault.Refused message refusal) e =
+        let last = subst (λ m. IsLast q (WritesLines dump) (λ entry error held held'. Unit {0}) m (taking h.rest (Some t) broken) (putting h.grown sink.held' sink.broken) (reporting h.reported reports.new) (position_past first h.items) refusal) ends e.2 in
+        let rest = subst (λ r. RefusesRest q r refusal) stream.1 last.0 in
+        absurd (none_refused q s stream.0 xs (apdus_of h.items) (fault_of refusal) k stream.2 rest.0 rest.1)
+    by_fault xs k few RunFault.TooManyMessages e =
+        let more : stream.0 ≡ e.1.0 ∷ t = subst (λ r. Consumes r (Some t) (e.1.0 ∷ [])) stream.1 e.1.1 in
+        absurd (no_more q s stream.0 xs (apdus_of h.items) k stream.2 (omega (arith, ap length more)) (omega (arith, few, e.0, counted_apdus h.items accepted)))
+    by_fault xs k few RunFault.NotReported e = absurd (let no : OnRefusal.EndWith ≡ OnRefusal.GoOn = sym ends ∙ e.1 in cc)
+    by_fault xs k few (RunFault.RefusedSide side refusal) e = e
+    by_fault xs k few RunFault.OddHex e = e
+    by_fault xs k few (RunFault.BadHex place) e = e
+    by_fault xs k few RunFault.HexTooLong e = e
+    by_fault xs k few RunFault.OutOfMemory e = tt
+    by_fault xs k few RunFault.ReadFault e = tt
+    by_fault xs k few (RunFault.WriteFault n) e = tt
+
+    pub fails : (xs : List Apdu) → IsStream q s xs [] → length xs ≤ 1_000_000 → (e : RunFault) → end.fault ≡ Some e → IsResourceFault e
+    fails xs k few e is = by_fault xs k few e (subst EndsBy is h.ends)

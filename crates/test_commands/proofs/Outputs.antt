@@ -14,7 +14,6 @@ use Rattle.ill_commands.specs.Output.{message_output, message_text}
 use Rattle.ill_inputs.specs.Inputs.{FailsText, IsResourceFault, TextOf}
 use Rattle.ill_commands.specs.Runs.{Done, IsUnnamed, JobDone, JobFails, RunFails, JobStopsAfter, WritesMessages}
 use Rattle.ill_inputs.specs.declared.run_fault.RunFault.{RunFault}
-use Rattle.ill_commands.specs.declared.job.Counts.{Counts}
 use Rattle.ill_commands.specs.declared.job.Job.{Job}
 use Rattle.ill_inputs.specs.declared.verdict.Verdict.{Verdict}
 use Rattle.ill_commands.specs.declared.job.JobOptions.{JobOptions}
@@ -89,17 +88,17 @@ before_once RunFault.OutOfMemory m n h k = absurd h
 before_once RunFault.ReadFault m n h k = absurd h
 before_once (RunFault.WriteFault i) m n h k = absurd h
 
-module _ (q : Named) (job : Job) (hex : Bool) (s held held' : List ℕ) (left' : Option (List ℕ)) (x y : Bool) (work : JobOptions) (u : IsUnnamed q job hex work) (counts : Counts) where
-  done_wrote : (v : Verdict) (d : Done work (Some s) left' (Some held) (Some held') counts v) → Wrote (profile_of q) (message_text (profile_of q) job hex (codes "-") false) s held held' d.messages
+module _ (q : Named) (job : Job) (hex : Bool) (s held held' : List ℕ) (left' : Option (List ℕ)) (x y : Bool) (work : JobOptions) (u : IsUnnamed q job hex work) where
+  done_wrote : (v : Verdict) (d : Done work (Some s) left' (Some held) (Some held') v) → Wrote (profile_of q) (message_text (profile_of q) job hex (codes "-") false) s held held' d.messages
   done_wrote v d = wrote q job hex s held work u held' left' (Some held') d.messages d.writes refl
 
-  done_whole : (v : Verdict) (d : Done work (Some s) left' (Some held) (Some held') counts v) → AreSpelledIn (profile_of q) s d.messages []
+  done_whole : (v : Verdict) (d : Done work (Some s) left' (Some held) (Some held') v) → AreSpelledIn (profile_of q) s d.messages []
   done_whole v d =
       let t = taken_of work s left' (Some held) (Some held') d.messages d.writes in
       let spelled = subst (λ (p : Named). AreSpelledIn (profile_of p) s d.messages t.0) u.profile t.2 in
       subst (AreSpelledIn (profile_of q) s d.messages) (subst IsAtEnd t.1 d.end) spelled
 
-  stop_wrote : (e : RunFault) → (IsResourceFault e → ⊥) → (h : JobStopsAfter work (taking (Some s) left' x) (putting (Some held) (Some held') y) counts e)
+  stop_wrote : (e : RunFault) → (IsResourceFault e → ⊥) → (h : JobStopsAfter work (taking (Some s) left' x) (putting (Some held) (Some held') y) e)
       → Wrote (profile_of q) (message_text (profile_of q) job hex (codes "-") false) s held held' h.messages × Before e (length h.messages)
   stop_wrote (RunFault.Refused message refusal) sound h = (wrote q job hex s held work u held' h.rest h.grown h.messages h.writes h.stops.3, h.stops.0)
   stop_wrote RunFault.TooManyMessages sound h = (wrote q job hex s held work u held' h.rest h.grown h.messages h.writes h.stops.2, h.stops.0)
@@ -116,13 +115,13 @@ module _ (q : Named) (job : Job) (hex : Bool) (s held held' : List ℕ) (left' :
 module _ (q : Named) (job : Job) (s held new other : List ℕ) (left left' : Option (List ℕ)) (x y x' y' : Bool) where
   plain_done : (v w : Verdict) → JobDone q job false (taking (Some s) left x) (putting (Some held) (Some new) y) v → JobDone q job false (taking (Some s) left' x') (putting (Some held) (Some other) y') w → new ≡ other
   plain_done v w d f =
-      once q job false s held new other d.done.messages f.done.messages (done_wrote q job false s held new left x y d.work d.unnamed d.counts v d.done) (done_wrote q job false s held other left' x' y' f.work f.unnamed f.counts w f.done)
-      (ap length (one_reading (profile_of q) s d.done.messages f.done.messages (done_whole q job false s held new left x y d.work d.unnamed d.counts v d.done) (done_whole q job false s held other left' x' y' f.work f.unnamed f.counts w f.done)))
+      once q job false s held new other d.done.messages f.done.messages (done_wrote q job false s held new left x y d.work d.unnamed v d.done) (done_wrote q job false s held other left' x' y' f.work f.unnamed w f.done)
+      (ap length (one_reading (profile_of q) s d.done.messages f.done.messages (done_whole q job false s held new left x y d.work d.unnamed v d.done) (done_whole q job false s held other left' x' y' f.work f.unnamed w f.done)))
 
   plain_fails : (e : RunFault) → (IsResourceFault e → ⊥) → JobFails q job false (taking (Some s) left x) (putting (Some held) (Some new) y) e → JobFails q job false (taking (Some s) left' x') (putting (Some held) (Some other) y') e → new ≡ other
   plain_fails e sound d f =
-      let a = stop_wrote q job false s held new left x y d.work d.unnamed d.counts e sound d.fails in
-      let b = stop_wrote q job false s held other left' x' y' f.work f.unnamed f.counts e sound f.fails in
+      let a = stop_wrote q job false s held new left x y d.work d.unnamed e sound d.fails in
+      let b = stop_wrote q job false s held other left' x' y' f.work f.unnamed e sound f.fails in
       once q job false s held new other d.fails.messages f.fails.messages a.0 b.0 (before_once e _ _ a.1 b.1)
 
   text_is : (l : Option (List ℕ)) (o : List ℕ) → TextOf (Some s) l o → hex_octets s ≡ Ok o
@@ -133,10 +132,10 @@ module _ (q : Named) (job : Job) (s held new other : List ℕ) (left left' : Opt
       let o = d.done.0 in
       let e : f.done.0 ≡ o = same_ok (hex_octets s) f.done.0 o (text_is left' f.done.0 f.done.1) (text_is left o d.done.1) in
       let a = d.done.2.1 in
-      let b = subst (λ l. Done f.work (Some l) (Some f.done.2.0) (Some held) (Some other) f.counts w) e f.done.2.1 in
+      let b = subst (λ l. Done f.work (Some l) (Some f.done.2.0) (Some held) (Some other) w) e f.done.2.1 in
       once q job true o held new other a.messages b.messages
-      (done_wrote q job true o held new (Some d.done.2.0) x y d.work d.unnamed d.counts v a) (done_wrote q job true o held other (Some f.done.2.0) x' y' f.work f.unnamed f.counts w b)
-      (ap length (one_reading (profile_of q) o a.messages b.messages (done_whole q job true o held new (Some d.done.2.0) x y d.work d.unnamed d.counts v a) (done_whole q job true o held other (Some f.done.2.0) x' y' f.work f.unnamed f.counts w b)))
+      (done_wrote q job true o held new (Some d.done.2.0) x y d.work d.unnamed v a) (done_wrote q job true o held other (Some f.done.2.0) x' y' f.work f.unnamed w b)
+      (ap length (one_reading (profile_of q) o a.messages b.messages (done_whole q job true o held new (Some d.done.2.0) x y d.work d.unnamed v a) (done_whole q job true o held other (Some f.done.2.0) x' y' f.work f.unnamed w b)))
 
   -- a text that stands for nothing
   no_octets : (l : Option (List ℕ)) (z : Bool) (e : RunFault) → (IsResourceFault e → ⊥) → FailsText (Some s) l z e → hex_octets s ≡ Err e
@@ -146,16 +145,16 @@ module _ (q : Named) (job : Job) (s held new other : List ℕ) (left left' : Opt
   text_fails : (e : RunFault) → (IsResourceFault e → ⊥) → JobFails q job true (taking (Some s) left x) (putting (Some held) (Some new) y) e → JobFails q job true (taking (Some s) left' x') (putting (Some held) (Some other) y') e → new ≡ other
   text_fails e sound d f = go d.fails f.fails
     where
-      go : RunFails true d.work (taking (Some s) left x) (putting (Some held) (Some new) y) d.counts e → RunFails true f.work (taking (Some s) left' x') (putting (Some held) (Some other) y') f.counts e → new ≡ other
+      go : RunFails true d.work (taking (Some s) left x) (putting (Some held) (Some new) y) e → RunFails true f.work (taking (Some s) left' x') (putting (Some held) (Some other) y') e → new ≡ other
       go (inl h) (inl k) = h.1 ∙ sym k.1
       go (inl h) (inr k) = absurd (not_both (hex_octets s) k.0 e (text_is left' k.0 k.1) (no_octets left x e sound h.0))
       go (inr h) (inl k) = absurd (not_both (hex_octets s) h.0 e (text_is left h.0 h.1) (no_octets left' x' e sound k.0))
       go (inr h) (inr k) =
           let o = h.0 in
           let same : k.0 ≡ o = same_ok (hex_octets s) k.0 o (text_is left' k.0 k.1) (text_is left o h.1) in
-          let b = subst (λ l. JobStopsAfter f.work (taking (Some l) (Some k.2.0) false) (putting (Some held) (Some other) y') f.counts e) same k.2.1 in
-          let one = stop_wrote q job true o held new (Some h.2.0) false y d.work d.unnamed d.counts e sound h.2.1 in
-          let two = stop_wrote q job true o held other (Some k.2.0) false y' f.work f.unnamed f.counts e sound b in
+          let b = subst (λ l. JobStopsAfter f.work (taking (Some l) (Some k.2.0) false) (putting (Some held) (Some other) y') e) same k.2.1 in
+          let one = stop_wrote q job true o held new (Some h.2.0) false y d.work d.unnamed e sound h.2.1 in
+          let two = stop_wrote q job true o held other (Some k.2.0) false y' f.work f.unnamed e sound b in
           once q job true o held new other h.2.1.messages b.messages one.0 two.0 (before_once e _ _ one.1 two.1)
 
   -- one result, and no fault of memory, the source or the sink

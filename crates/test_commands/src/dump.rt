@@ -3,9 +3,10 @@
 mod contracts;
 mod skipping;
 
-use ber_core::{Pieces, Room, ToWrite, Unbuffered};
+use ber_core::{Pieces, Room, Sink, Source, ToWrite, Unbuffered};
 use ill_commands::RunFault;
 use ill_dump::{DumpFormat, DumpOptions, run_dump};
+use ill_normal::{NoReports, OnRefusal};
 use ill_schema::Profile;
 use std::alloc::{AllocError, Global};
 use std::test::Fail;
@@ -68,6 +69,7 @@ const PLAIN: DumpOptions<'static> = DumpOptions {
     names_input: false,
     only: None,
     format: DumpFormat::Text,
+    on_refusal: OnRefusal::EndWith,
 };
 
 /// The pieces in which octets come from a source, and go into a sink.
@@ -86,6 +88,21 @@ const SOUND: Transfer = Transfer {
     sink_breaks: None,
 };
 
+/// The number of messages that a dump went through, or the reason why it ended before.
+fn result_of<R: Source, W: Sink>(
+    alloc: Global,
+    dump: DumpOptions<'_>,
+    source: &mut R,
+    sink: &mut W,
+) -> Result<u32, RunFault> {
+    let reports = &mut NoReports;
+    let end = run_dump::<R, Unbuffered, W, NoReports>(alloc, dump, source, sink, reports);
+    match end.fault {
+        None => Ok(end.counts.messages),
+        Some(fault) => Err(fault),
+    }
+}
+
 /// The result of a dump, and how many octets the sink has, None where they are not the first of the text.
 fn dumped(
     alloc: Global,
@@ -96,12 +113,7 @@ fn dumped(
 ) -> (Result<u32, RunFault>, Option<usize>) {
     let mut source = Pieces::new(octets, transfer.per_call.0.max(1), transfer.source_breaks);
     let mut sink: Room<2048> = Room::new(transfer.per_call.1.max(1), transfer.sink_breaks);
-    let result = run_dump::<Pieces<'_>, Unbuffered, Room<2048>>(
-        alloc,
-        dump,
-        &mut source,
-        &mut sink,
-    );
+    let result = result_of(alloc, dump, &mut source, &mut sink);
     let written = sink.octets();
     let count = text
         .as_bytes()
@@ -140,18 +152,14 @@ const NAMED: DumpOptions<'static> = DumpOptions {
     names_input: true,
     only: None,
     format: DumpFormat::Text,
+    on_refusal: OnRefusal::EndWith,
 };
 
 #[test]
 fn a_dump_of_a_named_file_names_it(rt: HostRuntime) {
     let mut source = Pieces::new(REFUSED.as_bytes(), 64, None);
     let mut sink: Room<2048> = Room::new(2048, None);
-    let result = run_dump::<Pieces<'_>, Unbuffered, Room<2048>>(
-        rt.alloc(),
-        NAMED,
-        &mut source,
-        &mut sink,
-    );
+    let result = result_of(rt.alloc(), NAMED, &mut source, &mut sink);
     let head = b"a b: message 1: Expired, 33 octets, normal\n";
     assert!(rt; is_refused(&result) && sink.octets().starts_with(head));
 }
@@ -346,7 +354,7 @@ fn ends_with(
     let mut source = Pieces::new(&octets, 64, None);
     let mut sink: Room<2048> = Room::new(2048, None);
     let dump = DumpOptions { profile, ..PLAIN };
-    let _ = run_dump::<Pieces<'_>, Unbuffered, Room<2048>>(alloc, dump, &mut source, &mut sink);
+    let _ = result_of(alloc, dump, &mut source, &mut sink);
     Ok(sink.octets().ends_with(lines.as_bytes()))
 }
 
@@ -389,12 +397,7 @@ fn dump_of_long(alloc: Global) -> Result<Vec<u8>, AllocError> {
         profile: Profile::Module,
         ..PLAIN
     };
-    let _ = run_dump::<Pieces<'_>, Unbuffered, ToWrite<&mut Vec<u8>>>(
-        alloc,
-        dump,
-        &mut source,
-        &mut sink,
-    );
+    let _ = result_of(alloc, dump, &mut source, &mut sink);
     Ok(written)
 }
 

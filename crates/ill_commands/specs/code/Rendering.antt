@@ -6,11 +6,11 @@ use Rattle.ill_normal.specs.ReadMessages.{IsMessage, wants}
 use Rattle.ill_normal.specs.declared.message_reader.ReadMessage.{ReadMessage}
 use Rattle.ill_normal.specs.declared.message_reader.Wants.{Wants}
 use Rattle.ill_normal.specs.declared.messages.MessagePlace.{MessagePlace}
-use Rattle.ill_normal.specs.declared.messages.RenderedMessage.{RenderedMessage}
+use Rattle.ill_commands.specs.declared.written.RenderedMessage.{RenderedMessage}
 use Rattle.ill_commands.specs.declared.job.Job.{Job}
 use Rattle.ill_commands.specs.declared.job.JobOptions.{JobOptions}
-use Rattle.ill_commands.specs.declared.written.JobOutput.{JobOutput}
-use Rattle.ill_commands.specs.code.Writing.{IsPieceMade}
+use Rattle.ill_normal.specs.Messages.{spelling}
+use Rattle.ill_commands.specs.code.Writing.{IsPieceOf}
 
 -- the octets where messages are compared, and the outline where values are written
 abbrev pub needs_of : Job → Bool → Wants
@@ -23,6 +23,6 @@ needs_of Job.Digest compares = wants compares false
 needs_of Job.Canonicalise compares = wants compares false
 
 -- the piece has what the job writes of the message that was read, unless memory ran out
-abbrev pub Renders : Job → JobOptions → MessagePlace → ReadMessage → Result (RenderedMessage JobOutput) AllocError → Type 0
+abbrev pub Renders : Job → JobOptions → MessagePlace → ReadMessage → Result RenderedMessage AllocError → Type 0
 Renders job work place message result =
-    (octets : List ℕ) → IsMessage (profile_of work.profile) (needs_of job work.compares) message octets → IfOk result (λ piece. IsPieceMade job work place piece octets)
+    (octets : List ℕ) → (h : IsMessage (profile_of work.profile) (needs_of job work.compares) message octets) → IfOk result (λ piece. IsPieceOf job work place piece (spelling h.apdu octets))

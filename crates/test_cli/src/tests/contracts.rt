@@ -6,7 +6,7 @@ ghost use Rattle.ill_cli.specs.Plans.{read_options_of};
 use ber_core::{Pieces, Source};
 use ill_args::{FileJob, Inputs, LineResults, Messages, Reading, Report, Target, Work};
 use ill_cli::{Action, InputAction, ReadOptions};
-use ill_commands::{Job, LineJob, LineOptions, Verdict};
+use ill_commands::{Job, LineJob, LineOptions, OnRefusal, Verdict};
 use ill_files::{Opened, ProgramError, is_output_lost, keeps_output, status_of};
 use ill_tables::Profile;
 
@@ -112,11 +112,12 @@ fn inputs_are_named_where_there_are_several(
     count: usize,
 ) {
     match InputAction::new(Action::Messages(job, reading), name, count) {
-        InputAction::Messages(work) | InputAction::AcceptedMessages(work) => {
+        InputAction::Messages(work) => {
             prove!(work.names_input == (reading.names_inputs || count > 1));
             prove!(work.name == name);
             prove!(work.hex == reading.hex && work.job == job);
             prove!(work.profile == reading.profile);
+            prove!((work.on_refusal == OnRefusal::GoOn) == reading.keep_going);
         }
         _ => unreachable!(),
     }

@@ -1,8 +1,11 @@
 //! Dumps that go on after a message that is refused, or are of one message alone.
-use super::{PLAIN, SPELLED};
+use super::{PLAIN, SPELLED, result_of};
 use ber_core::{Pieces, Room, Unbuffered};
-use ill_dump::{DumpCounts, DumpOptions, run_dump, run_dump_skipping};
-use ill_normal::{Cause, NotReported, Refusal, RefusalReport, ReportRefusals, RunFault};
+use ill_dump::{DumpOptions, run_dump};
+use ill_normal::{
+    Cause, Counts, NotReported, OnRefusal, Refusal, RefusalReport, ReportRefusals, RunFault,
+    StreamEnd,
+};
 use std::alloc::{AllocError, Global};
 use std::test::Fail;
 use test_support::octets_of;
@@ -62,12 +65,12 @@ refused at 0: BadTag
       0  00  octets  (not judged)
 ";
 
-/// The text that was written, the reports and the result.
+/// The text that was written, the reports and the end.
 #[derive(Drop)]
 struct Dumped {
     text: Vec<u8>,
     reports: Vec<RefusalReport>,
-    result: Result<DumpCounts, RunFault>,
+    end: StreamEnd,
 }
 
 /// A dump that goes on.
@@ -77,7 +80,11 @@ fn dump_of(alloc: Global, dump: DumpOptions<'_>, octets: &[u8]) -> Result<Dumped
     let mut reported = Reported {
         reports: Vec::new(alloc),
     };
-    let result = run_dump_skipping::<Pieces<'_>, Unbuffered, Room<4096>, Reported>(
+    let dump = DumpOptions {
+        on_refusal: OnRefusal::GoOn,
+        ..dump
+    };
+    let end = run_dump::<Pieces<'_>, Unbuffered, Room<4096>, Reported>(
         alloc,
         dump,
         &mut source,
@@ -87,7 +94,7 @@ fn dump_of(alloc: Global, dump: DumpOptions<'_>, octets: &[u8]) -> Result<Dumped
     Ok(Dumped {
         text: sink.octets().to_vec(alloc)?,
         reports: reported.reports,
-        result,
+        end,
     })
 }
 
@@ -146,11 +153,24 @@ fn each_message_has_its_lines(rt: HostRuntime) -> Result<(), Fail> {
         report(4, 51, 0, Cause::BadTag, None),
     ];
     assert!(rt; found.reports.as_slice() == reports.as_slice());
-    let counts = DumpCounts {
-        messages: 4,
-        refused: 3,
+    let Counts {
+        messages,
+        refused,
+        good,
+        octets,
+        ..
+    } = found.end.counts;
+    assert!(rt; (messages, refused, good, octets) == (4, 3, 1, 51));
+    // The end of the last message is unknown.
+    let refusal = Refusal {
+        at: 0,
+        cause: Cause::BadTag,
     };
-    assert!(rt; found.result == Ok(counts));
+    let last = RunFault::Refused {
+        message: 4,
+        refusal,
+    };
+    assert!(rt; found.end.fault == Some(last));
     Ok(())
 }
 
@@ -160,7 +180,7 @@ fn hexadecimal_text_is_dumped(rt: HostRuntime) -> Result<(), Fail> {
     let dump = DumpOptions { hex: true, ..PLAIN };
     let found = dump_of(rt.alloc(), dump, MIXED.as_bytes())?;
     let other = dump_of(rt.alloc(), PLAIN, &octets)?;
-    assert!(rt; found.text.as_slice() == other.text.as_slice() && found.result == other.result);
+    assert!(rt; found.text.as_slice() == other.text.as_slice() && found.end == other.end);
     Ok(())
 }
 
@@ -194,11 +214,8 @@ fn one_message_is_written_alone(rt: HostRuntime) -> Result<(), Fail> {
     for (number, first) in [(1, FIRST), (2, SECOND), (3, THIRD), (4, FOURTH)] {
         let found = one(rt.alloc(), number, &octets)?;
         assert!(rt; found.text.starts_with(first.as_bytes()), "{number}");
-        let is_counted = match found.result {
-            Ok(counts) => counts.messages == number,
-            Err(_) => false,
-        };
-        assert!(rt; is_counted, "{number}");
+        assert!(rt; found.end.counts.messages == number, "{number}");
+        assert!(rt; found.end.fault.is_some() == (number == 4), "{number}");
     }
     let found = one(rt.alloc(), 5, &octets)?;
     assert!(rt; found.text.is_empty());
@@ -215,12 +232,7 @@ fn nothing_after_one_message_is_read(rt: HostRuntime) -> Result<(), Fail> {
             only: Some(number),
             ..PLAIN
         };
-        let result = run_dump::<Pieces<'_>, Unbuffered, Room<2048>>(
-            rt.alloc(),
-            dump,
-            &mut source,
-            &mut sink,
-        );
+        let result = result_of(rt.alloc(), dump, &mut source, &mut sink);
         assert!(rt; result == Ok(count), "{number}");
         assert!(rt; sink.octets().is_empty() == (number == 2), "{number}");
     }

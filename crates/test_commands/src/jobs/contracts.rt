@@ -9,14 +9,15 @@ ghost use Rattle.ill_schema.specs.Apdu.{Apdu, SpellsApdu, choice_of};
 ghost use Rattle.ill_schema.specs.Profiles.{profile_of};
 ghost use Rattle.ill_schema.specs.Fits.{FitsApdu};
 ghost use Rattle.ill_schema.specs.Message.{apdu_of};
+ghost use Rattle.ill_normal.specs.declared.messages.OnRefusal.{OnRefusal as Mode};
 
 use ber_core::{Pieces, Room, Sink, Source, Unbuffered};
 use ill_commands::{
-    Job, JobOptions, JobOutcome, LineJob, LinesFault, ReportRefusals, RunFault, Verdict, run_as,
-    run_counting, run_lines_as, run_same_as, run_skipping, run_with,
+    Job, JobOptions, LineJob, LinesFault, ReportRefusals, RunFault, StreamEnd, Verdict, run_as,
+    run_job, run_lines_as, run_same_as, run_with,
 };
 use ill_json::{LineHead, json_line, json_line_as};
-use ill_normal::{Refusal, Side};
+use ill_normal::{NoReports, Refusal, Side};
 use ill_read::Outline;
 use ill_schema::{Message, Profile};
 use ill_text::{Text, show_text};
@@ -164,16 +165,15 @@ fn jobs_that_go_on_fail_where_something_is_broken<T: ReportRefusals>(
     reports: &mut T,
     alloc: Global,
 ) {
-    if let Err(error) = run_skipping(alloc, work, source, sink, reports) {
-        match error.fault {
-            RunFault::ReadFault => {
-                prove!(source.broken());
-            }
-            RunFault::WriteFault(_) => {
-                prove!(sink.broken());
-            }
-            _ => {}
+    let end = run_job::<Pieces, Unbuffered, Room<64>, T>(alloc, work, source, sink, reports);
+    match end.fault {
+        Some(RunFault::ReadFault) => {
+            prove!(source.broken());
         }
+        Some(RunFault::WriteFault(_)) => {
+            prove!(sink.broken());
+        }
+        _ => {}
     }
 }
 
@@ -245,18 +245,20 @@ fn texts_are_taken_to_their_bound(
     run_with(alloc, work, source, sink)
 }
 
-/// After 1,000,000 messages at most one octet is taken, whatever the result.
+/// After 1,000,000 accepted messages at most one octet is taken, whatever the result.
 fn inputs_are_taken_to_their_limit(
     work: JobOptions<'_>,
     source: &mut Pieces,
     sink: &mut Room<64>,
     alloc: Global,
-) -> JobOutcome
-    requires { work.hex ≡ false }
-    ensures { result.counts.messages ≡ 1_000_000
+) -> StreamEnd
+    requires plain { work.hex ≡ false }
+    requires stops { work.on_refusal ≡ Mode.Stop }
+    ensures { result.counts.messages ≡ 1_000_000 + result.counts.refused
         → length source.old.octets ≤ result.counts.octets + 1 + length source.new.octets }
 {
-    run_counting::<Pieces, Unbuffered, Room<64>>(alloc, work, source, sink)
+    let reports = &mut NoReports;
+    run_job::<Pieces, Unbuffered, Room<64>, NoReports>(alloc, work, source, sink, reports)
 }
 
 /// Equal pairs of inputs have one verdict in each profile, and one line is written. Where one pair has a verdict, the other is not refused.

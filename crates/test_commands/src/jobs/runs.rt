@@ -1,8 +1,8 @@
 //! Output and results of `run`, row by row.
 use super::gives;
 use ber_core::{Pieces, Room, ToWrite, Unbuffered};
-use ill_commands::{Counts, Job, JobOptions, RunFault, Verdict, run_counting, run_with};
-use ill_normal::{Cause, Profile, Refusal};
+use ill_commands::{Counts, Job, JobOptions, OnRefusal, RunFault, Verdict, run_job, run_with};
+use ill_normal::{Cause, NoReports, Profile, Refusal};
 use std::alloc::{AllocError, Global};
 use std::test::Fail;
 use test_support::octets_of;
@@ -24,6 +24,7 @@ const SHOW: JobOptions<'static> = JobOptions {
     name: "-",
     names_input: false,
     compares: false,
+    on_refusal: OnRefusal::Stop,
 };
 
 const CHECK: JobOptions<'static> = JobOptions {
@@ -325,13 +326,21 @@ fn counts(alloc: Global, octets: &[u8], work: JobOptions<'_>, good: u32) -> bool
     let mut source = Pieces::new(octets, 4096, None);
     let mut written = Vec::new(alloc);
     let mut sink = ToWrite::new(&mut written);
-    let ran = run_counting::<Pieces<'_>, Unbuffered, _>(alloc, work, &mut source, &mut sink);
+    let end = run_job::<Pieces<'_>, Unbuffered, _, NoReports>(
+        alloc,
+        work,
+        &mut source,
+        &mut sink,
+        &mut NoReports,
+    );
     let counts = Counts {
         messages: 2,
+        refused: 0,
         good,
         octets: 80,
+        written: written.len() as u128,
     };
-    ran.counts == counts && ran.result.is_ok()
+    end.counts == counts && end.fault.is_none()
 }
 
 #[test]

@@ -1,7 +1,7 @@
-//! Output and reports of `run_skipping`, row by row.
-use ber_core::{Pieces, ToWrite};
+//! Output and reports of jobs that go on after a refused message, row by row.
+use ber_core::{Pieces, ToWrite, Unbuffered};
 use ill_commands::{
-    Job, JobOptions, RefusalReport, ReportRefusals, RunFault, SkippingCounts, run_skipping,
+    Counts, Job, JobOptions, OnRefusal, RefusalReport, ReportRefusals, RunFault, run_job,
 };
 use ill_normal::{Cause, NotReported, Refusal};
 use std::alloc::Global;
@@ -33,7 +33,7 @@ struct Row {
     hex: bool,
     input: &'static str,
     output: &'static str,
-    answer: Result<SkippingCounts, RunFault>,
+    answer: Result<Counts, RunFault>,
 }
 
 /// An EXPIRED in normal form, a NULL, and the EXPIRED with indefinite lengths.
@@ -47,12 +47,12 @@ static ROWS: [Row; 8] = [
         hex: false,
         input: BETWEEN,
         output: "message 1: Expired, 33 octets, normal\nmessage 3: Expired, 47 octets, not normal, normal form 33 octets\n",
-        answer: Ok(SkippingCounts {
+        answer: Ok(Counts {
             messages: 3,
             refused: 1,
             good: 1,
             octets: 82,
-            all_good: false,
+            written: 103,
         }),
     },
     Row {
@@ -61,12 +61,12 @@ static ROWS: [Row; 8] = [
         hex: true,
         input: BETWEEN,
         output: "message 1: Expired, 33 octets, normal\nmessage 3: Expired, 47 octets, not normal, normal form 33 octets\n",
-        answer: Ok(SkippingCounts {
+        answer: Ok(Counts {
             messages: 3,
             refused: 1,
             good: 1,
             octets: 82,
-            all_good: false,
+            written: 103,
         }),
     },
     Row {
@@ -75,12 +75,12 @@ static ROWS: [Row; 8] = [
         hex: true,
         input: BETWEEN,
         output: "741f301d800102a10aa1031b0147a2031b0151a20ca00a80083230323430323239\n741f301d800102a10aa1031b0147a2031b0151a20ca00a80083230323430323239\n",
-        answer: Ok(SkippingCounts {
+        answer: Ok(Counts {
             messages: 3,
             refused: 1,
             good: 2,
             octets: 82,
-            all_good: true,
+            written: 134,
         }),
     },
     Row {
@@ -89,12 +89,12 @@ static ROWS: [Row; 8] = [
         hex: false,
         input: BETWEEN,
         output: "message 1 Expired\nprotocol-version-num = 2\ntransaction-id.transaction-group-qualifier = general \"G\"\ntransaction-id.transaction-qualifier = general \"Q\"\nservice-date-time.date-time-of-this-service.date = 20240229\nmessage 3 Expired\nprotocol-version-num = 2\ntransaction-id.transaction-group-qualifier = general \"G\"\ntransaction-id.transaction-qualifier = general \"Q\"\nservice-date-time.date-time-of-this-service.date = 20240229\n",
-        answer: Ok(SkippingCounts {
+        answer: Ok(Counts {
             messages: 3,
             refused: 1,
             good: 2,
             octets: 82,
-            all_good: true,
+            written: 422,
         }),
     },
     Row {
@@ -103,12 +103,12 @@ static ROWS: [Row; 8] = [
         hex: false,
         input: BETWEEN,
         output: "{\"number\":1,\"offset\":0,\"octets\":33,\"apdu\":\"Expired\",\"normal\":true}\n{\"number\":3,\"offset\":35,\"octets\":47,\"apdu\":\"Expired\",\"normal\":false}\n",
-        answer: Ok(SkippingCounts {
+        answer: Ok(Counts {
             messages: 3,
             refused: 1,
             good: 1,
             octets: 82,
-            all_good: false,
+            written: 136,
         }),
     },
     Row {
@@ -117,12 +117,12 @@ static ROWS: [Row; 8] = [
         hex: true,
         input: BETWEEN,
         output: "{\"number\":1,\"offset\":0,\"octets\":33,\"apdu\":\"Expired\",\"normal\":true,\"digest\":\"41b0dca84b6db1db587880995cae8f2ae640c5af026d4d9745a5bc56ba11a782\"}\n{\"number\":3,\"offset\":35,\"octets\":47,\"apdu\":\"Expired\",\"normal\":false,\"digest\":\"41b0dca84b6db1db587880995cae8f2ae640c5af026d4d9745a5bc56ba11a782\"}\n",
-        answer: Ok(SkippingCounts {
+        answer: Ok(Counts {
             messages: 3,
             refused: 1,
             good: 1,
             octets: 82,
-            all_good: false,
+            written: 288,
         }),
     },
     Row {
@@ -161,15 +161,20 @@ fn comes_true(alloc: Global, row: &Row, octets: &[u8]) -> bool {
     let mut reported = Reported {
         reports: Vec::new(alloc),
     };
-    let answer = match run_skipping(
+    let work = JobOptions {
+        on_refusal: OnRefusal::GoOn,
+        ..JobOptions::new(row.job, row.hex)
+    };
+    let end = run_job::<Pieces<'_>, Unbuffered, _, Reported>(
         alloc,
-        JobOptions::new(row.job, row.hex),
+        work,
         &mut source,
         &mut ToWrite::new(&mut written),
         &mut reported,
-    ) {
-        Ok(counts) => Ok(counts),
-        Err(error) => Err(error.fault),
+    );
+    let answer = match end.fault {
+        None => Ok(end.counts),
+        Some(fault) => Err(fault),
     };
     answer == row.answer
         && written.as_slice() == row.output.as_bytes()

@@ -3,20 +3,28 @@
 //! and that the source or the sink broke, are the results that may come besides.
 ghost use Rattle.std.specs.Prelude.{◌≡◌, ◌↔◌, ◌≤◌, ◌+◌, ℕ, List, [], ◌++◌, take, drop, Some, None, Ok, Err, IfOk, IfErr, IsTrue, length};
 ghost use Rattle.ber_leaf.specs.Profile.{profile_two};
-ghost use Rattle.ill_schema.specs.Apdu.{Apdu, Accepts, IsStream, SpellsApdu, normal_form};
+ghost use Rattle.ill_schema.specs.Apdu.{Apdu, Accepts, IsStream, SpellsApdu, normal_form, normal_form_in};
 ghost use Rattle.ill_schema.specs.Message.{apdu_of, octets_of};
 ghost use Rattle.ill_schema.specs.Profiles.{profile_of};
-ghost use Rattle.ill_normal.specs.Messages.{AreSpelled, Spelling, spelling};
+ghost use Rattle.ill_inputs.specs.declared.run_fault.RunFault.{RunFault as Fault};
+ghost use Rattle.ill_normal.specs.Messages.{AreSpelled, Spelling};
 
 use ber_core::{Buffered, FromSlice, Pieces, Room, Sink, Source, Unbuffered};
 use ill_normal::{
-    Checked, Failure, Message, MessagePlace, MessageReader, NormalFailure, NormalForm, NormalForms,
-    NormalReader, ReadFailure, Refusal, Render, RenderedMessage, Side, StreamCounts, StreamError,
-    StreamFailure, check_one, check_one_in, decode, decode_normal, for_each_message, is_normal,
-    normalise, normalise_stream, read_message, read_message_peeking, read_normal_in,
-    read_normal_peeking, read_normal_recording_peeking, render_next, same_message,
+    Checked, Failure, Message, MessageReader, NoReports, NormalFailure, NormalForm, NormalReader,
+    OnRefusal, Profile, ReadFailure, Reading, Refusal, RunFault, Side, StreamEnd, StreamFailure,
+    Wants, WriteNormalForms, check_one, check_one_in, decode, decode_normal, is_normal, normalise,
+    normalise_stream, read_input, read_message, read_message_peeking, read_normal_in,
+    read_normal_peeking, read_normal_recording_peeking, same_message,
 };
 use std::alloc::Global;
+
+/// The reading of octets, up to a message that is refused.
+const STOPPING: Reading = Reading {
+    hex: false,
+    on_refusal: OnRefusal::Stop,
+    only: None,
+};
 
 /// A slice has one result: one message, or one refusal.
 fn slices_have_one_answer(
@@ -168,23 +176,21 @@ fn kept_normal_forms_have_nothing_of_the_room(
     reader.read_recording::<Pieces, Unbuffered>(source, buffer, recorded)
 }
 
-/// Nothing that is in the buffer, or that the reader read before, comes into what is written of a message, whatever is made of it.
-fn pieces_have_nothing_of_the_room<M: Render>(
-    maker: &M,
+/// Nothing that the reader read before comes into the normal form of a message.
+fn messages_have_nothing_of_those_before(
+    profile: Profile,
+    wants: Wants,
     reader: &mut MessageReader,
-    position: MessagePlace,
     source: &mut Pieces,
-    buffer: M::Out,
-    alloc: Global,
-) -> Result<Option<RenderedMessage<M::Out>>, ReadFailure>
-    ensures { (a : Apdu) (n : ℕ) → Accepts (profile_of (M.reads maker.now)) source.old.octets a n
+) -> Result<Option<u32>, ReadFailure>
+    ensures { (a : Apdu) (n : ℕ) → Accepts (profile_of profile) source.old.octets a n
         → IfOk result (λ found. elim found as (λ _. Type 0) [
-          | Some x ↦ M.Out.is x.text (M.text maker.now position
-              (spelling a (take n source.old.octets))) × (x.octets ≡ n)
+          | Some x ↦ (x ≡ n)
+              × (reader.new.message.normal.items ≡ normal_form_in (profile_of profile) a)
           | None ↦ ⊥
         ]) }
 {
-    render_next::<M, Pieces, Unbuffered>(alloc, maker, reader, position, source, buffer)
+    reader.read::<Pieces, Unbuffered>(profile, wants, source)
 }
 
 /// The message at the front is checked, and the result describes it.
@@ -280,21 +286,32 @@ fn streams_are_taken_to_their_end(
 
 /// The messages of an input are read to its end. Where that stops before, it is reported how many messages there were and how many
 /// octets they had, and at most 1,048,576 octets were taken after them.
-fn messages_are_visited_to_their_end(
+fn messages_are_read_to_their_end(
     source: &mut Pieces,
     sink: &mut Room<64>,
     alloc: Global,
-) -> Result<StreamCounts, StreamError>
-    ensures end { IfOk result (λ passed. (source.new.octets ≡ [])
-        × ((messages : List Spelling) × (length messages ≡ passed.whole)
-        × AreSpelled source.old.octets messages [])) }
-    ensures counts { IfOk result (λ passed. (passed.good ≡ passed.whole)
-        × (passed.octets ≡ length source.old.octets)) }
-    ensures before { IfErr result (λ stopped. (messages : List Spelling)
-        × (length messages ≡ stopped.whole)
-        × AreSpelled (take stopped.before source.old.octets) messages []) }
-    ensures stop { IfErr result (λ stopped. length source.old.octets ≤ stopped.before
-        + (1_048_576 + length source.new.octets)) }
+) -> StreamEnd
+    ensures end { result.fault ≡ None → (source.new.octets ≡ [])
+        × ((messages : List Spelling) × (length messages ≡ result.counts.messages)
+        × AreSpelled source.old.octets messages []) }
+    ensures counts { result.fault ≡ None → (result.counts.good ≡ result.counts.messages)
+        × (result.counts.octets ≡ length source.old.octets) }
+    ensures before { (e : RunFault) → result.fault ≡ Some e → (messages : List Spelling)
+        × (length messages + result.counts.refused ≡ result.counts.messages)
+        × AreSpelled (take result.counts.octets source.old.octets) messages [] }
+    ensures stop { (e : RunFault) → result.fault ≡ Some e
+        → length source.old.octets ≤ result.counts.octets
+        + (1_048_576 + length source.new.octets) }
 {
-    for_each_message::<NormalForms, Pieces, Unbuffered, Room<64>>(alloc, &NormalForms, source, sink)
+    let mut writer = WriteNormalForms {
+        alloc,
+        profile: Profile::Two,
+    };
+    read_input::<WriteNormalForms, Pieces, Unbuffered, Room<64>, NoReports>(
+        STOPPING,
+        &mut writer,
+        source,
+        sink,
+        &mut NoReports,
+    )
 }

@@ -2,9 +2,9 @@
 use super::{EXPIRED, EXPIRED_HEX, INDEFINITE_HEX};
 use ber_core::{Buffered, FromSlice, Lookahead, Sink, Unbuffered};
 use ill_normal::{
-    Broken, Cause, NodeId, NormalFailure, NormalForms, NotReported, PartId, Pieces, Refusal,
-    RefusalReport, ReportRefusals, Room, SkippingCounts, SkippingError, SkippingErrorKind, Source,
-    StreamCause, ToWrite, for_each_accepted_message, normalise_stream,
+    Broken, Cause, Counts, NodeId, NormalFailure, NotReported, OnRefusal, PartId, Pieces, Profile,
+    Reading, Refusal, RefusalReport, ReportRefusals, Room, RunFault, Source, StreamCause,
+    StreamEnd, ToWrite, WriteNormalForms, normalise_stream, read_input,
 };
 use std::alloc::Global;
 use std::test::Fail;
@@ -215,12 +215,19 @@ fn joined(alloc: Global, words: &[&str]) -> Result<Vec<u8>, Fail> {
 /// The result for messages, some of which are skipped.
 #[derive(Clone, Copy)]
 struct Want<'a> {
-    result: Result<SkippingCounts, SkippingError>,
+    result: StreamEnd,
     /// The number of times that EXPIRED is written.
     written: usize,
     input: &'a [u8],
     reports: &'a [Refused],
 }
+
+/// The reading of octets, where the work goes on after a refused message.
+const GOING_ON: Reading = Reading {
+    hex: false,
+    on_refusal: OnRefusal::GoOn,
+    only: None,
+};
 
 /// Makes the call. Its contract is long, and the tests look at results alone.
 fn pass_over<R: Source, L: Lookahead<R>, W: Sink, T: ReportRefusals>(
@@ -228,8 +235,12 @@ fn pass_over<R: Source, L: Lookahead<R>, W: Sink, T: ReportRefusals>(
     source: &mut R,
     sink: &mut W,
     reports: &mut T,
-) -> Result<SkippingCounts, SkippingError> {
-    for_each_accepted_message::<NormalForms, R, L, W, T>(alloc, &NormalForms, source, sink, reports)
+) -> StreamEnd {
+    let mut writer = WriteNormalForms {
+        alloc,
+        profile: Profile::Two,
+    };
+    read_input::<WriteNormalForms, R, L, W, T>(GOING_ON, &mut writer, source, sink, reports)
 }
 
 /// Tells whether that comes of the messages of a source.
@@ -269,16 +280,33 @@ fn stops_at_the_first(alloc: Global, octets: &[u8], refused: &[Refused]) -> bool
     }
 }
 
+/// The fault of an input whose last message has no known end; None where each end is known.
+fn fault_after(reports: &[Refused]) -> Option<RunFault> {
+    match reports {
+        [.., (message, _, at, cause, None)] => Some(RunFault::Refused {
+            message: *message,
+            refusal: Refusal {
+                at: *at,
+                cause: *cause,
+            },
+        }),
+        _ => None,
+    }
+}
+
 /// Tells whether a row comes true, of octets in pieces and of octets at hand.
 fn comes_true(alloc: Global, row: &Row, octets: &[u8]) -> bool {
     let want = Want {
-        result: Ok(SkippingCounts {
-            messages: row.messages,
-            refused: u32::try_from(row.reports.len()).unwrap_or(u32::MAX),
-            good: u32::try_from(row.written).unwrap_or(u32::MAX),
-            octets: row.octets,
-            all_good: true,
-        }),
+        result: StreamEnd {
+            counts: Counts {
+                messages: row.messages,
+                refused: u32::try_from(row.reports.len()).unwrap_or(u32::MAX),
+                good: u32::try_from(row.written).unwrap_or(u32::MAX),
+                octets: row.octets,
+                written: (row.written as u128).saturating_mul(33),
+            },
+            fault: fault_after(row.reports),
+        },
         written: row.written,
         input: octets,
         reports: row.reports,
@@ -326,21 +354,23 @@ fn has_the_first(alloc: Global, octets: &[u8], n: usize) -> bool {
         &mut sink,
         &mut reported,
     );
-    let (messages, good, before, reports, of_the_last) = if n < 33 {
-        (0, 0, 0, [].as_slice(), n)
+    let (messages, good, before, reports, written) = if n < 33 {
+        (0, 0, 0, [].as_slice(), 0)
     } else {
-        (2, 1, 35, REFUSED, n - 33)
+        (2, 1, 35, REFUSED, 33)
     };
-    let error = SkippingError {
-        messages,
-        refused: reports.len() as u32,
-        good,
-        octets: before,
-        written: n as u128,
-        why: SkippingErrorKind::WriteFault(of_the_last),
+    let end = StreamEnd {
+        counts: Counts {
+            messages,
+            refused: reports.len() as u32,
+            good,
+            octets: before,
+            written,
+        },
+        fault: Some(RunFault::WriteFault(n as u128)),
     };
     let (first, second) = sink.octets().split_at(n.min(33).min(sink.octets().len()));
-    result == Err(error)
+    result == end
         && sink.octets().len() == n
         && EXPIRED.starts_with(first)
         && EXPIRED.starts_with(second)
@@ -364,16 +394,18 @@ fn leaves_what_was_whole(alloc: Global, octets: &[u8], n: usize) -> bool {
         35..=67 => (2, 1, 35, REFUSED),
         _ => (3, 2, 68, REFUSED),
     };
-    let error = SkippingError {
-        messages,
-        refused: reports.len() as u32,
-        good: written as u32,
-        octets: before,
-        written: 33 * written as u128,
-        why: SkippingErrorKind::ReadFault,
+    let end = StreamEnd {
+        counts: Counts {
+            messages,
+            refused: reports.len() as u32,
+            good: written as u32,
+            octets: before,
+            written: 33 * written as u128,
+        },
+        fault: Some(RunFault::ReadFault),
     };
     let want = Want {
-        result: Err(error),
+        result: end,
         written,
         input: octets,
         reports,
@@ -398,13 +430,16 @@ const PAST_THE_LIMIT: &[&str] = &["748400200000 00*2097152", EXPIRED_HEX];
 fn a_message_past_the_limit_is_passed_over(rt: HostRuntime) -> Result<(), Fail> {
     let octets = joined(rt.alloc(), PAST_THE_LIMIT)?;
     let want = Want {
-        result: Ok(SkippingCounts {
-            messages: 2,
-            refused: 1,
-            good: 1,
-            octets: 2_097_191,
-            all_good: true,
-        }),
+        result: StreamEnd {
+            counts: Counts {
+                messages: 2,
+                refused: 1,
+                good: 1,
+                octets: 2_097_191,
+                written: 33,
+            },
+            fault: None,
+        },
         written: 1,
         input: &octets,
         reports: &[(1, 0, 0, Cause::TooLong, Some(2_097_158))],
@@ -487,15 +522,17 @@ fn a_report_that_is_not_taken_ends_the_work(rt: HostRuntime) -> Result<(), Fail>
         &mut sink,
         &mut TakesNone,
     );
-    let error = SkippingError {
-        messages: 1,
-        refused: 0,
-        good: 1,
-        octets: 33,
-        written: 33,
-        why: SkippingErrorKind::NotReported,
+    let end = StreamEnd {
+        counts: Counts {
+            messages: 1,
+            refused: 0,
+            good: 1,
+            octets: 33,
+            written: 33,
+        },
+        fault: Some(RunFault::NotReported),
     };
-    assert!(rt; result == Err(error) && sink.octets() == EXPIRED);
+    assert!(rt; result == end && sink.octets() == EXPIRED);
     Ok(())
 }
 
@@ -510,13 +547,15 @@ fn a_million_refused_messages_are_enough(rt: HostRuntime) {
         &mut sink,
         &mut count,
     );
-    let error = SkippingError {
-        messages: 1_000_000,
-        refused: 1_000_000,
-        good: 0,
-        octets: 2_000_000,
-        written: 0,
-        why: SkippingErrorKind::TooMany,
+    let end = StreamEnd {
+        counts: Counts {
+            messages: 1_000_000,
+            refused: 1_000_000,
+            good: 0,
+            octets: 2_000_000,
+            written: 0,
+        },
+        fault: Some(RunFault::TooManyMessages),
     };
-    assert!(rt; result == Err(error) && count.reports == 1_000_000);
+    assert!(rt; result == end && count.reports == 1_000_000);
 }

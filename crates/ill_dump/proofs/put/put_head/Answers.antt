@@ -1,4 +1,4 @@
-use Rattle.ill_dump.proofs.DumpedMessages.{head_made, on_ok}
+use Rattle.ill_dump.proofs.WrittenLines.{head_made, on_ok}
 use Rattle.ill_dump.proofs.put.put_head.Goals as goal
 
 pub returns : goal.returns

@@ -11,8 +11,8 @@ returns-in-Ok-Some-clause-next g c =
     let element = subst (λ k. Took left left' k c.in-Ok.taken.octets c.in-Ok.taken.framing) same c.judged.invariant.took in
     let next = rw c.in-Ok-Some.field-0-is at c.in-Ok-Some.ensures in
     let message = next.message in
-    rw c.in-Ok-Some.field-0-is (read_took left left' c.new-octets.result c.in-Ok.taken.octets (g.M.Render.reads c.args.maker.now) g.M.Out.Rendered.is (g.M.Render.text c.args.maker.now c.args.position) (g.M.Render.is_good c.args.maker.now) c.in-Ok.taken.framing element
-    c.in-Ok-Some.piece c.render_next.new.source message.0 message.1 message.2)
+    let is = message.2.1 in
+    (message.0, read_took left left' c.new-octets.result c.in-Ok.taken.octets c.args.profile c.in-Ok.taken.framing element is.apdu c.read.new.source message.0 message.1 is.spells, is)
 
 pub returns-in-Ok-None-clause-next : goal.returns-in-Ok-None-clause-next
 returns-in-Ok-None-clause-next g c =
@@ -21,7 +21,7 @@ returns-in-Ok-None-clause-next g c =
     let same = sym (c.new-octets.ensures ∙ c.as_slice.ensures.value) in
     let element = subst (λ k. Took left left' k c.in-Ok.taken.octets c.in-Ok.taken.framing) same c.judged.invariant.took in
     let next = rw c.in-Ok-None.field-0-is at c.in-Ok-None.ensures in
-    none_took left left' c.new-octets.result c.in-Ok.taken.octets c.in-Ok.taken.framing element c.render_next.new.source next.none.0 next.none.1
+    none_took left left' c.new-octets.result c.in-Ok.taken.octets c.in-Ok.taken.framing element c.read.new.source next.none.0 next.none.1
 
 pub judged-smaller : goal.judged-smaller
 judged-smaller g c =
@@ -29,7 +29,7 @@ judged-smaller g c =
     let next = rw c.in-Err-Refused.field-0-is at c.in-Err-Refused.ensures in
     let more = rw c.in-Ok-true.field-0-test at c.in-Ok-true.ensures.takes in
     let refused = rw same at next.refused.1 in
-    fewer_missing (g.M.Render.reads c.args.maker.now) c.judged.recorded.items c.take_where_cut.new.recorded.items c.in-Err-Refused.refusal more.2.0 refused.0 more.1 more.2.2
+    fewer_missing c.args.profile c.judged.recorded.items c.take_where_cut.new.recorded.items c.in-Err-Refused.refusal more.2.0 refused.0 more.1 more.2.2
 
 pub judged-preserved : goal.judged-preserved
 judged-preserved g c =
@@ -55,8 +55,8 @@ returns-in-Ok-false-clause-next g c =
     let next = rw c.in-Err-Refused.field-0-is at c.in-Err-Refused.ensures in
     let last = rw c.in-Ok-false.field-0-test at c.in-Ok-false.ensures.takes in
     let refused = rw same at next.refused.1 in
-    refused_last left left' left'' c.judged.recorded.items c.take_where_cut.new.recorded.items c.in-Ok.taken.octets (g.M.Render.reads c.args.maker.now) g.M.Out.Rendered.is (g.M.Render.text c.args.maker.now c.args.position)
-    (g.M.Render.is_good c.args.maker.now) c.in-Ok.taken.framing c.in-Err-Refused.refusal c.end_of-end.result c.judged.invariant.took last c.end_of-end.ensures refused
+    refused_last left left' left'' c.judged.recorded.items c.take_where_cut.new.recorded.items c.in-Ok.taken.octets c.args.profile
+    c.in-Ok.taken.framing c.in-Err-Refused.refusal c.end_of-end.result c.judged.invariant.took last c.end_of-end.ensures refused
 
 pub returns-in-Err-take_where_cut-clause-broken : goal.returns-in-Err-take_where_cut-clause-broken
 returns-in-Err-take_where_cut-clause-broken g c is_broken =

@@ -1,5 +1,6 @@
+use Rattle.ill_normal.specs.Messages.{first}
 use Rattle.ill_normal.proofs.OneWay.{good_written}
 use Rattle.ill_normal.proofs.skipping_laws.accepted_messages_are_written.Goals as goal
 
 pub returns : goal.returns
-returns c = λ text i items same. good_written text same i items
+returns c = λ text same p items n octets h. good_written text same p first items n octets h

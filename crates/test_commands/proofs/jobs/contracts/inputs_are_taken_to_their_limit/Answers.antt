@@ -1,11 +1,14 @@
-use Rattle.std.proofs.Common.{◌≡◌, ◌+◌, ◌≤◌, ℕ, Bool, List, [], ◌∷◌, length, Option, Some, None, Result, Ok, Err, ap, subst, arith, length-append}
-use Rattle.std.specs.Prelude.{IfOk, IfErr}
+use Rattle.std.proofs.Common.{◌≡◌, ◌+◌, ◌≤◌, ℕ, Bool, false, List, [], ◌∷◌, length, Option, Some, None, refl, ap, subst, arith, length-append}
 use Rattle.std.specs.Io.KnownBytes.{Consumes, Keeps}
+use Rattle.ill_schema.specs.Profiles.{profile_of}
 use Rattle.ill_normal.specs.Calls.{taking, putting}
-use Rattle.ill_commands.specs.Runs.{Done, RunDone, RunFails, JobStopsAfter}
+use Rattle.ill_normal.specs.Entries.{BreaksText, WritesText}
+use Rattle.ill_normal.specs.Reading.{ReadsInput, ReadsItems, Reporting, reporting}
+use Rattle.ill_normal.specs.declared.messages.OnRefusal.{OnRefusal}
+use Rattle.ill_normal.specs.declared.messages.StreamEnd.{StreamEnd}
+use Rattle.ill_normal.proofs.StoppedReading.{StopsAfter, passes_at, stops_at}
 use Rattle.ill_inputs.specs.declared.run_fault.RunFault.{RunFault}
-use Rattle.ill_commands.specs.declared.job.Counts.{Counts}
-use Rattle.ill_inputs.specs.declared.verdict.Verdict.{Verdict}
+use Rattle.ill_commands.specs.Output.{is_counted_good, message_output}
 use Rattle.ill_commands.specs.declared.job.JobOptions.{JobOptions}
 use Rattle.test_commands.proofs.jobs.contracts.inputs_are_taken_to_their_limit.Goals as goal
 
@@ -26,43 +29,41 @@ taken : (s : List ℕ) (rest : Option (List ℕ)) (t b : List ℕ) → Consumes 
 taken s None t b h one = absurd one
 taken s (Some r) t b h one = omega (arith, ap length h, length-append b r, one)
 
-module _ (work : JobOptions) (s t : List ℕ) (x y : Bool) (held held' : Option (List ℕ)) (counts : Counts) (full : counts.messages ≡ 1_000_000) where
-  done : (v : Verdict) → Done work (Some s) (Some t) held held' counts v → length s ≤ counts.octets + 1 + length t
-  done v d = omega (arith, ap (λ (c : Counts). c.octets) d.counted, ap length d.writes.taken, length-append d.writes.octets t)
+module _ (work : JobOptions) (s t : List ℕ) (x y : Bool) (held held' : Option (List ℕ)) (reports : Reporting) (end : StreamEnd) (full : end.counts.messages ≡ 1_000_000 + end.counts.refused)
+    (h : ReadsItems (record { hex = false; on_refusal = OnRefusal.Stop; only = None }) (profile_of work.profile) (WritesText (message_output work)) (BreaksText (message_output work)) (is_counted_good work) (taking (Some s) (Some t) x) (putting held held' y) reports end) where
+  one : (e : RunFault) → (k : StopsAfter (profile_of work.profile) (message_output work) (taking (Some s) (Some t) x) (putting held held' y) end.counts e) → length k.messages ≡ 1_000_000 → TakesOne k.rest t
+  one (RunFault.Refused message refusal) k all = absurd (omega (arith, all, k.stops.0))
+  one RunFault.TooManyMessages k all = took_one k.rest t k.stops.1.0 s k.writes.octets k.writes.taken k.stops.1.1
+  one RunFault.OutOfMemory k all = absurd (omega (arith, all, k.stops.0))
+  one RunFault.ReadFault k all = took_none k.rest t s k.writes.octets k.writes.taken (k.stops.2.1 all)
+  one (RunFault.WriteFault n) k all = absurd (omega (arith, all, k.stops.0))
+  one (RunFault.RefusedSide side refusal) k all = absurd k.stops
+  one RunFault.OddHex k all = absurd k.stops
+  one (RunFault.BadHex i) k all = absurd k.stops
+  one RunFault.HexTooLong k all = absurd k.stops
+  one RunFault.NotReported k all = absurd k.stops
 
-  stops : (e : RunFault) → (h : JobStopsAfter work (taking (Some s) (Some t) x) (putting held held' y) counts e) → length s ≤ counts.octets + 1 + length t
-  stops e h =
-      let all : length h.messages ≡ 1_000_000 = omega (arith, full, ap (λ (c : Counts). c.messages) h.counted) in
-      let size = ap (λ (c : Counts). c.octets) h.counted in
-      omega (arith, size, taken s h.rest t h.writes.octets h.writes.taken (one e h all))
-    where
-      one : (e : RunFault) → (h : JobStopsAfter work (taking (Some s) (Some t) x) (putting held held' y) counts e) → length h.messages ≡ 1_000_000 → TakesOne h.rest t
-      one (RunFault.Refused message refusal) h all = absurd (omega (arith, all, h.stops.1))
-      one RunFault.TooManyMessages h all = took_one h.rest t h.stops.1.0 s h.writes.octets h.writes.taken h.stops.1.1
-      one RunFault.OutOfMemory h all = absurd (omega (arith, all, h.stops.0))
-      one RunFault.ReadFault h all = took_none h.rest t s h.writes.octets h.writes.taken (h.stops.2.1 all)
-      one (RunFault.WriteFault n) h all = absurd (omega (arith, all, h.stops.0))
-      one (RunFault.RefusedSide side refusal) h all = absurd h.stops
-      one RunFault.OddHex h all = absurd h.stops
-      one (RunFault.BadHex i) h all = absurd h.stops
-      one RunFault.HexTooLong h all = absurd h.stops
-      one RunFault.NotReported h all = absurd h.stops
-
-  either : (r : Result Verdict RunFault) → IfOk r (Done work (Some s) (Some t) held held' counts) → IfErr r (JobStopsAfter work (taking (Some s) (Some t) x) (putting held held' y) counts)
-      → length s ≤ counts.octets + 1 + length t
-  either (Ok v) d h = done v d
-  either (Err e) d h = stops e h
+  ended : (f : Option RunFault) → end.fault ≡ f → length s ≤ end.counts.octets + 1 + length t
+  ended None e =
+      let p = passes_at work.profile _ _ _ _ _ false end h e in
+      omega (arith, p.octets, ap length p.writes.taken, length-append p.writes.octets t)
+  ended (Some why) e =
+      let k = stops_at work.profile _ _ _ _ _ false end h why e in
+      omega (arith, k.before, taken s k.rest t k.writes.octets k.writes.taken (one why k (omega (arith, full, k.whole))))
 
 pub returns : goal.returns
 returns c full =
     let work = c.args.work in
-    let ran = c.run_counting.result in
-    let left = Some c.args.source.now.octets in
-    let left' = Some c.run_counting.new.source.octets in
+    let s = c.args.source.now.octets in
+    let t = c.run_job.new.source.octets in
     let held = Some c.args.sink.now.octets in
-    let held' = Some c.run_counting.new.sink.octets in
-    let x = c.run_counting.new.source.broken in
-    let y = c.run_counting.new.sink.broken in
-    either work c.args.source.now.octets c.run_counting.new.source.octets x y held held' ran.counts full ran.result
-    (subst (λ (h : Bool). IfOk ran.result (RunDone h work left left' held held' ran.counts)) c.requires c.run_counting.ensures.done)
-    (subst (λ (h : Bool). IfErr ran.result (RunFails h work (taking left left' x) (putting held held' y) ran.counts)) c.requires c.run_counting.ensures.fails)
+    let held' = Some c.run_job.new.sink.octets in
+    let x = c.run_job.new.source.broken in
+    let y = c.run_job.new.sink.broken in
+    let end = c.run_job.result in
+    let quiet = reporting None None in
+    let reads = subst (λ (m : OnRefusal). ReadsInput work.hex (record { hex = work.hex; on_refusal = m; only = None }) (profile_of work.profile) (WritesText (message_output work)) (BreaksText (message_output work)) (is_counted_good work) (taking (Some s) (Some t) x)
+    (putting held held' y) quiet end) c.requires.stops c.run_job.ensures.reads in
+    let plain = subst (λ (b : Bool). ReadsInput b (record { hex = b; on_refusal = OnRefusal.Stop; only = None }) (profile_of work.profile) (WritesText (message_output work)) (BreaksText (message_output work)) (is_counted_good work) (taking (Some s) (Some t) x)
+    (putting held held' y) quiet end) c.requires.plain reads in
+    ended work s t x y held held' quiet end full plain end.fault refl

@@ -7,7 +7,6 @@ use Rattle.ill_normal.specs.Calls.{taking, putting}
 use Rattle.ill_commands.specs.Output.{verdict_of}
 use Rattle.ill_commands.specs.Runs.{AnswersVerdict, DoesMessages, IsUnnamed, JobDone, RunDone}
 use Rattle.ill_inputs.specs.declared.run_fault.RunFault.{RunFault}
-use Rattle.ill_commands.specs.declared.job.Counts.{Counts}
 use Rattle.ill_commands.specs.declared.job.Job.{Job}
 use Rattle.ill_inputs.specs.declared.verdict.Verdict.{Verdict}
 use Rattle.ill_commands.specs.declared.job.JobOptions.{JobOptions}
@@ -19,14 +18,14 @@ verdict_is : (q : Named) (job : Job) (hex : Bool) (work : JobOptions) (ms : List
     → verdict_of (profile_of work.profile) work.job ms ≡ verdict_of (profile_of q) job ms
 verdict_is q job hex work ms u = ap (λ (p : Named). verdict_of (profile_of p) work.job ms) u.profile ∙ ap (λ (j : Job). verdict_of (profile_of q) j ms) u.same_job
 
-answered : (q : Named) (hex : Bool) (job : Job) (work : JobOptions) (s t : List ℕ) (held held' : Option (List ℕ)) (n : Counts) (v : Verdict) → IsUnnamed q job hex work
-    → RunDone hex work (Some s) (Some t) held held' n v → (r : Result Verdict RunFault) → DoesMessages (profile_of q) job hex s r → AnswersVerdict r v
-answered q false job work s t held held' n v u d r does =
+answered : (q : Named) (hex : Bool) (job : Job) (work : JobOptions) (s t : List ℕ) (held held' : Option (List ℕ)) (v : Verdict) → IsUnnamed q job hex work
+    → RunDone hex work (Some s) (Some t) held held' v → (r : Result Verdict RunFault) → DoesMessages (profile_of q) job hex s r → AnswersVerdict r v
+answered q false job work s t held held' v u d r does =
     let o = d.writes.octets in
     let e : s ≡ o = d.writes.taken ∙ ap (λ l. o ++ l) d.end ∙ append-nil o in
     let spelled = subst (λ (p : Named). AreSpelledIn (profile_of p) o d.messages []) u.profile d.writes.spelled in
     subst (λ w. AnswersVerdict r w) (sym (d.is_verdict ∙ verdict_is q job false work d.messages u)) (does o d.messages (ap Ok e) spelled d.few)
-answered q true job work s t held held' n v u d r does =
+answered q true job work s t held held' v u d r does =
     let i = d.2.1 in
     let o = i.writes.octets in
     let e : d.0 ≡ o = i.writes.taken ∙ ap (λ l. o ++ l) i.end ∙ append-nil o in
@@ -38,7 +37,7 @@ once : (p : Named) (hex : Bool) (job : Job) (s s' t : List ℕ) (x y : Bool) (he
     → IfOk q (JobDone p job hex (taking (Some s) (Some t) x) (putting held held' y)) → DoesMessages (profile_of p) job hex s' r → AnswersVerdict r v
 once p hex job s s' t x y held held' q r v e is d does =
     let done = subst (λ z. IfOk z (JobDone p job hex (taking (Some s) (Some t) x) (putting held held' y))) is d in
-    answered p hex job done.work s t held held' done.counts v done.unnamed done.done r
+    answered p hex job done.work s t held held' v done.unnamed done.done r
     (subst (λ z. DoesMessages (profile_of p) job hex z r) (sym e) does)
 
 pub returns-clause-verdict : goal.returns-clause-verdict

@@ -3,7 +3,6 @@ use Rattle.ill_normal.specs.Calls.{taking, putting}
 use Rattle.ill_inputs.specs.Inputs.{FailsText}
 use Rattle.ill_commands.specs.Runs.{RunDone, RunFails}
 use Rattle.ill_inputs.specs.declared.run_fault.RunFault.{RunFault}
-use Rattle.ill_commands.specs.declared.job.Counts.{Counts}
 use Rattle.ill_inputs.specs.declared.verdict.Verdict.{Verdict}
 use Rattle.ill_commands.specs.declared.job.JobOptions.{JobOptions}
 use Rattle.test_commands.proofs.Bounds.{bounded, unread_bound}
@@ -13,15 +12,15 @@ no_text : (s t : List ℕ) (x : Bool) (e : RunFault) → FailsText (Some s) (Som
 no_text s t x e (inl h) = bounded 4_194_305 s t h.text h.taken.0 h.taken.1
 no_text s t x e (inr u) = unread_bound 4_194_305 s t x e u
 
-fails : (work : JobOptions) (s t : List ℕ) (held held' : Option (List ℕ)) (x y : Bool) (n : Counts) (e : RunFault) → RunFails true work (taking (Some s) (Some t) x) (putting held held' y) n e
+fails : (work : JobOptions) (s t : List ℕ) (held held' : Option (List ℕ)) (x y : Bool) (e : RunFault) → RunFails true work (taking (Some s) (Some t) x) (putting held held' y) e
     → length s ≤ 4_194_305 + length t
-fails work s t held held' x y n e (inl h) = no_text s t x e h.0
-fails work s t held held' x y n e (inr h) = bounded 4_194_305 s t h.1.text h.1.taken.0 h.1.taken.1
+fails work s t held held' x y e (inl h) = no_text s t x e h.0
+fails work s t held held' x y e (inr h) = bounded 4_194_305 s t h.1.text h.1.taken.0 h.1.taken.1
 
-taken : (work : JobOptions) (s t : List ℕ) (held held' : Option (List ℕ)) (x y : Bool) (r : Result Verdict RunFault) → IfOk r (λ v. (n : Counts) × RunDone true work (Some s) (Some t) held held' n v)
-    → IfErr r (λ e. (n : Counts) × RunFails true work (taking (Some s) (Some t) x) (putting held held' y) n e) → length s ≤ 4_194_305 + length t
-taken work s t held held' x y (Ok v) d f = let h = d.1 in bounded 4_194_305 s t h.1.text h.1.taken.0 h.1.taken.1
-taken work s t held held' x y (Err e) d f = fails work s t held held' x y f.0 e f.1
+taken : (work : JobOptions) (s t : List ℕ) (held held' : Option (List ℕ)) (x y : Bool) (r : Result Verdict RunFault) → IfOk r (RunDone true work (Some s) (Some t) held held')
+    → IfErr r (RunFails true work (taking (Some s) (Some t) x) (putting held held' y)) → length s ≤ 4_194_305 + length t
+taken work s t held held' x y (Ok v) d f = bounded 4_194_305 s t d.1.text d.1.taken.0 d.1.taken.1
+taken work s t held held' x y (Err e) d f = fails work s t held held' x y e f
 
 pub returns : goal.returns
 returns c =
@@ -32,5 +31,5 @@ returns c =
     let x = c.run_with.new.source.broken in
     let y = c.run_with.new.sink.broken in
     taken c.args.work c.args.source.now.octets c.run_with.new.source.octets held held' x y c.run_with.result
-    (subst (λ (h : Bool). IfOk c.run_with.result (λ v. (n : Counts) × RunDone h c.args.work left left' held held' n v)) c.requires c.run_with.ensures.done)
-    (subst (λ (h : Bool). IfErr c.run_with.result (λ e. (n : Counts) × RunFails h c.args.work (taking left left' x) (putting held held' y) n e)) c.requires c.run_with.ensures.fails)
+    (subst (λ (h : Bool). IfOk c.run_with.result (RunDone h c.args.work left left' held held')) c.requires c.run_with.ensures.done)
+    (subst (λ (h : Bool). IfErr c.run_with.result (RunFails h c.args.work (taking left left' x) (putting held held' y))) c.requires c.run_with.ensures.fails)

@@ -1,0 +1,2 @@
+pub mod Puts
+pub mod Tallied

@@ -1,0 +1,100 @@
+//! Lines for refused messages, where the work goes on after them.
+use crate::limit::RefusalLimit;
+use crate::refused::KeepRefused;
+use crate::tally::Tally;
+use ill_files::{FileNameRef, ProgressLine, RunLine};
+use ill_inputs::RunFault;
+use ill_normal::{NotReported, RefusalReport, ReportRefusals};
+use std::fmt;
+use std::io::Write;
+
+/// A refused message, as one line.
+#[derive(Clone, Copy)]
+pub struct ReportLine(pub RefusalReport);
+
+impl fmt::Display for ReportLine {
+    fn fmt<W: fmt::Write>(&self, f: &mut fmt::Formatter<W>) -> fmt::Result {
+        let ReportLine(
+            RefusalReport {
+                message,
+                refusal,
+                octets,
+                ..
+            },
+        ) = *self;
+        let line = RunLine(RunFault::Refused { message, refusal });
+        if octets.is_some() {
+            write!(f, "{line}")
+        } else {
+            write!(f, "{line}; its end is unknown")
+        }
+    }
+}
+
+/// Prints a line for each refused message, with the name of its file where there are several.
+#[derive(Drop)]
+pub struct PrintReports<'a, R, P: Write + Drop, Q: Write + Drop> {
+    pub rt: &'a R,
+    pub name: Option<&'a str>,
+    /// True if the name is the file's own, not yet escaped for printing.
+    pub is_raw: bool,
+    pub progress: &'a ProgressLine,
+    /// Gets the octets of the messages.
+    pub kept: KeepRefused<'a, P, Q>,
+    /// The number of refused messages that the work goes on to.
+    pub limit: RefusalLimit,
+    /// The refused message with which the work ended, if it is the last one that the limit allows.
+    pub last: Option<RefusalReport>,
+}
+
+impl<'a, R, P: Write + Drop, Q: Write + Drop> PrintReports<'a, R, P, Q> {
+    /// Reports the refused messages of an input, whose lines have this name, if there is one.
+    pub fn new(
+        rt: &'a R,
+        name: Option<&'a str>,
+        is_raw: bool,
+        kept: KeepRefused<'a, P, Q>,
+        tally: &Tally<'a>,
+    ) -> PrintReports<'a, R, P, Q> {
+        PrintReports {
+            rt,
+            name,
+            is_raw,
+            progress: tally.progress,
+            kept,
+            limit: tally.limit,
+            last: None,
+        }
+    }
+
+    /// Adds its counts to those of the command.
+    pub fn add_to(&self, tally: &mut Tally<'_>) {
+        self.kept.add_to(tally);
+        tally.limit = self.limit;
+    }
+}
+
+impl<R: Eprint, P: Write + Drop, Q: Write + Drop> ReportRefusals for PrintReports<'_, R, P, Q> {
+    ghost use Rattle.std.specs.Prelude.{None};
+
+    ghost reported = { λ _. None };
+
+    fn report(&mut self, report: RefusalReport, octets: &[u8]) -> Result<(), NotReported> {
+        self.kept.keep(report, octets);
+        let line = ReportLine(report);
+        self.progress.clear(self.rt);
+        // A line that can't be written changes nothing of the work.
+        let _ = match self.name {
+            Some(name) if self.is_raw => {
+                eprintln!(self.rt; "illcanon: {}: {line}", FileNameRef(name.as_bytes()))
+            }
+            Some(name) => eprintln!(self.rt; "illcanon: {name}: {line}"),
+            None => eprintln!(self.rt; "illcanon: {line}"),
+        };
+        if self.limit.ends_with_next() {
+            self.last = Some(report);
+            return Err(NotReported);
+        }
+        Ok(())
+    }
+}

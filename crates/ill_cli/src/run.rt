@@ -1,0 +1,138 @@
+//! The work of a command on its inputs.
+ghost use Rattle.std.specs.Prelude.{IfOk};
+ghost use Rattle.ill_normal.specs.Calls.{taking};
+ghost use Rattle.ill_cli.specs.code.Puts.{AreResultsPut, IsPut};
+
+use crate::input::{put_elements, put_lines, put_messages};
+use crate::limit::RefusalLimit;
+use crate::plan::{Action, InputAction};
+use crate::refused::RefusedFile;
+use crate::results::{WriteRefused, has_json_result, put_results};
+use crate::tally::Tally;
+use ber_core::{BufferedSource, ToWrite};
+use ill_commands::{JobOptions, OnRefusal, Verdict};
+use ill_files::{Output, ProgramError, Shared, ToOutput};
+use std::io::{Read, Write};
+use std::rt::Files;
+
+/// The work of a command on its inputs: what is done with each, what is counted, and where the octets of refused messages go.
+#[derive(Drop)]
+pub struct Run<'a, 'r, 'p, R: Print + Files> {
+    pub rt: &'r R,
+    pub action: Action,
+    pub tally: Tally<'p>,
+    pub refused: RefusedFile<'a, 'r, R>,
+}
+
+impl<'a, 'r, 'p, R: Print + Eprint + Files + AllocGlobal> Run<'a, 'r, 'p, R> {
+    /// Does this with each input. The octets of refused messages go to the file named `refused`, if there is one.
+    ///
+    /// ```
+    /// let status = Run::new(rt, action, Some("refused.ber"), tally).print_each(&inputs);
+    /// ```
+    pub fn new(
+        rt: &'r R,
+        action: Action,
+        refused: Option<&'a str>,
+        tally: Tally<'p>,
+    ) -> Run<'a, 'r, 'p, R> {
+        Run {
+            rt,
+            action,
+            tally,
+            refused: RefusedFile::named(rt, refused),
+        }
+    }
+
+    /// Writes the results of an input that was opened, and counts it and its messages.
+    ///
+    /// # Errors
+    ///
+    /// The reason why the input was not read to its end, or not all results were written.
+    pub fn put<'o, I: Read, J: Read, S: Write + Drop, F: Write + Drop>(
+        &mut self,
+        task: InputAction<'_>,
+        source: &mut Shared<'o, I, J, S, F>,
+        output: &'o Output<S, F>,
+    ) -> Result<Verdict, ProgramError> {
+        self.tally.add_file();
+        self.put_source(task, source, output)
+    }
+
+    /// Writes the results of a source, and counts its messages.
+    fn put_source<B: BufferedSource, S: Write + Drop, F: Write + Drop>(
+        &mut self,
+        task: InputAction<'_>,
+        source: &mut B,
+        output: &Output<S, F>,
+    ) -> Result<Verdict, ProgramError>
+        ensures { IfOk result (λ verdict. IsPut task.entry
+            (taking (B.left source.old) (B.left source.new) (B.is_broken source.new)) verdict) }
+    {
+        match task {
+            InputAction::Messages(work) if has_json_result(work.job) => {
+                self.put_json_lines(work, source, output)
+            }
+            InputAction::Messages(work) => {
+                let kept = self.refused.keeper();
+                let sink = &mut sink_to(output);
+                put_messages(self.rt, work, source, sink, kept, &mut self.tally)
+            }
+            InputAction::Elements(dump) => {
+                let kept = self.refused.keeper();
+                let sink = &mut sink_to(output);
+                put_elements(self.rt, dump, source, sink, kept, &mut self.tally)
+            }
+            InputAction::Lines(work) => {
+                // The results of lines are there before more input is waited for.
+                let mut sink = ToWrite::new(ToOutput {
+                    output,
+                    is_direct: true,
+                });
+                put_lines(self.rt.alloc(), work, source, &mut sink)
+            }
+        }
+    }
+
+    /// Does a job with the messages of a source, whose results are lines of JSON: of refused messages, too. Unless the work goes on after
+    /// them, it ends with the first.
+    fn put_json_lines<B: BufferedSource, S: Write + Drop, F: Write + Drop>(
+        &mut self,
+        work: JobOptions<'_>,
+        source: &mut B,
+        output: &Output<S, F>,
+    ) -> Result<Verdict, ProgramError>
+        ensures { IfOk result (λ verdict. AreResultsPut work.entry
+            (taking (B.left source.old) (B.left source.new) (B.is_broken source.new)) verdict) }
+    {
+        let alloc = self.rt.alloc();
+        let goes_on = work.on_refusal == OnRefusal::GoOn;
+        let limit = if goes_on {
+            self.tally.limit
+        } else {
+            RefusalLimit::new(Some(1))
+        };
+        let each = JobOptions {
+            on_refusal: OnRefusal::GoOn,
+            ..work
+        };
+        let mut sink = sink_to(output);
+        let kept = self.refused.keeper();
+        let reports = WriteRefused::new(alloc, each, sink_to(output), kept, limit);
+        match put_results(source, &mut sink, reports, &mut self.tally) {
+            // The message with which the work ended has its line.
+            Err(ProgramError::RefusedEnough(_)) if !goes_on => Ok(Verdict::NotGood),
+            done => done,
+        }
+    }
+}
+
+/// A sink to the output.
+fn sink_to<'o, S: Write + Drop, F: Write + Drop>(
+    output: &'o Output<S, F>,
+) -> ToWrite<ToOutput<'o, S, F>> {
+    ToWrite::new(ToOutput {
+        output,
+        is_direct: false,
+    })
+}

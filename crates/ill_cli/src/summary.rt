@@ -1,0 +1,218 @@
+//! The line of numbers at the end of a command.
+ghost use Rattle.std.specs.Prelude.{◌≡◌};
+ghost use Rattle.ill_cli.specs.Counts.{left_after, messages_of, place_of_report, with_counts, with_file, with_left, with_not_read, with_report, with_unopened, without_file};
+
+use ill_files::Count;
+use ill_inputs::RunFault;
+use ill_normal::{Counts, RefusalReport};
+use std::fmt;
+
+/// The counts of the files that a command read, and of their messages. A count that would overflow stays at the greatest number.
+#[derive(Clone, Copy)]
+pub struct Summary {
+    /// Files that were opened.
+    pub files: u64,
+    /// Messages in normal form.
+    pub normal: u64,
+    /// Messages that are spelled in another way.
+    pub not_normal: u64,
+    /// Messages that are refused.
+    pub refused: u64,
+    /// Those of them that are only not read, where lines of JSON say so.
+    pub not_read: u64,
+    /// Octets of the messages, those that are refused too, where their ends are known.
+    pub octets: u64,
+    /// Files that could not be opened.
+    pub unopened: u64,
+    /// Files that were opened, and left before their end.
+    pub left: u64,
+}
+
+impl Summary {
+    /// No file was read yet.
+    pub const NONE: Summary = Summary {
+        files: 0,
+        normal: 0,
+        not_normal: 0,
+        refused: 0,
+        not_read: 0,
+        octets: 0,
+        unopened: 0,
+        left: 0,
+    };
+
+    /// Counts a file that was opened.
+    pub fn add_file(&mut self)
+        ensures { self.new ≡ with_file self.old }
+    {
+        self.files = self.files.saturating_add(1);
+    }
+
+    /// Uncounts a file that was opened, but can't be read.
+    pub fn remove_file(&mut self)
+        ensures { self.new ≡ without_file self.old }
+    {
+        self.files = self.files.saturating_sub(1);
+    }
+
+    /// Counts a file that could not be opened.
+    pub fn add_unopened(&mut self)
+        ensures { self.new ≡ with_unopened self.old }
+    {
+        self.unopened = self.unopened.saturating_add(1);
+    }
+
+    /// Counts a file that was left before its end.
+    pub fn add_left(&mut self)
+        ensures { self.new ≡ with_left self.old }
+    {
+        self.left = self.left.saturating_add(1);
+    }
+
+    /// Counts the messages of an input.
+    pub fn add(&mut self, counts: Counts)
+        ensures { self.new ≡ with_counts self.old counts }
+    {
+        let accepted = counts.messages.saturating_sub(counts.refused);
+        self.normal = self.normal.saturating_add(u64::from(counts.good));
+        self.not_normal = self
+            .not_normal
+            .saturating_add(u64::from(accepted.saturating_sub(counts.good)));
+        self.octets = self.octets.saturating_add(counts.octets);
+        self.refused = self.refused.saturating_add(u64::from(counts.refused));
+    }
+
+    /// Counts a refused message, and its octets where their number is known.
+    pub fn add_refused(&mut self, report: RefusalReport)
+        ensures { self.new ≡ with_report self.old report }
+    {
+        self.refused = self.refused.saturating_add(1);
+        self.octets = self.octets.saturating_add(report.octets.unwrap_or(0));
+    }
+
+    /// Counts refused messages that are only not read.
+    pub fn add_not_read(&mut self, count: u32)
+        ensures { self.new ≡ with_not_read self.old count }
+    {
+        self.not_read = self.not_read.saturating_add(u64::from(count));
+    }
+
+    /// The number of messages.
+    fn messages(&self) -> u64
+        ensures { result ≡ messages_of self.now }
+    {
+        self.normal
+            .saturating_add(self.not_normal)
+            .saturating_add(self.refused)
+    }
+}
+
+impl fmt::Display for Summary {
+    fn fmt<W: fmt::Write>(&self, f: &mut fmt::Formatter<W>) -> fmt::Result {
+        let messages = self.messages();
+        let Summary {
+            files,
+            normal,
+            not_normal,
+            refused,
+            not_read: _,
+            octets,
+            unopened,
+            left,
+        } = *self;
+        let files = Count(files, "file");
+        let messages = Count(messages, "message");
+        let octets = Count(octets, "octet");
+        write!(
+            f,
+            "{files}, {messages}, {normal} normal, {not_normal} not normal, {refused} refused, {octets}"
+        )?;
+        if unopened > 0 {
+            write!(f, ", {unopened} not opened")?;
+        }
+        if left > 0 {
+            write!(f, ", {left} left before the end")?;
+        }
+        Ok(())
+    }
+}
+
+/// The numbers as a line of JSON.
+#[derive(Clone, Copy)]
+pub struct JsonSummary(pub Summary);
+
+impl fmt::Display for JsonSummary {
+    fn fmt<W: fmt::Write>(&self, f: &mut fmt::Formatter<W>) -> fmt::Result {
+        let JsonSummary(summary) = *self;
+        let messages = summary.messages();
+        let invalid = summary.refused.saturating_sub(summary.not_read);
+        let Summary {
+            files,
+            normal,
+            not_normal,
+            refused,
+            not_read,
+            octets,
+            unopened,
+            left,
+        } = summary;
+        f.write_str("{\"summary\":{")?;
+        write!(
+            f,
+            "\"files\":{files},\"messages\":{messages},\"normal\":{normal},"
+        )?;
+        write!(f, "\"not_normal\":{not_normal},\"refused\":{refused},")?;
+        write!(
+            f,
+            "\"not_read\":{not_read},\"invalid\":{invalid},\"octets\":{octets},"
+        )?;
+        write!(f, "\"not_opened\":{unopened},\"left\":{left}")?;
+        f.write_str("}}")
+    }
+}
+
+/// The place at which the work on a file ended before the end of the file.
+#[derive(Clone, Copy)]
+pub struct LeftAt {
+    /// The number of the message that was not read.
+    pub message: u32,
+    /// The number of octets of the input that come before it.
+    pub offset: u64,
+}
+
+impl LeftAt {
+    /// The place at which a fault ended the work on an input whose messages are counted so, if it is one of the input or of memory.
+    pub fn after(counts: Counts, fault: RunFault) -> Option<LeftAt>
+        ensures { result ≡ left_after fault counts }
+    {
+        let message = match fault {
+            RunFault::WriteFault(_) => return None,
+            RunFault::Refused { message, .. } => message,
+            _ => counts.messages.saturating_add(1),
+        };
+        Some(LeftAt {
+            message,
+            offset: counts.octets,
+        })
+    }
+
+    /// The place of a refused message.
+    pub fn of(report: RefusalReport) -> LeftAt
+        ensures { result ≡ place_of_report report }
+    {
+        LeftAt {
+            message: report.message,
+            offset: report.offset,
+        }
+    }
+}
+
+impl fmt::Display for LeftAt {
+    fn fmt<W: fmt::Write>(&self, f: &mut fmt::Formatter<W>) -> fmt::Result {
+        let LeftAt { message, offset } = *self;
+        write!(
+            f,
+            "left at message {message}, which begins at octet {offset}"
+        )
+    }
+}

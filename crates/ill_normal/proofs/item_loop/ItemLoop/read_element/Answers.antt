@@ -1,0 +1,43 @@
+use Rattle.std.proofs.Common.{arith, inl, refl}
+use Rattle.ill_normal.proofs.ReadItems.{comes_with, ends_broken, ends_here, ends_unread, takes_on}
+use Rattle.ill_normal.proofs.item_loop.ItemLoop.read_element.Goals as goal
+
+pub write_refused-requires-clause-comes : goal.write_refused-requires-clause-comes
+write_refused-requires-clause-comes g c =
+    let refused = rw c.in-Ok-Refused.field-0-is at c.in-Ok-Refused.ensures.next in
+    rw c.new-report.ensures (comes_with c.profile.result _ _ _ c.next_place.result c.in-Ok-Refused.refusal c.in-Ok-Refused.end refused)
+
+pub returns-in-Ok-Read-clause-steps : goal.returns-in-Ok-Read-clause-steps
+returns-in-Ok-Read-clause-steps g c =
+    let next = rw (c.profile.ensures, c.wants.ensures) at c.in-Ok-Read.ensures.next in
+    let read = rw c.in-Ok-Read.field-0-is at next in
+    c.write_accepted.ensures.steps read.0 _ _ _ _ _ read.2 read.1
+
+pub returns-in-Ok-Refused-clause-steps : goal.returns-in-Ok-Refused-clause-steps
+returns-in-Ok-Refused-clause-steps g c =
+    let next = rw (c.profile.ensures, c.wants.ensures) at c.in-Ok-Refused.ensures.next in
+    let refused = rw c.in-Ok-Refused.field-0-is at next in
+    c.write_refused.ensures.steps _ _ _ _ (rw c.new-report.ensures refused)
+
+pub returns-in-Ok-AtEnd-clause-steps : goal.returns-in-Ok-AtEnd-clause-steps
+returns-in-Ok-AtEnd-clause-steps g c =
+    let end = rw c.in-Ok-AtEnd.field-0-is at c.in-Ok-AtEnd.ensures.next in
+    record {
+      next = λ from k. tt;
+      ends = λ from k. rw c.ended.ensures (ends_here _ _ _ _ _ from _ _ _ k (omega (arith, c.requires.few)) end.0 (inl end.1) refl refl);
+    }
+
+pub returns-in-Err-OutOfMemory-clause-steps : goal.returns-in-Err-OutOfMemory-clause-steps
+returns-in-Err-OutOfMemory-clause-steps g c = record {
+  next = λ from k. tt;
+  ends = λ from k. rw c.ended-in-Err-OutOfMemory.ensures (ends_unread _ _ _ _ _ from _ _ _ k c.requires.few (takes_on c.args.self.now.reading.on_refusal _ _ c.requires.on) refl refl);
+}
+
+pub returns-in-Err-Broken-clause-steps : goal.returns-in-Err-Broken-clause-steps
+returns-in-Err-Broken-clause-steps g c =
+    let broken = c.in-Err-Broken.ensures.broken c.in-Err-Broken.field-0-is in
+    record {
+      next = λ from k. tt;
+      ends = λ from k. rw c.ended-in-Err-Broken.ensures (ends_broken _ _ _ _ _ from _ _ _ k c.requires.few (takes_on c.args.self.now.reading.on_refusal _ _ c.requires.on) broken.0
+          (broken.1.octets, broken.1.taken, broken.1.unfinished (g.I.WriteItems.reads (g.I.WriteItems.options c.args.writer.now))) refl refl);
+    }
