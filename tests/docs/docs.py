@@ -34,8 +34,8 @@ WORDS = [
 # Words that the sources don't use either.
 SOURCE_WORDS = [
     (re.compile(r"\bwant of memory\b"), "out of memory"),
-    (re.compile(r"(?<!of which )\bso many (octets|messages|bytes)\b"), "a number"),
-    (re.compile(r"(?<!There )\bis none\b"), "is not, or invalid"),
+    (re.compile(r"\bso many (octets|messages|bytes)\b"), "a number"),
+    (re.compile(r"\bis none\b"), "is not, or invalid"),
     (re.compile(r"\bsurely\b"), "certainly"),
 ]
 LARGEST = {"README.md": 9216, "docs/DECISIONS.md": 12288}

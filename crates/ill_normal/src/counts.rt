@@ -64,7 +64,7 @@ impl Counts {
         }
     }
 
-    /// These, and an accepted message of as many octets, of which so many octets were written.
+    /// These, and an accepted message of `octets` octets, of whose output `written` octets were put.
     #[inline(always)]
     pub(crate) fn with_accepted(self, octets: u32, is_good: bool, written: u64) -> Counts
         requires sum { self.refused + self.good ≤ self.messages }
@@ -81,7 +81,7 @@ impl Counts {
         }
     }
 
-    /// These, and a refused message of as many octets, of which so many octets were written.
+    /// These, and a refused message of `octets` octets, of whose output `written` octets were put.
     #[inline(always)]
     pub(crate) fn with_refused(self, octets: u64, written: u64) -> Counts
         requires sum { self.refused + self.good ≤ self.messages }

@@ -25,7 +25,7 @@ pub enum NextMessage {
     Read,
     /// The reason why it is refused, and how many octets it has, where its end is known; 18,446,744,073,709,551,615 where they are more.
     Refused { refusal: Refusal, end: Option<u64> },
-    /// There is none.
+    /// The input is at its end.
     AtEnd,
 }
 
