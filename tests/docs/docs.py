@@ -103,6 +103,29 @@ def check_names(path, text, names):
                 fault(path, number, f"no such folder: {name}")
 
 
+def known_words():
+    """The words of the code: of its sources, definitions, proofs, tests and bindings."""
+    files = (file for name in ("crates", "tests", "bindings", "vectors", "examples") for file in (ROOT / name).rglob("*"))
+    words = {path.name for path in (ROOT / "crates").iterdir()}
+    for file in files:
+        if file.suffix in (".rt", ".antt", ".py", ".sh", ".c", ".h", ".js", ".ts", ".in", ".json") and "out" not in file.parts:
+            words.update(re.findall(r"\w+", file.read_text(encoding="utf-8", errors="replace")))
+    return words
+
+
+# Words in two parts, as calls and types have them.
+CODE_WORD = re.compile(r"\b(?:[a-z][a-z0-9]*(?:_[a-z0-9]+)+|[A-Z][a-z]+(?:[A-Z][a-z]+)+)\b")
+
+
+def check_code_words(path, text, known):
+    """Calls and types between backticks exist. The changelog also names those that are gone."""
+    for number, line in enumerate(text.splitlines(), 1):
+        for span in re.findall(r"`([^`]*)`", line):
+            for word in CODE_WORD.findall(span):
+                if word not in known:
+                    fault(path, number, f"no such name: {word}")
+
+
 def check_words(path, text):
     for number, line in prose(text):
         for word, instead in WORDS:
@@ -228,11 +251,14 @@ def run_examples(path, text, program):
 def main():
     program = pathlib.Path(sys.argv[1] if len(sys.argv) > 1 else ROOT / "crates/illcanon/out/illcanon").resolve()
     names = sources()
+    known = known_words()
     examples = 0
     for path in DOCUMENTS:
         text = path.read_text(encoding="utf-8")
         check_links(path, text)
         check_names(path, text, names)
+        if path.name != "CHANGELOG.md":
+            check_code_words(path, text, known)
         check_words(path, text)
         check_sizes(path, text)
         if program.exists() and path.parent != ROOT / "vectors":

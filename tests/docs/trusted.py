@@ -266,7 +266,7 @@ COLUMNS = [
         ("ill_json", "refused_line"),
     ]),
     ("L", "The program's lines", [("ill_commands", "run_lines_as")]),
-    ("O", "From words to plan and exit status", [
+    ("O", "From words to action and exit status", [
         ("ill_args", "order"),
         ("ill_cli", "Action::new"),
         ("ill_cli", "InputAction::new"),
