@@ -1,9 +1,10 @@
 -- What a dump of a known input says.
-use Rattle.std.proofs.Common.{◌≡◌, ◌+◌, ◌<◌, ◌≤◌, ℕ, Bool, false, true, List, [], ◌∷◌, ◌++◌, Option, Some, None, length, sym, ap, subst, ◌∙◌, inl, inr, arith, append_assoc, length-append, refl}
+use Rattle.std.proofs.Common.{◌≡◌, suc, ◌+◌, ◌<◌, ◌≤◌, ℕ, Bool, false, true, List, [], ◌∷◌, ◌++◌, Option, Some, None, length, sym, ap, subst, ◌∙◌, inl, inr, arith, append_assoc, length-append, refl, append-nil}
 use Rattle.std.proofs.lemmas.Bool.{cases_lt}
 use Rattle.ber_leaf.specs.Profile.{Profile}
 use Rattle.ill_schema.specs.Apdu.{Apdu, IsStream}
 use Rattle.ill_schema.specs.Profiles.{profile_of}
+use Rattle.ill_schema.specs.declared.refusal.Refusal.{Refusal}
 use Rattle.ill_schema.proofs.Streams.{parts_accept, spells_some, stream_fewer}
 use Rattle.ill_refusals.specs.Fault.{Fault, fault_of}
 use Rattle.ill_refusals.specs.Outcome.{OnlyRefuses}
@@ -11,6 +12,7 @@ use Rattle.ill_inputs.specs.Inputs.{IsResourceFault}
 use Rattle.ill_inputs.specs.declared.run_fault.RunFault.{RunFault}
 use Rattle.std.specs.Prelude.{if◌then◌else◌}
 use Rattle.std.specs.Io.KnownBytes.{Appends, Consumes}
+use Rattle.std.proofs.KnownBytes.{Appends-trans}
 use Rattle.ill_normal.specs.Calls.{Putting, putting, taking}
 use Rattle.ill_normal.specs.Entries.{AreWritten}
 use Rattle.ill_normal.specs.Items.{AreItems, Item, bad, good}
@@ -67,21 +69,30 @@ is_stream p s rest [] h k = ap (λ l. l ++ rest) h
 is_stream p s rest (good m ∷ items) h k = (m.octets, h.0 ++ rest, ap (λ l. l ++ rest) h.1 ∙ append_assoc m.octets h.0 rest, h.2, is_stream p h.0 rest items h.3 k)
 is_stream p s rest (bad octets refusal ∷ items) h k = absurd k
 
+-- where no one message is asked for, each is written
+line_of : (dump : DumpOptions) → dump.only ≡ None → (j i : ℕ) → j ≡ i → (line more : List ℕ) → line ≡ dumped dump j more → line ≡ head dump i ++ more
+line_of dump e j i ji line more is =
+    let chosen : dumped dump j more ≡ head dump j ++ more = ap (λ o. if is_chosen o j then head dump j ++ more else []) e in
+    is ∙ chosen ∙ ap (λ k. head dump k ++ more) ji
+
 -- each has its head
-headed : (dump : DumpOptions) → dump.only ≡ None → (p : MessagePlace) (i : ℕ) → p.number ≡ i → (items : List Item) (as' : List Apdu) → AreAccepted items → length items ≡ length as'
-    → (n : ℕ) (octets : List ℕ) → AreWritten (WritesLines dump) p items n octets → AreHeaded dump i as' octets
-headed dump e p i pi [] [] k len n octets h = h.1
-headed dump e p i pi [] (a ∷ as') k len n octets h = absurd (omega (arith, len))
-headed dump e p i pi (bad o refusal ∷ items) as' k len n octets h = absurd k
-headed dump e p i pi (good m ∷ items) [] k len n octets h = absurd (omega (arith, len))
-headed dump e p i pi (good m ∷ items) (a ∷ as') k len n octets h =
-    let line : dumped dump p.number h.6.0 ≡ head dump p.number ++ h.6.0 = ap (λ o. if is_chosen o p.number then head dump p.number ++ h.6.0 else []) e in
-    let here : h.2 ≡ head dump i ++ h.6.0 = h.6.1 ∙ line ∙ ap (λ j. head dump j ++ h.6.0) pi in (
-      h.6.0,
-      h.3,
-      h.5 ∙ ap (λ l. l ++ h.3) here,
-      headed dump e (after p (length m.octets)) (i + 1) (ap (λ j. j + 1) pi) items as' k (omega (arith, len)) h.1 h.3 h.7,
-    )
+headed : (dump : DumpOptions) → dump.only ≡ None → (p : MessagePlace) (i : ℕ) → p.number ≡ i → (items : List Item) → AreAccepted items → (n : ℕ) (octets : List ℕ)
+    → AreWritten (WritesLines dump) p items n octets → AreHeaded dump i (length items) octets
+headed dump e p i pi [] k n octets h = h.1
+headed dump e p i pi (bad o refusal ∷ items) k n octets h = absurd k
+headed dump e p i pi (good m ∷ items) k n octets h =
+    (h.6.0, h.3, h.5 ∙ ap (λ l. l ++ h.3) (line_of dump e p.number i pi h.2 h.6.0 h.6.1), headed dump e (after p (length m.octets)) (i + 1) (ap (λ j. j + 1) pi) items k h.1 h.3 h.7)
+
+-- the same, and one refused message after them
+headed_last : (dump : DumpOptions) → dump.only ≡ None → (p : MessagePlace) (i : ℕ) → p.number ≡ i → (items : List Item) → AreAccepted items → (n : ℕ) (octets : List ℕ)
+    → AreWritten (WritesLines dump) p items n octets → (last more : List ℕ) → last ≡ dumped dump (position_past p items).number more → AreHeaded dump i (suc (length items)) (octets ++ last)
+headed_last dump e p i pi [] k n octets h last more is =
+    (more, [], ap (λ l. l ++ last) h.1 ∙ line_of dump e p.number i pi last more is ∙ sym (append-nil (head dump i ++ more)), refl)
+headed_last dump e p i pi (bad o refusal ∷ items) k n octets h last more is = absurd k
+headed_last dump e p i pi (good m ∷ items) k n octets h last more is =
+    let line = line_of dump e p.number i pi h.2 h.6.0 h.6.1 in
+    let rest = headed_last dump e (after p (length m.octets)) (i + 1) (ap (λ j. j + 1) pi) items k h.1 h.3 h.7 last more is in
+    (h.6.0, h.3 ++ last, ap (λ l. l ++ last) (h.5 ∙ ap (λ l. l ++ h.3) line) ∙ append_assoc (head dump i ++ h.6.0) h.3 last, rest)
 
 -- octets are one number of messages
 fewer : (p : Profile) (s : List ℕ) (xs ys : List Apdu) → IsStream p s xs [] → IsStream p s ys [] → length xs ≤ length ys → length xs ≡ length ys
@@ -135,12 +146,24 @@ module _ (dump : DumpOptions) (s t : List ℕ) (broken : Bool) (sink : Putting) 
         (subst (λ r. IsStream q s (apdus_of h.items) r) (here ∙ empty) stream.2, omega (arith, e.0, counted_apdus h.items accepted))
 
     pub all_headed : dump.only ≡ None → end.fault ≡ None → (as' : List Apdu) → IsStream q s as' []
-        → (end.counts.messages ≡ length as') × ((lines : List ℕ) × AreHeaded dump 1 as' lines × Appends sink.held sink.held' lines)
+        → (end.counts.messages ≡ length as') × ((lines : List ℕ) × AreHeaded dump 1 (length as') lines × Appends sink.held sink.held' lines)
     all_headed all none as' k =
         let e : EndsBy None = subst EndsBy none h.ends in
         let last : last_of end.fault ≡ 0 = ap last_of none in
         let same : length h.items ≡ length as' = sym (counted_apdus h.items accepted) ∙ as_many q s (apdus_of h.items) as' (whole all none).0 k in
-        (omega (arith, h.messages, last, same), (h.passes.output, headed dump all first 1 refl h.items as' accepted same end.counts.written h.passes.output h.passes.written, subst (λ z. Appends sink.held z h.passes.output) e.3 h.passes.put))
+        let lines = headed dump all first 1 refl h.items accepted end.counts.written h.passes.output h.passes.written in
+        (omega (arith, h.messages, last, same), (h.passes.output, subst (λ n. AreHeaded dump 1 n h.passes.output) same lines, subst (λ z. Appends sink.held z h.passes.output) e.3 h.passes.put))
+
+    pub last_headed : dump.only ≡ None → (i : ℕ) (refusal : Refusal) → end.fault ≡ Some (RunFault.Refused i refusal)
+        → (end.counts.messages ≡ i) × ((lines : List ℕ) × AreHeaded dump 1 i lines × Appends sink.held sink.held' lines)
+    last_headed all i refusal is =
+        let e : EndsBy (Some (RunFault.Refused i refusal)) = subst EndsBy is h.ends in
+        let last : last_of end.fault ≡ 1 = ap last_of is in
+        let put = subst (λ m. IsLast q (WritesLines dump) (λ entry error held held'. Unit {0}) m (taking h.rest (Some t) broken) (putting h.grown sink.held' sink.broken) (reporting h.reported reports.new) (position_past first h.items) refusal) ends e.2 in
+        let text = put.1.1.1.0 in
+        let lines = headed_last dump all first 1 refl h.items accepted end.counts.written h.passes.output h.passes.written text put.1.1.1.1.0 put.1.1.1.1.1 in
+        let count : suc (length h.items) ≡ i = omega (arith, e.1) in
+        (omega (arith, h.messages, last, e.1), (h.passes.output ++ text, subst (λ n. AreHeaded dump 1 n (h.passes.output ++ text)) count lines, Appends-trans sink.held h.grown sink.held' h.passes.output text h.passes.put put.1.1.1.2))
 
     by_fault : (xs : List Apdu) → IsStream q s xs [] → length xs ≤ 1_000_000 → (e : RunFault) → EndsBy (Some e) → IsResourceFault e
     by_fault xs k few (RunFault.Refused message refusal) e =

@@ -13,6 +13,7 @@ use ber_core::{Pieces, Room, Sink, Source, Unbuffered};
 use ill_commands::RunFault;
 use ill_dump::{DumpOptions, run_dump};
 use ill_normal::{NoReports, StreamEnd};
+use ill_schema::Refusal;
 use std::alloc::Global;
 
 /// Equal inputs end in one way: where one is dumped to its end, the other is too, unless memory, the source or the sink fails.
@@ -48,7 +49,8 @@ fn inputs_end_in_one_way(
     )
 }
 
-/// Each message of an input that is dumped to its end is counted and written, and its lines begin with its head.
+/// Each message of an input that is dumped to its end is counted and written, and each up to one that is refused, which is written, too. The lines
+/// of each begin with its head.
 fn each_message_is_dumped(
     dump: DumpOptions<'_>,
     source: &mut Pieces,
@@ -58,10 +60,14 @@ fn each_message_is_dumped(
     requires plain { dump.hex ≡ false }
     requires all { dump.only ≡ None }
     requires ends { dump.on_refusal ≡ Mode.EndWith }
-    ensures { (as' : List Apdu)
+    ensures whole { (as' : List Apdu)
         → IsStream (profile_of dump.entry.profile) source.old.octets as' [] → result.fault ≡ None
         → (result.counts.messages ≡ length as') × ((lines : List ℕ)
-        × AreHeaded dump.entry 1 as' lines
+        × AreHeaded dump.entry 1 (length as') lines
+        × Appends (Some sink.old.octets) (Some sink.new.octets) lines) }
+    ensures refused { (i : ℕ) (refusal : Refusal)
+        → result.fault ≡ Some (RunFault.Refused i refusal)
+        → (result.counts.messages ≡ i) × ((lines : List ℕ) × AreHeaded dump.entry 1 i lines
         × Appends (Some sink.old.octets) (Some sink.new.octets) lines) }
 {
     run_dump::<Pieces, Unbuffered, Room<64>, NoReports>(alloc, dump, source, sink, &mut NoReports)
@@ -73,9 +79,7 @@ fn dumps_fail_where_something_is_broken(
     source: &mut Pieces,
     sink: &mut Room<64>,
     alloc: Global,
-)
-    requires plain { dump.hex ≡ false }
-{
+) {
     let end = run_dump::<Pieces, Unbuffered, Room<64>, NoReports>(
         alloc,
         dump,
