@@ -2,7 +2,7 @@
 use Rattle.std.proofs.Common.{◌≡◌, ℕ, ◌+◌, ◌≤◌, List, ◌++◌, length, Option, None, Some, refl, arith, length-append}
 use Rattle.std.specs.Io.KnownBytes.{Consumes}
 use Rattle.std.proofs.KnownBytes.{Consumes-trans}
-use Rattle.ill_inputs.specs.ReadErrors.{TakesAtMost}
+use Rattle.ill_inputs.specs.TakenOctets.{TakesAtMost}
 
 -- some octets were taken, and then some more
 pub takes_more : (n : ℕ) (left left' left'' : Option (List ℕ)) (bs cs : List ℕ) → Consumes left left' bs → Consumes left' left'' cs

@@ -1,7 +1,7 @@
 -- What is said of an input: what its lines begin with, the verdict of a job on it, and the octets that its hexadecimal text stands for.
 use Rattle.std.specs.Prelude.{◌≡◌, ◌⊎◌, ℕ, Bool, true, false, List, [], ◌++◌, codes, Option, Ok, Err, IsTrue}
 use Rattle.ill_inputs.specs.Hexadecimal.{hex_octets, TakesText}
-use Rattle.ill_inputs.specs.ReadErrors.{TakesAtMost}
+use Rattle.ill_inputs.specs.TakenOctets.{TakesAtMost}
 use Rattle.ill_inputs.specs.declared.run_fault.RunFault.{RunFault}
 use Rattle.ill_inputs.specs.declared.verdict.Verdict.{Verdict}
 

@@ -1,4 +1,4 @@
-pub mod ReadErrors
+pub mod TakenOctets
 pub mod Hexadecimal
 pub mod Inputs
 pub mod Parts

@@ -16,9 +16,9 @@ mod verdict;
 mod whole_input;
 
 pub use hexadecimal::{MAX_HEX_TEXT, read_hex, text_octets};
-pub use input_end::{EndError, end_of_input};
+pub use input_end::end_of_input;
 pub use place::RefusalPlace;
 pub use run_fault::RunFault;
 pub use side::Side;
 pub use verdict::Verdict;
-pub use whole_input::{ReadError, read_at_most};
+pub use whole_input::read_at_most;

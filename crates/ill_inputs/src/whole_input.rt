@@ -1,8 +1,8 @@
 //! Whole inputs in memory.
-ghost use Rattle.std.specs.Prelude.{◌<◌, ◌≤◌, length, IfOk, IsErrOf, IsTrue};
+ghost use Rattle.std.specs.Prelude.{◌<◌, ◌≤◌, length, IfErr, IfOk, IsTrue};
 ghost use Rattle.std.specs.Io.KnownBytes.{Consumes, IsAtEnd};
-ghost use Rattle.ill_inputs.specs.declared.whole_input.ReadError.{ReadError};
-ghost use Rattle.ill_inputs.specs.ReadErrors.{TakesAtMost};
+ghost use Rattle.ill_inputs.specs.Inputs.{IsUnread};
+ghost use Rattle.ill_inputs.specs.TakenOctets.{TakesAtMost};
 
 use crate::run_fault::RunFault;
 use ber_core::{Broken, Source};
@@ -10,27 +10,6 @@ use std::alloc::Global;
 
 /// The number of octets that are asked of a source at once.
 const READ_LEN: usize = 4096;
-
-/// The reason why an input wasn't read.
-#[derive(Clone, Copy, Debug, PartialEq, Eq)]
-pub enum ReadError {
-    OutOfMemory,
-    Broken,
-}
-
-impl From<ReadError> for RunFault {
-    ghost use Rattle.std.specs.Prelude.{◌≡◌};
-    ghost use Rattle.ill_inputs.specs.ReadErrors.{unread_fault};
-
-    ghost from_gives = { λ why fault. fault ≡ unread_fault why };
-
-    fn from(why: ReadError) -> RunFault {
-        match why {
-            ReadError::OutOfMemory => RunFault::OutOfMemory,
-            ReadError::Broken => RunFault::ReadFault,
-        }
-    }
-}
 
 /// Reads to the end of the input, but at most `most` octets. No more than these are taken of the
 /// source, whatever the result.
@@ -42,13 +21,14 @@ pub fn read_at_most<R: Source>(
     alloc: Global,
     source: &mut R,
     most: usize,
-) -> Result<Vec<u8>, ReadError>
+) -> Result<Vec<u8>, RunFault>
     ensures taken { IfOk result (λ text. Consumes (R.left source.old) (R.left source.new)
         text.items) }
     ensures most { IfOk result (λ text. length text.items ≤ most) }
     ensures end { IfOk result (λ text. length text.items < most → IsAtEnd (R.left source.new)) }
     ensures bound { TakesAtMost most (R.left source.old) (R.left source.new) }
-    ensures broken { IsErrOf result ReadError.Broken → IsTrue (R.is_broken source.new) }
+    ensures fails { IfErr result (IsUnread most (R.left source.old) (R.left source.new)
+        (R.is_broken source.new)) }
     ensures stays { IsTrue (R.is_broken source.old) → IsTrue (R.is_broken source.new) }
 {
     let mut text = Vec::new(alloc);
@@ -58,10 +38,10 @@ pub fn read_at_most<R: Source>(
         let count = match source.take(&mut buffer[..room]) {
             Ok(0) => return Ok(text),
             Ok(count) => count,
-            Err(Broken) => return Err(ReadError::Broken),
+            Err(Broken) => return Err(RunFault::ReadFault),
         };
         if text.extend_from_slice(&buffer[..count]).is_err() {
-            return Err(ReadError::OutOfMemory);
+            return Err(RunFault::OutOfMemory);
         }
     }
     Ok(text)

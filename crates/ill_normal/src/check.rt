@@ -7,7 +7,7 @@ ghost use Rattle.ill_tables.specs.declared.profile.Profile.{Profile as Named};
 ghost use Rattle.ill_read.specs.Answers.{AnswersSome, ReadsNext, ReadsNextIn};
 ghost use Rattle.ill_normal.specs.Checking.{Describes, DescribesIn, IsFormIn, IsFormOf};
 
-use ber_core::{Lookahead, Source, Unbuffered};
+use ber_core::Source;
 use ill_read::{NormalReader, ReadFailure};
 use ill_schema::Profile;
 use std::alloc::Global;
@@ -60,42 +60,20 @@ pub fn check_one_as<R: Source>(
 {
     let mut reader = NormalReader::new(alloc);
     let buffer = Vec::new(alloc);
-    let Some(found) = check_one_in_as::<R, Unbuffered>(alloc, profile, &mut reader, source, buffer)?
-    else {
+    let Some(found) = check_one_in(alloc, profile, &mut reader, source, buffer)? else {
         return Ok(None);
     };
     Ok(Some(found.0))
 }
 
-/// Checks a message as [`check_one`] does, with the lookahead `L`, by a reader of one message after another, and returns its normal form
-/// besides, in the memory of `buffer`, whose octets are forgotten. What the reader read before makes no difference.
-///
-/// # Errors
-///
-/// Those of [`check_one`].
-pub fn check_one_in<R: Source, L: Lookahead<R>>(
-    alloc: Global,
-    reader: &mut NormalReader,
-    source: &mut R,
-    buffer: Vec<u8>,
-) -> Result<Option<(Checked, Vec<u8>)>, ReadFailure>
-    ensures next { ReadsNext (R.left source.old) (R.left source.new) (R.is_broken source.old)
-        (R.is_broken source.new)
-        (λ found octets. Describes found.0 octets × IsFormOf found.1.items octets) result }
-    // A spelling at the front is checked, unless memory or the source failed.
-    ensures accepts { IfSome (R.left source.old)
-        (λ s. (a : Apdu) (n : ℕ) → Accepts profile_two s a n → AnswersSome result) }
-{
-    check_one_in_as::<R, L>(alloc, Profile::Two, reader, source, buffer)
-}
-
-/// Checks a message in the profile as [`check_one_in`] does.
+/// Checks a message in the profile as [`check_one`] does, by a reader of one message after another, and returns its normal form besides, in the
+/// memory of `buffer`, whose octets are forgotten. What the reader read before makes no difference.
 ///
 /// # Errors
 ///
 /// Those of [`check_one`], in the profile.
 #[inline(always)]
-pub fn check_one_in_as<R: Source, L: Lookahead<R>>(
+pub fn check_one_in<R: Source>(
     alloc: Global,
     profile: Profile,
     reader: &mut NormalReader,
@@ -111,8 +89,7 @@ pub fn check_one_in_as<R: Source, L: Lookahead<R>>(
         (λ s. (a : Apdu) (n : ℕ) → Accepts (profile_of profile) s a n → AnswersSome result) }
 {
     let mut recorded = Vec::new(alloc);
-    let Some(normal) = reader.read_recording_as::<R, L>(profile, source, buffer, &mut recorded)?
-    else {
+    let Some(normal) = reader.read_recording(profile, source, buffer, &mut recorded)? else {
         return Ok(None);
     };
     let checked = Checked {

@@ -7,7 +7,7 @@ ghost use Rattle.ill_read.specs.Answers.{IfRefused, RefusesWhole, RefusesWholeIn
 ghost use Rattle.ill_normal.specs.Compared.{RefusesSide, RefusesSideIn};
 
 use ill_inputs::Side;
-use ill_read::{Failure, decode_normal_as};
+use ill_read::{Failure, decode_normal};
 use ill_schema::Profile;
 use std::alloc::Global;
 
@@ -54,11 +54,11 @@ pub fn same_message_as(
         → SpellsApdu (profile_of profile) b second.now
         → IfErr result (λ e. e.1 ≡ Failure.OutOfMemory) }
 {
-    let one = match decode_normal_as(alloc, profile, first) {
+    let one = match decode_normal(alloc, profile, first) {
         Ok(normal) => normal,
         Err(failure) => return Err((Side::First, failure)),
     };
-    let other = match decode_normal_as(alloc, profile, second) {
+    let other = match decode_normal(alloc, profile, second) {
         Ok(normal) => normal,
         Err(failure) => return Err((Side::Second, failure)),
     };
@@ -95,6 +95,6 @@ pub fn is_normal_as(alloc: Global, profile: Profile, octets: &[u8]) -> Result<bo
     ensures accepts { (a : Apdu) → SpellsApdu (profile_of profile) a octets.now
         → IfErr result (λ e. e ≡ Failure.OutOfMemory) }
 {
-    let normal = decode_normal_as(alloc, profile, octets)?;
+    let normal = decode_normal(alloc, profile, octets)?;
     Ok(normal.octets.as_slice() == octets)
 }

@@ -17,19 +17,19 @@ ghost use Rattle.ill_normal.specs.declared.report.RefusalReport.{RefusalReport a
 use crate::counts::Counts;
 use crate::message_reader::MessageReader;
 use crate::messages::{MAX_MESSAGES, OnRefusal, Reading, StreamEnd};
-use crate::next_message::{NextMessage, TakeError, take_message};
-use crate::report::{NotReported, RefusalReport, ReportRefusals};
+use crate::next_message::{NextMessage, take_message};
+use crate::report::{RefusalReport, ReportRefusals};
 use crate::rest::take_rest;
 use crate::write_items::{PutError, WriteItems};
-use ber_core::{Lookahead, Sink, Source};
-use ill_inputs::{EndError, RunFault, end_of_input};
+use ber_core::{Sink, Source};
+use ill_inputs::{RunFault, end_of_input};
 use ill_read::ReadFailure;
 use ill_schema::Refusal;
 use std::alloc::{AllocError, Global};
 
 /// Reads the messages of an input of octets, one after another, and has `writer` write each. One message is held at a time; its memory is used
 /// again for the next one.
-pub fn read_items<I: WriteItems, R: Source, L: Lookahead<R>, W: Sink, T: ReportRefusals>(
+pub fn read_items<I: WriteItems, R: Source, W: Sink, T: ReportRefusals>(
     reading: Reading,
     writer: &mut I,
     source: &mut R,
@@ -52,7 +52,7 @@ pub fn read_items<I: WriteItems, R: Source, L: Lookahead<R>, W: Sink, T: ReportR
         if reading.ends_after(before) {
             return work.ended(None);
         }
-        match work.step::<I, R, L, W, T>(writer, source, sink, reports) {
+        match work.step(writer, source, sink, reports) {
             Ok(()) => {}
             Err(end) => return end,
         }
@@ -62,8 +62,7 @@ pub fn read_items<I: WriteItems, R: Source, L: Lookahead<R>, W: Sink, T: ReportR
     }
     match end_of_input(source) {
         Ok(()) => work.ended(None),
-        Err(EndError::MoreOctets) => work.ended(Some(RunFault::TooManyMessages)),
-        Err(EndError::Broken) => work.ended(Some(RunFault::ReadFault)),
+        Err(fault) => work.ended(Some(fault)),
     }
 }
 
@@ -92,7 +91,7 @@ impl ItemLoop {
 
     /// Reads the next message, and has it written.
     #[inline(always)]
-    fn step<I: WriteItems, R: Source, L: Lookahead<R>, W: Sink, T: ReportRefusals>(
+    fn step<I: WriteItems, R: Source, W: Sink, T: ReportRefusals>(
         &mut self,
         writer: &mut I,
         source: &mut R,
@@ -120,15 +119,15 @@ impl ItemLoop {
         ensures sink_stays { IsTrue (W.is_broken sink.old) → IsTrue (W.is_broken sink.new) }
     {
         match self.reading.on_refusal {
-            OnRefusal::Stop => self.read_message::<I, R, L, W>(writer, source, sink),
-            OnRefusal::EndWith => self.read_message::<I, R, L, W>(writer, source, sink),
-            OnRefusal::GoOn => self.read_element::<I, R, L, W, T>(writer, source, sink, reports),
+            OnRefusal::Stop => self.read_message(writer, source, sink),
+            OnRefusal::EndWith => self.read_message(writer, source, sink),
+            OnRefusal::GoOn => self.read_element(writer, source, sink, reports),
         }
     }
 
     /// Reads the next message, where the work ends with a refused one, and has it written.
     #[inline(always)]
-    fn read_message<I: WriteItems, R: Source, L: Lookahead<R>, W: Sink>(
+    fn read_message<I: WriteItems, R: Source, W: Sink>(
         &mut self,
         writer: &mut I,
         source: &mut R,
@@ -156,14 +155,11 @@ impl ItemLoop {
             → IsTrue (R.is_broken source.new) }
         ensures sink_stays { IsTrue (W.is_broken sink.old) → IsTrue (W.is_broken sink.new) }
     {
-        match self
-            .reader
-            .read::<R, L>(writer.profile(), writer.wants(), source)
-        {
-            Ok(Some(_)) => self.write_accepted::<I, W>(writer, sink),
+        match self.reader.read(writer.profile(), writer.wants(), source) {
+            Ok(Some(_)) => self.write_accepted(writer, sink),
             Ok(None) => Err(self.ended(None)),
             Err(ReadFailure::Refused(refusal)) => {
-                Err(self.end_with::<I, R, W>(refusal, writer, source, sink))
+                Err(self.end_with(refusal, writer, source, sink))
             }
             Err(ReadFailure::OutOfMemory) => Err(self.ended(Some(RunFault::OutOfMemory))),
             Err(ReadFailure::ReadFault) => Err(self.ended(Some(RunFault::ReadFault))),
@@ -171,7 +167,7 @@ impl ItemLoop {
     }
 
     /// Takes the next element, where the work goes on, and has the message written, or written and reported if it is refused.
-    fn read_element<I: WriteItems, R: Source, L: Lookahead<R>, W: Sink, T: ReportRefusals>(
+    fn read_element<I: WriteItems, R: Source, W: Sink, T: ReportRefusals>(
         &mut self,
         writer: &mut I,
         source: &mut R,
@@ -199,21 +195,20 @@ impl ItemLoop {
             → IsTrue (R.is_broken source.new) }
         ensures sink_stays { IsTrue (W.is_broken sink.old) → IsTrue (W.is_broken sink.new) }
     {
-        match take_message::<R, L>(
+        match take_message(
             writer.profile(),
             writer.wants(),
             &mut self.reader,
             source,
             &mut self.recorded,
         ) {
-            Ok(NextMessage::Read) => self.write_accepted::<I, W>(writer, sink),
+            Ok(NextMessage::Read) => self.write_accepted(writer, sink),
             Ok(NextMessage::Refused { refusal, end }) => {
                 let report = RefusalReport::new(self.counts.next_place(), refusal, end);
-                self.write_refused::<I, W, T>(report, writer, sink, reports)
+                self.write_refused(report, writer, sink, reports)
             }
             Ok(NextMessage::AtEnd) => Err(self.ended(None)),
-            Err(TakeError::OutOfMemory) => Err(self.ended(Some(RunFault::OutOfMemory))),
-            Err(TakeError::Broken) => Err(self.ended(Some(RunFault::ReadFault))),
+            Err(fault) => Err(self.ended(Some(fault))),
         }
     }
 
@@ -246,7 +241,7 @@ impl ItemLoop {
     {
         let len = self.reader.message.len;
         let place = self.counts.next_place();
-        match writer.accepted::<W>(place, &mut self.reader.message, sink) {
+        match writer.accepted(place, &mut self.reader.message, sink) {
             Ok(written) => {
                 self.counts = self
                     .counts
@@ -288,13 +283,13 @@ impl ItemLoop {
         ensures reading { self.new.reading ≡ self.old.reading }
         ensures sink_stays { IsTrue (W.is_broken sink.old) → IsTrue (W.is_broken sink.new) }
     {
-        let written = match writer.refused::<W>(report, self.recorded.as_slice(), sink) {
+        let written = match writer.refused(report, self.recorded.as_slice(), sink) {
             Ok(written) => written,
             Err(error) => return Err(self.unwritten(error)),
         };
         match reports.report(report, self.recorded.as_slice()) {
             Ok(()) => {}
-            Err(NotReported) => return Err(self.ended(Some(RunFault::NotReported))),
+            Err(fault) => return Err(self.ended(Some(fault))),
         }
         match report.octets {
             Some(octets) => {
@@ -340,7 +335,7 @@ impl ItemLoop {
             Ok(()) => {}
             Err(AllocError) => return self.ended(Some(RunFault::OutOfMemory)),
         }
-        match writer.refused::<W>(report, self.reader.message.spelled.as_slice(), sink) {
+        match writer.refused(report, self.reader.message.spelled.as_slice(), sink) {
             Ok(_) => self.ended_with(refusal),
             Err(error) => self.unwritten(error),
         }

@@ -4,7 +4,7 @@ ghost use Rattle.ill_schema.specs.Profiles.{profile_of};
 ghost use Rattle.ill_read.specs.Answers.{ReadsNextIn};
 ghost use Rattle.ill_normal.specs.ReadMessages.{IsMessage};
 
-use ber_core::{Lookahead, Source};
+use ber_core::Source;
 use ill_read::{NormalForm, NormalReader, Outline, OutlineReader, OutlinedMessage, ReadFailure};
 use ill_schema::Profile;
 use std::alloc::Global;
@@ -48,7 +48,7 @@ impl ReadMessage {
 ///
 /// ```
 /// let mut reader = MessageReader::new(alloc);
-/// while let Some(_) = reader.read::<R, L>(Profile::Two, wants, source)? {
+/// while let Some(_) = reader.read(Profile::Two, wants, source)? {
 ///     archive.put(&reader.message.normal)?;
 /// }
 /// ```
@@ -76,14 +76,14 @@ impl MessageReader {
     /// number of octets that it has. What was read before makes no difference.
     ///
     /// ```
-    /// let count = reader.read::<R, L>(Profile::Module, wants, source)?;
+    /// let count = reader.read(Profile::Module, wants, source)?;
     /// ```
     ///
     /// # Errors
     ///
     /// Those of [`read_message`](crate::read_message), in the profile.
     #[inline(always)]
-    pub fn read<R: Source, L: Lookahead<R>>(
+    pub fn read<R: Source>(
         &mut self,
         profile: Profile,
         wants: Wants,
@@ -95,7 +95,7 @@ impl MessageReader {
             × IsMessage (profile_of profile) wants self.new.message octets) result }
     {
         if wants.outline {
-            return self.read_outlined::<R, L>(profile, wants, source);
+            return self.read_outlined(profile, wants, source);
         }
         let ReadMessage {
             normal,
@@ -106,13 +106,13 @@ impl MessageReader {
         spelled.clear();
         if wants.spelled {
             let reader = &mut self.normal;
-            return match reader.read_recording_as::<R, L>(profile, source, memory, spelled) {
+            return match reader.read_recording(profile, source, memory, spelled) {
                 Ok(Some(read)) => Ok(Some(self.keep(read))),
                 Ok(None) => Ok(None),
                 Err(failure) => Err(failure),
             };
         }
-        match self.normal.read_as::<R, L>(profile, source, memory) {
+        match self.normal.read(profile, source, memory) {
             Ok(Some(read)) => Ok(Some(self.keep(read))),
             Ok(None) => Ok(None),
             Err(failure) => Err(failure),
@@ -120,7 +120,7 @@ impl MessageReader {
     }
 
     /// Reads a message, and makes its outline.
-    fn read_outlined<R: Source, L: Lookahead<R>>(
+    fn read_outlined<R: Source>(
         &mut self,
         profile: Profile,
         wants: Wants,
@@ -131,29 +131,20 @@ impl MessageReader {
             (λ count octets. (count ≡ length octets)
             × IsMessage (profile_of profile) wants self.new.message octets) result }
     {
-        let ReadMessage {
-            normal,
-            spelled,
-            outline,
-            ..
-        } = &mut self.message;
-        let normal = mem::replace(normal, Vec::new(self.alloc));
-        let outline = mem::replace(outline, Outline::new(self.alloc));
+        let memory = OutlinedMessage {
+            outline: mem::replace(&mut self.message.outline, Outline::new(self.alloc)),
+            normal: mem::replace(&mut self.message.normal, Vec::new(self.alloc)),
+            input_len: 0,
+        };
+        let spelled = &mut self.message.spelled;
         spelled.clear();
-        if wants.spelled {
-            let reader = &mut self.outline;
-            return match reader.read_recording_as::<R, L>(
-                profile, source, outline, normal, spelled,
-            ) {
-                Ok(Some(read)) => Ok(Some(self.keep_outlined(read))),
-                Ok(None) => Ok(None),
-                Err(failure) => Err(failure),
-            };
-        }
-        match self
-            .outline
-            .read_as::<R, L>(profile, source, outline, normal)
-        {
+        let read = if wants.spelled {
+            self.outline
+                .read_recording(profile, source, memory, spelled)
+        } else {
+            self.outline.read(profile, source, memory)
+        };
+        match read {
             Ok(Some(read)) => Ok(Some(self.keep_outlined(read))),
             Ok(None) => Ok(None),
             Err(failure) => Err(failure),

@@ -8,7 +8,7 @@ use crate::counts::Counts;
 use crate::item_loop::read_items;
 use crate::report::ReportRefusals;
 use crate::write_items::WriteItems;
-use ber_core::{Buffered, FromSlice, Lookahead, Sink, Source};
+use ber_core::{FromSlice, Sink, Source};
 use ill_inputs::{RunFault, read_hex};
 
 /// The number of messages that an input may have.
@@ -68,13 +68,13 @@ pub struct StreamEnd {
     pub fault: Option<RunFault>,
 }
 
-/// Reads the messages of an input, one after another up to its end, with the lookahead `L`, and has `writer` write each. Hexadecimal text is
-/// read whole first.
+/// Reads the messages of an input, one after another up to its end, and has `writer` write each. Hexadecimal text is read whole
+/// first.
 ///
 /// ```
-/// let end = read_input::<I, R, L, W, T>(reading, &mut writer, source, sink, reports);
+/// let end = read_input(reading, &mut writer, source, sink, reports);
 /// ```
-pub fn read_input<I: WriteItems, R: Source, L: Lookahead<R>, W: Sink, T: ReportRefusals>(
+pub fn read_input<I: WriteItems, R: Source, W: Sink, T: ReportRefusals>(
     reading: Reading,
     writer: &mut I,
     source: &mut R,
@@ -93,14 +93,12 @@ pub fn read_input<I: WriteItems, R: Source, L: Lookahead<R>, W: Sink, T: ReportR
     ensures sink_stays { IsTrue (W.is_broken sink.old) → IsTrue (W.is_broken sink.new) }
 {
     if !reading.hex {
-        return read_items::<I, R, L, W, T>(reading, writer, source, sink, reports);
+        return read_items(reading, writer, source, sink, reports);
     }
     match read_hex(writer.alloc(), source) {
         Ok(octets) => {
             let mut text = FromSlice::new(&octets);
-            read_items::<I, FromSlice<'_>, Buffered, W, T>(
-                reading, writer, &mut text, sink, reports,
-            )
+            read_items(reading, writer, &mut text, sink, reports)
         }
         Err(fault) => StreamEnd {
             counts: Counts::none(),

@@ -9,8 +9,9 @@ ghost use Rattle.ill_normal.specs.Next.{IsNext, TakesPart};
 ghost use Rattle.ill_normal.specs.code.Taking.{end_of, Takes, TakesElement, TakesOctet, TakesUnframed, TakesWhereCut, Took};
 
 use crate::message_reader::{MessageReader, Wants};
-use ber_core::{Buffered, FromSlice, Lookahead, Source};
+use ber_core::{Broken, FromSlice, Source};
 use ber_framing::{Framer, Framing};
+use ill_inputs::RunFault;
 use ill_read::ReadFailure;
 use ill_schema::{Cause, LIMIT, Profile, Refusal};
 use std::alloc::AllocError;
@@ -29,14 +30,6 @@ pub enum NextMessage {
     AtEnd,
 }
 
-/// The reason why no message was taken.
-#[derive(Clone, Copy)]
-pub enum TakeError {
-    OutOfMemory,
-    /// The source is broken.
-    Broken,
-}
-
 /// Takes the octets of the next element, as its framing gives it, and records the first 1,048,576 of them; `recorded` forgets what it had
 /// before. Then the reader reads them as a message of the profile. Where the element's end can't be known, a length that is too great is taken as a
 /// whole: a message is Truncated only where the input ends.
@@ -44,30 +37,30 @@ pub enum TakeError {
 /// # Errors
 ///
 /// Memory ran out, or the source is broken.
-pub fn take_message<R: Source, L: Lookahead<R>>(
+pub fn take_message<R: Source>(
     profile: Profile,
     wants: Wants,
     reader: &mut MessageReader,
     source: &mut R,
     recorded: &mut Vec<u8>,
-) -> Result<NextMessage, TakeError>
+) -> Result<NextMessage, RunFault>
     ensures next { IfOk result (IsNext (profile_of profile) wants (R.left source.old)
         (R.left source.new) recorded.new.items reader.new.message) }
-    ensures broken { IfErr result (λ e. e ≡ TakeError.Broken → IsTrue (R.is_broken source.new)
+    ensures broken { IfErr result (λ e. e ≡ RunFault.ReadFault → IsTrue (R.is_broken source.new)
         × TakesPart (R.left source.old) (R.left source.new)) }
     ensures stays { IsTrue (R.is_broken source.old) → IsTrue (R.is_broken source.new) }
 {
-    let taken = match take_element::<R, L>(source, recorded) {
+    let taken = match take_element(source, recorded) {
         Ok(taken) => taken,
         Err(unread) => return Err(unread),
     };
     'judged: loop {
         let mut octets = FromSlice::new(recorded.as_slice());
-        let refusal = match reader.read::<FromSlice<'_>, Buffered>(profile, wants, &mut octets) {
+        let refusal = match reader.read(profile, wants, &mut octets) {
             Ok(Some(_)) => return Ok(NextMessage::Read),
             Ok(None) => return Ok(NextMessage::AtEnd),
             Err(ReadFailure::Refused(refusal)) => refusal,
-            Err(ReadFailure::OutOfMemory) => return Err(TakeError::OutOfMemory),
+            Err(ReadFailure::OutOfMemory) => return Err(RunFault::OutOfMemory),
             Err(ReadFailure::ReadFault) => unreachable!(),
         };
         match take_where_cut(source, recorded, taken.framing, refusal.cause) {
@@ -100,17 +93,14 @@ fn end_of(taken: TakenElement) -> Option<u64>
 
 /// Takes the octets of the next element, up to where it ends, where its end can't be known or where the input ends, and records the first
 /// 1,048,576 of them. Of a length that is too great it takes the rest.
-fn take_element<R: Source, L: Lookahead<R>>(
-    source: &mut R,
-    recorded: &mut Vec<u8>,
-) -> Result<TakenElement, TakeError>
+fn take_element<R: Source>(source: &mut R, recorded: &mut Vec<u8>) -> Result<TakenElement, RunFault>
     ensures element { IfOk result (λ taken. Took (R.left source.old) (R.left source.new)
         recorded.new.items taken.octets taken.framing) }
-    ensures broken { IfErr result (λ e. e ≡ TakeError.Broken → IsTrue (R.is_broken source.new)
+    ensures broken { IfErr result (λ e. e ≡ RunFault.ReadFault → IsTrue (R.is_broken source.new)
         × TakesPart (R.left source.old) (R.left source.new)) }
     ensures stays { IsTrue (R.is_broken source.old) → IsTrue (R.is_broken source.new) }
 {
-    let (framer, octets) = match take_framed::<R, L>(source, recorded) {
+    let (framer, octets) = match take_framed(source, recorded) {
         Ok(taken) => taken,
         Err(unread) => return Err(unread),
     };
@@ -125,11 +115,11 @@ fn take_element<R: Source, L: Lookahead<R>>(
 }
 
 /// Takes `count` octets more of an element whose end can't be known, or fewer where the input ends, and records them.
-fn take_rest<R: Source>(source: &mut R, recorded: &mut Vec<u8>, count: u8) -> Result<(), TakeError>
+fn take_rest<R: Source>(source: &mut R, recorded: &mut Vec<u8>, count: u8) -> Result<(), RunFault>
     ensures rest { OnOk result ((from : Option (List ℕ))
         → TakesUnframed from (R.left source.old) recorded.old.items
         → TakesUnframed from (R.left source.new) recorded.new.items) }
-    ensures broken { IfErr result (λ e. e ≡ TakeError.Broken → IsTrue (R.is_broken source.new)
+    ensures broken { IfErr result (λ e. e ≡ RunFault.ReadFault → IsTrue (R.is_broken source.new)
         × ((from : Option (List ℕ)) → TakesUnframed from (R.left source.old) recorded.old.items
         → TakesPart from (R.left source.new))) }
     ensures stays { IsTrue (R.is_broken source.old) → IsTrue (R.is_broken source.new) }
@@ -145,10 +135,10 @@ fn take_rest<R: Source>(source: &mut R, recorded: &mut Vec<u8>, count: u8) -> Re
 }
 
 /// Takes and records one octet, and returns false where the input ends.
-fn take_octet<R: Source>(source: &mut R, recorded: &mut Vec<u8>) -> Result<bool, TakeError>
+fn take_octet<R: Source>(source: &mut R, recorded: &mut Vec<u8>) -> Result<bool, RunFault>
     ensures takes { IfOk result (TakesOctet (R.left source.old) (R.left source.new)
         recorded.old.items recorded.new.items) }
-    ensures broken { IfErr result (λ e. e ≡ TakeError.Broken → IsTrue (R.is_broken source.new)
+    ensures broken { IfErr result (λ e. e ≡ RunFault.ReadFault → IsTrue (R.is_broken source.new)
         × Keeps (R.left source.old) (R.left source.new) × (recorded.new ≡ recorded.old)) }
     ensures stays { IsTrue (R.is_broken source.old) → IsTrue (R.is_broken source.new) }
 {
@@ -157,22 +147,19 @@ fn take_octet<R: Source>(source: &mut R, recorded: &mut Vec<u8>) -> Result<bool,
         Ok(0) => Ok(false),
         Ok(_) => match record_octets(recorded, &octet) {
             Ok(()) => Ok(true),
-            Err(AllocError) => Err(TakeError::OutOfMemory),
+            Err(AllocError) => Err(RunFault::OutOfMemory),
         },
-        Err(_) => Err(TakeError::Broken),
+        Err(_) => Err(RunFault::ReadFault),
     }
 }
 
 /// Takes octets and feeds a framer with them, up to where nothing more is needed or the input ends, and records the first ones. Returns how
 /// many they are as well, up to 18,446,744,073,709,551,615.
-fn take_framed<R: Source, L: Lookahead<R>>(
-    source: &mut R,
-    recorded: &mut Vec<u8>,
-) -> Result<(Framer, u64), TakeError>
+fn take_framed<R: Source>(source: &mut R, recorded: &mut Vec<u8>) -> Result<(Framer, u64), RunFault>
     ensures element { IfOk result (λ taken. (frame : Framing)
         → ((b : List ℕ) → IsFed taken.0 b → HasFraming b frame)
         → TakesElement (R.left source.old) (R.left source.new) recorded.new.items taken.1 frame) }
-    ensures broken { IfErr result (λ e. e ≡ TakeError.Broken → IsTrue (R.is_broken source.new)
+    ensures broken { IfErr result (λ e. e ≡ RunFault.ReadFault → IsTrue (R.is_broken source.new)
         × TakesPart (R.left source.old) (R.left source.new)) }
     ensures stays { IsTrue (R.is_broken source.old) → IsTrue (R.is_broken source.new) }
 {
@@ -181,7 +168,7 @@ fn take_framed<R: Source, L: Lookahead<R>>(
     let mut buffer = [0; READ_LEN];
     let mut octets: u64 = 0;
     'element: for _ in 0..u64::MAX {
-        match take_some::<R, L>(source, &mut framer, recorded, &mut buffer) {
+        match take_some(source, &mut framer, recorded, &mut buffer) {
             Ok(0) => return Ok((framer, octets)),
             Ok(count) => octets = octets.saturating_add(count as u64),
             Err(unread) => return Err(unread),
@@ -197,10 +184,10 @@ fn take_where_cut<R: Source>(
     recorded: &mut Vec<u8>,
     framing: Framing,
     cause: Cause,
-) -> Result<bool, TakeError>
+) -> Result<bool, RunFault>
     ensures takes { IfOk result (TakesWhereCut (R.left source.old) (R.left source.new)
         recorded.old.items recorded.new.items framing cause) }
-    ensures broken { IfErr result (λ e. e ≡ TakeError.Broken → (framing ≡ Framing.Unframed)
+    ensures broken { IfErr result (λ e. e ≡ RunFault.ReadFault → (framing ≡ Framing.Unframed)
         × IsTrue (R.is_broken source.new) × Keeps (R.left source.old) (R.left source.new)) }
     ensures stays { IsTrue (R.is_broken source.old) → IsTrue (R.is_broken source.new) }
 {
@@ -212,31 +199,33 @@ fn take_where_cut<R: Source>(
 
 /// Takes some octets of an element, feeds a framer with them, and returns how many they are; 0 where the element or the input ends, or
 /// where the element's end can't be known.
-fn take_some<R: Source, L: Lookahead<R>>(
+fn take_some<R: Source>(
     source: &mut R,
     framer: &mut Framer,
     recorded: &mut Vec<u8>,
     buffer: &mut [u8],
-) -> Result<usize, TakeError>
+) -> Result<usize, RunFault>
     requires { 0 < length buffer.old }
     ensures takes { IfOk result (Takes (R.left source.old) (R.left source.new) framer.old framer.new
         recorded.old.items recorded.new.items) }
-    ensures broken { IfErr result (λ e. e ≡ TakeError.Broken → IsTrue (R.is_broken source.new)
+    ensures broken { IfErr result (λ e. e ≡ RunFault.ReadFault → IsTrue (R.is_broken source.new)
         × Keeps (R.left source.old) (R.left source.new)) }
-    ensures part { IfErr result (λ e. e ≡ TakeError.Broken → (b : List ℕ) → IsFed framer.old b
+    ensures part { IfErr result (λ e. e ≡ RunFault.ReadFault → (b : List ℕ) → IsFed framer.old b
         → IsPartOfFrame b) }
     ensures stays { IsTrue (R.is_broken source.old) → IsTrue (R.is_broken source.new) }
     ensures room { length buffer.new ≡ length buffer.old }
 {
-    let hand = L::buffered(source);
+    let hand = source.buffered();
     let seen = framer.feed(hand);
     if seen > 0 {
         return match record_octets(recorded, &hand[..seen]) {
             Ok(()) => {
-                L::consume(source, seen);
-                Ok(seen)
+                match source.consume(seen) {
+                    Ok(()) => Ok(seen),
+                    Err(Broken) => Err(RunFault::ReadFault),
+                }
             }
-            Err(AllocError) => Err(TakeError::OutOfMemory),
+            Err(AllocError) => Err(RunFault::OutOfMemory),
         };
     }
     let wanted = (framer.missing_len() as usize).min(buffer.len());
@@ -244,13 +233,13 @@ fn take_some<R: Source, L: Lookahead<R>>(
         return Ok(0);
     }
     let Ok(count) = source.take(&mut buffer[..wanted]) else {
-        return Err(TakeError::Broken);
+        return Err(RunFault::ReadFault);
     };
     let octets = &buffer[..count];
     let _ = framer.feed(octets);
     match record_octets(recorded, octets) {
         Ok(()) => Ok(count),
-        Err(AllocError) => Err(TakeError::OutOfMemory),
+        Err(AllocError) => Err(RunFault::OutOfMemory),
     }
 }
 

@@ -3,6 +3,7 @@ ghost use Rattle.std.specs.Prelude.{List, [], ◌∷◌, Option};
 ghost use Rattle.ill_normal.specs.declared.report.RefusalReport.{RefusalReport};
 
 use crate::messages::MessagePlace;
+use ill_inputs::RunFault;
 use ill_schema::Refusal;
 
 /// A message that is refused.
@@ -43,13 +44,10 @@ impl RefusalReport {
     }
 }
 
-/// The error of a receiver that took no report: the work stops.
-#[derive(Clone, Copy, Debug, PartialEq, Eq)]
-pub struct NotReported;
-
 /// A receiver of reports.
 pub trait ReportRefusals {
-    ghost use Rattle.std.specs.Prelude.{OnOk, OnErr};
+    ghost use Rattle.std.specs.Prelude.{◌≡◌, IfErr, OnOk, OnErr};
+    ghost use Rattle.ill_inputs.specs.declared.run_fault.RunFault.{RunFault};
     ghost use Rattle.ill_normal.specs.Items.{Adds, ComesWith};
 
     // The reports so far, in order, where they are known.
@@ -60,11 +58,12 @@ pub trait ReportRefusals {
     ///
     /// # Errors
     ///
-    /// The receiver took no report, and the work stops: it can't write, or wants no more of them.
-    fn report(&mut self, report: RefusalReport, octets: &[u8]) -> Result<(), NotReported>
+    /// `NotReported`: the receiver took no report, and the work stops. It can't write, or wants no more of them.
+    fn report(&mut self, report: RefusalReport, octets: &[u8]) -> Result<(), RunFault>
         requires { ComesWith report octets.now }
         ensures taken { OnOk result (Adds (reported self.old) (reported self.new) (report ∷ [])) }
-        ensures refused { OnErr result (Adds (reported self.old) (reported self.new) []) };
+        ensures refused { OnErr result (Adds (reported self.old) (reported self.new) []) }
+        ensures fault { IfErr result (λ fault. fault ≡ RunFault.NotReported) };
 }
 
 /// A receiver of no reports, for work that reports nothing.
@@ -76,7 +75,7 @@ impl ReportRefusals for NoReports {
 
     ghost reported = { λ _. None };
 
-    fn report(&mut self, _report: RefusalReport, _octets: &[u8]) -> Result<(), NotReported> {
+    fn report(&mut self, _report: RefusalReport, _octets: &[u8]) -> Result<(), RunFault> {
         Ok(())
     }
 }

@@ -11,8 +11,8 @@ ghost use Rattle.ill_normal.specs.Calls.{taking, putting};
 ghost use Rattle.ill_normal.specs.Normalised.{ForwardsIn, Fails, FailsIn, Answers, AnswersRefused};
 
 use crate::failure::NormalFailure;
-use ber_core::{Sink, Source, Unbuffered, put_all};
-use ill_read::read_normal_as;
+use ber_core::{Sink, Source, put_all};
+use ill_read::read_normal;
 use ill_schema::Profile;
 use std::alloc::Global;
 
@@ -44,7 +44,7 @@ pub(crate) fn forward<R: Source, W: Sink>(
     ensures source_stays { IsTrue (R.is_broken source.old) → IsTrue (R.is_broken source.new) }
     ensures sink_stays { IsTrue (W.is_broken sink.old) → IsTrue (W.is_broken sink.new) }
 {
-    let Some(normal) = read_normal_as::<R, Unbuffered>(alloc, profile, source)? else {
+    let Some(normal) = read_normal(alloc, profile, source)? else {
         return Ok(None);
     };
     match put_all(sink, &normal.octets) {

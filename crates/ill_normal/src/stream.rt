@@ -18,7 +18,7 @@ use crate::message_reader::{ReadMessage, Wants};
 use crate::messages::{MessagePlace, OnRefusal, Reading, StreamEnd};
 use crate::report::{NoReports, RefusalReport};
 use crate::write_items::{PutError, WriteItems, Written};
-use ber_core::{Sink, Source, Unbuffered, put_all};
+use ber_core::{Sink, Source, put_all};
 use ill_inputs::RunFault;
 use ill_schema::Profile;
 use std::alloc::Global;
@@ -199,13 +199,7 @@ pub fn normalise_stream_as<R: Source, W: Sink>(
     ensures sink_stays { IsTrue (W.is_broken sink.old) → IsTrue (W.is_broken sink.new) }
 {
     let mut writer = WriteNormalForms { alloc, profile };
-    let end = read_items::<WriteNormalForms, R, Unbuffered, W, NoReports>(
-        STOPPING,
-        &mut writer,
-        source,
-        sink,
-        &mut NoReports,
-    );
+    let end = read_items(STOPPING, &mut writer, source, sink, &mut NoReports);
     match end.fault {
         None => Ok(end.counts.messages),
         Some(fault) => Err(failure_of(end, fault)),

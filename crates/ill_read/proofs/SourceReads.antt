@@ -7,15 +7,15 @@ use Rattle.ill_schema.specs.declared.message.Message.{Message}
 use Rattle.ill_tables.specs.declared.profile.Profile.{Profile as Named}
 use Rattle.ill_schema.specs.Profiles.{profile_of}
 use Rattle.ill_tables.specs.declared.profile.Profile.TheVariants.{Two}
-use Rattle.std.proofs.Common.{◌≡◌, ◌≢◌, ◌⊎◌, ℕ, ◌+◌, ◌<◌, ◌≤◌, List, [], ◌∷◌, ◌++◌, length, length-append, Option, Some, None, Result, Ok, Err, IsTrue, refl, sym, ap, subst, ◌∙◌, inl, inr, arith, append-nil}
+use Rattle.std.proofs.Common.{◌≡◌, ◌≢◌, ◌⊎◌, ℕ, ◌+◌, ◌<◌, ◌≤◌, List, [], ◌∷◌, ◌++◌, length, length-append, Option, Some, None, Result, Ok, Err, IsTrue, refl, sym, ap, subst, ◌∙◌, inl, inr, arith, append-nil, append_assoc, take, drop}
 use Rattle.std.specs.Prelude.{Bool, true, false, IfErr, IfNone, IfOk, IfSome}
-use Rattle.std.specs.Io.KnownBytes.{Appends, Consumes, IsAtEnd}
+use Rattle.std.specs.Io.KnownBytes.{Appends, Consumes, IsAtEnd, Keeps}
 use Rattle.std.proofs.lemmas.Bool.{cases_lt}
-use Rattle.std.proofs.lemmas.List.{nil_from_length, take_all}
+use Rattle.std.proofs.lemmas.List.{length-take-le, nil_from_length, take_all, take-append-drop, take-append-le, take-take}
 use Rattle.ber_tree.specs.Octets.{are_octets}
 use Rattle.ber_leaf.specs.Profile.{profile_two}
 use Rattle.ill_schema.specs.Apdu.{Apdu, Accepts, SpellsApdu}
-use Rattle.ill_read.specs.Answers.{IsUnfinishedIn, IfReadFault, IfReadRefused, ReadsNextIn, TakesFront, TakesNoMessageIn}
+use Rattle.ill_read.specs.Answers.{IsReadFault, IsUnfinishedIn, IfReadFault, IfReadRefused, ReadsNextIn, TakesFront, TakesNoMessageIn}
 use Rattle.ill_read.specs.Feeding.{IsOpenAt}
 use Rattle.ill_read.specs.Paths.{HoldsAt}
 use Rattle.ill_grammar.specs.Standing.{Level, StandsLast}
@@ -26,6 +26,7 @@ use Rattle.ill_read.specs.declared.reader.Reader.{Reader}
 use Rattle.ill_read.specs.declared.reader.State.{State}
 use Rattle.ill_read.specs.declared.reader.State.TheVariants as state
 use Rattle.ill_read.specs.declared.failure.Failure.{Failure}
+use Rattle.ill_read.specs.declared.failure.ReadFailure.{ReadFailure}
 use Rattle.ill_read.proofs.MessageEnds.{ended_ends, ended_longer, failed_ends, is_failed, is_open, is_whole, last_size, stands_part}
 use Rattle.ber_core.proofs.ReadOctets.{octets_join}
 
@@ -80,6 +81,38 @@ pulled_ended d new after need wanted stays some none end = elim (cases_lt 0 want
       let closed : d.state ≢ state.Open = λ e. let l = some e in let z = none (omega arith) in omega arith in
       inl (subst (λ (x : Reader _). x.state ≢ state.Open) (sym (stays closed)) closed)
 ]
+
+-- no message ends before the last of octets within which none does
+pub part_unfinished : (p : Named) (b hand : List ℕ) (n k : ℕ) → n ≤ length hand → k < n → NoneEndsWithin p (b ++ take n hand) → IsUnfinishedIn (profile_of p) (b ++ take k hand)
+part_unfinished p b hand n k le lt none a m accepted =
+    let short : take k (take n hand) ≡ take k hand = take-take k n hand (omega (arith, lt)) in
+    let rest = drop k (take n hand) in
+    let joined : (b ++ take k hand) ++ rest ≡ b ++ take n hand =
+        append_assoc b (take k hand) rest ∙ ap (λ z. b ++ z) (ap (λ z. z ++ rest) (sym short) ∙ take-append-drop k (take n hand)) in
+    let le_m : m ≤ length (b ++ take k hand) = accepted.0 in
+    let same : take m (b ++ take k hand) ≡ take m (b ++ take n hand) = sym (take-append-le m (b ++ take k hand) rest le_m) ∙ ap (take m) joined in
+    let size_n = length-append b (take n hand) in
+    let size_k = length-append b (take k hand) in
+    let len_n = length-take-le n hand le in
+    let len_k = length-take-le k hand (omega (arith, le, lt)) in
+    let far : length (b ++ take n hand) ≤ m = none a m (omega (arith, le_m, size_n, size_k, len_n, len_k, lt), subst (SpellsApdu (profile_of p) a) same accepted.1) in
+    absurd (omega (arith, far, le_m, size_n, size_k, len_n, len_k, lt))
+
+-- what is left stays
+pub kept_nothing : (left after : Option (List ℕ)) → Keeps left after → Consumes left after []
+kept_nothing None after keeps = tt
+kept_nothing (Some s) None keeps = absurd keeps
+kept_nothing (Some s) (Some t) keeps = sym keeps
+
+-- nothing is read where memory or the source failed
+pub reads_nothing : {T : Type 0} (p : Named) (left after : Option (List ℕ)) (broken broken' : Bool) (Is : T → List ℕ → Type 0) (e : ReadFailure) → IsReadFault e → TakesFront left after
+    → (e ≡ ReadFailure.ReadFault → IsTrue broken') → (e ≡ ReadFailure.ReadFault → TakesNoMessageIn (profile_of p) left after) → (IsTrue broken → IsTrue broken')
+    → ReadsNextIn (profile_of p) left after broken broken' Is (Err e)
+reads_nothing p left after broken broken' Is (ReadFailure.Refused refusal) fails taken is_broken unfinished stays = absurd fails
+reads_nothing p left after broken broken' Is ReadFailure.OutOfMemory fails taken is_broken unfinished stays =
+    record { message = tt; none = tt; refused = tt; taken = taken; fault = tt; stays = stays }
+reads_nothing p left after broken broken' Is ReadFailure.ReadFault fails taken is_broken unfinished stays =
+    record { message = tt; none = tt; refused = tt; taken = taken; fault = (is_broken refl, unfinished refl); stays = stays }
 
 -- at the limit nothing is open
 pub full_closed : {D : Type 0} (p : Named) (holds : D → List Level → List ℕ → Type 0) (has : Named → D → Apdu → ℕ → Type 0) (d : Reader D) (s : List ℕ) → IsFed p holds has d s → 1_048_576 ≤ length s → d.state ≢ state.Open

@@ -37,11 +37,6 @@ pub use ill_refusals::{
     the_module_refuses_other_tags, truncated_at_the_end, values_are_small,
 };
 pub use laws::decoders_are_apart;
-pub use normal::{
-    NormalForm, NormalReader, decode_normal, decode_normal_as, read_normal_as, read_normal_in,
-    read_normal_peeking, read_normal_recording_peeking,
-};
-pub use outlined::{OutlineReader, OutlinedMessage, read_outline_as};
-pub use read::{
-    decode, read_message, read_message_peeking, read_recording, read_recording_peeking,
-};
+pub use normal::{NormalForm, NormalReader, decode_normal, read_normal};
+pub use outlined::{OutlineReader, OutlinedMessage, read_outline};
+pub use read::{decode, read_message};

@@ -2,14 +2,14 @@
 ghost use Rattle.std.specs.Prelude.{◌≡◌, ◌≤◌, ℕ, List, ◌++◌, length};
 ghost use Rattle.std.specs.Io.KnownBytes.{Appends};
 ghost use Rattle.ill_schema.specs.Profiles.{profile_of};
-ghost use Rattle.ill_read.specs.Answers.{IsNormalIn, IsNormalOf, NormalAnswers, NormalAnswersIn, ReadsNext, ReadsNextIn};
+ghost use Rattle.ill_read.specs.Answers.{IsNormalIn, NormalAnswersIn, ReadsNextIn};
 
 use crate::failure::{Failure, ReadFailure};
 use crate::normal_form_draft::NormalFormDraft;
 use crate::read::read_draft;
 use crate::reader::Reader;
 use crate::recorder::{NoRecorder, Recorder};
-use ber_core::{Lookahead, Source};
+use ber_core::Source;
 use ill_schema::{Cause, Profile};
 use std::alloc::Global;
 
@@ -27,7 +27,7 @@ pub struct NormalForm {
 ///
 /// ```text
 /// let mut reader = NormalReader::new(alloc);
-/// while let Some(normal) = reader.read::<R, L>(source, buffer)? {
+/// while let Some(normal) = reader.read(Profile::Two, source, buffer)? {
 ///     archive.put(&normal.octets)?;
 ///     buffer = normal.octets;
 /// }
@@ -54,32 +54,14 @@ impl NormalReader {
         }
     }
 
-    /// Reads the normal form of the message at the front of what is left, as [`read_normal_peeking`] does, and writes it in the memory of `buffer`,
-    /// whose octets are forgotten. What was read before makes no difference.
-    ///
-    /// # Errors
-    ///
-    /// Those of [`read_message`](crate::read_message).
-    #[inline(always)]
-    pub fn read<R: Source, L: Lookahead<R>>(
-        &mut self,
-        source: &mut R,
-        buffer: Vec<u8>,
-    ) -> Result<Option<NormalForm>, ReadFailure>
-        ensures next { ReadsNext (R.left source.old) (R.left source.new) (R.is_broken source.old)
-            (R.is_broken source.new) IsNormalOf result }
-        ensures few { open_count self.new.reader ≤ 32 }
-    {
-        self.read_as::<R, L>(Profile::Two, source, buffer)
-    }
-
-    /// Reads a normal form as [`NormalReader::read`] does, of a message in the profile.
+    /// Reads the normal form of the message in the profile at the front of what is left, as [`read_message`](crate::read_message) reads the
+    /// message, and writes it in the memory of `buffer`, whose octets are forgotten. What was read before makes no difference.
     ///
     /// # Errors
     ///
     /// Those of [`read_message`](crate::read_message), in the profile.
     #[inline(always)]
-    pub fn read_as<R: Source, L: Lookahead<R>>(
+    pub fn read<R: Source>(
         &mut self,
         profile: Profile,
         source: &mut R,
@@ -90,37 +72,16 @@ impl NormalReader {
             (IsNormalIn (profile_of profile)) result }
         ensures few { open_count self.new.reader ≤ 32 }
     {
-        self.read_into::<R, L, NoRecorder>(profile, source, buffer, &mut NoRecorder)
+        self.read_into(profile, source, buffer, &mut NoRecorder)
     }
 
     /// Reads a normal form as [`NormalReader::read`] does, and appends the octets that the message had to `recorded`.
     ///
     /// # Errors
     ///
-    /// Those of [`read_message`](crate::read_message); some octets may have been recorded then.
-    #[inline(always)]
-    pub fn read_recording<R: Source, L: Lookahead<R>>(
-        &mut self,
-        source: &mut R,
-        buffer: Vec<u8>,
-        recorded: &mut Vec<u8>,
-    ) -> Result<Option<NormalForm>, ReadFailure>
-        ensures next { ReadsNext (R.left source.old) (R.left source.new) (R.is_broken source.old)
-            (R.is_broken source.new)
-            (λ n octets. IsNormalOf n octets
-            × (recorded.new.items ≡ recorded.old.items ++ octets)) result }
-        ensures few { open_count self.new.reader ≤ 32 }
-    {
-        self.read_recording_as::<R, L>(Profile::Two, source, buffer, recorded)
-    }
-
-    /// Reads a normal form as [`NormalReader::read_recording`] does, of a message in the profile.
-    ///
-    /// # Errors
-    ///
     /// Those of [`read_message`](crate::read_message), in the profile; some octets may have been recorded then.
     #[inline(always)]
-    pub fn read_recording_as<R: Source, L: Lookahead<R>>(
+    pub fn read_recording<R: Source>(
         &mut self,
         profile: Profile,
         source: &mut R,
@@ -133,12 +94,12 @@ impl NormalReader {
             × (recorded.new.items ≡ recorded.old.items ++ octets)) result }
         ensures few { open_count self.new.reader ≤ 32 }
     {
-        self.read_into::<R, L, Vec<u8>>(profile, source, buffer, recorded)
+        self.read_into(profile, source, buffer, recorded)
     }
 
     /// Reads a normal form in the memory of `buffer`, and hands the octets that the message had to what keeps them.
     #[inline(always)]
-    fn read_into<R: Source, L: Lookahead<R>, K: Recorder>(
+    fn read_into<R: Source, K: Recorder>(
         &mut self,
         profile: Profile,
         source: &mut R,
@@ -153,33 +114,20 @@ impl NormalReader {
     {
         self.reader
             .restart(profile, NormalFormDraft::new(self.alloc, buffer));
-        match read_draft::<NormalFormDraft, R, L, K>(&mut self.reader, source, recorder) {
+        match read_draft(&mut self.reader, source, recorder) {
             Ok(Some(read)) => Ok(Some(self.normal(read))),
             Ok(None) => Ok(None),
             Err(failure) => Err(failure),
         }
     }
 
-    /// Reads the normal form of the message that the whole slice is, as [`decode_normal`] does, in the memory of `buffer`.
-    ///
-    /// # Errors
-    ///
-    /// Those of [`decode`](crate::decode).
-    #[inline(always)]
-    pub fn decode(&mut self, octets: &[u8], buffer: Vec<u8>) -> Result<NormalForm, Failure>
-        ensures answers { NormalAnswers octets.now result }
-        ensures few { open_count self.new.reader ≤ 32 }
-    {
-        self.decode_as(Profile::Two, octets, buffer)
-    }
-
-    /// Reads the normal form of the message in the profile that the whole slice is, as [`NormalReader::decode`] does.
+    /// Reads the normal form of the message in the profile that the whole slice is, as [`decode_normal`] does, in the memory of `buffer`.
     ///
     /// # Errors
     ///
     /// Those of [`decode`](crate::decode), in the profile.
     #[inline(always)]
-    pub fn decode_as(
+    pub fn decode(
         &mut self,
         profile: Profile,
         octets: &[u8],
@@ -215,32 +163,17 @@ impl NormalReader {
     }
 }
 
-/// Reads the normal form of the message at the front of what is left, as [`read_message_peeking`](crate::read_message_peeking) reads the message.
-/// The normal form is written while the message is read; of the message no value is made, but of a leaf whose row has a default.
-///
-/// # Errors
-///
-/// Those of [`read_message`](crate::read_message).
-pub fn read_normal_peeking<R: Source, L: Lookahead<R>>(
-    alloc: Global,
-    source: &mut R,
-) -> Result<Option<NormalForm>, ReadFailure>
-    ensures { ReadsNext (R.left source.old) (R.left source.new) (R.is_broken source.old)
-        (R.is_broken source.new) IsNormalOf result }
-{
-    read_normal_in::<R, L>(alloc, source, Vec::new(alloc))
-}
-
-/// Reads a normal form as [`read_normal_peeking`] does, of a message in the profile.
+/// Reads the normal form of the message in the profile at the front of what is left, as [`read_message`](crate::read_message) reads the
+/// message. The normal form is written while the message is read; of the message no value is made, but of a leaf whose row has a default.
 ///
 /// ```text
-/// let normal = read_normal_as::<_, Unbuffered>(alloc, Profile::Module, source)?;
+/// let normal = read_normal(alloc, Profile::Module, source)?;
 /// ```
 ///
 /// # Errors
 ///
 /// Those of [`read_message`](crate::read_message), in the profile.
-pub fn read_normal_as<R: Source, L: Lookahead<R>>(
+pub fn read_normal<R: Source>(
     alloc: Global,
     profile: Profile,
     source: &mut R,
@@ -249,74 +182,25 @@ pub fn read_normal_as<R: Source, L: Lookahead<R>>(
         (R.is_broken source.old) (R.is_broken source.new)
         (IsNormalIn (profile_of profile)) result }
 {
-    NormalReader::new(alloc).read_as::<R, L>(profile, source, Vec::new(alloc))
-}
-
-/// Reads a normal form as [`read_normal_peeking`] does, and writes it in the memory of `buffer`, whose octets are forgotten.
-///
-/// # Errors
-///
-/// Those of [`read_message`](crate::read_message).
-pub fn read_normal_in<R: Source, L: Lookahead<R>>(
-    alloc: Global,
-    source: &mut R,
-    buffer: Vec<u8>,
-) -> Result<Option<NormalForm>, ReadFailure>
-    ensures { ReadsNext (R.left source.old) (R.left source.new) (R.is_broken source.old)
-        (R.is_broken source.new) IsNormalOf result }
-{
-    NormalReader::new(alloc).read::<R, L>(source, buffer)
-}
-
-/// Reads a normal form as [`read_normal_peeking`] does, and appends the octets that the message had to `recorded`.
-///
-/// # Errors
-///
-/// Those of [`read_message`](crate::read_message); some octets may have been recorded then.
-pub fn read_normal_recording_peeking<R: Source, L: Lookahead<R>>(
-    alloc: Global,
-    source: &mut R,
-    recorded: &mut Vec<u8>,
-) -> Result<Option<NormalForm>, ReadFailure>
-    ensures { ReadsNext (R.left source.old) (R.left source.new) (R.is_broken source.old)
-        (R.is_broken source.new)
-        (λ n octets. IsNormalOf n octets
-        × (recorded.new.items ≡ recorded.old.items ++ octets)) result }
-{
-    NormalReader::new(alloc).read_recording::<R, L>(source, Vec::new(alloc), recorded)
-}
-
-/// The normal form of the message that the whole slice is.
-///
-/// ```text
-/// let normal = decode_normal(alloc, octets)?;
-/// archive.put(&normal.octets)?;
-/// ```
-///
-/// # Errors
-///
-/// Those of [`decode`](crate::decode).
-pub fn decode_normal(alloc: Global, octets: &[u8]) -> Result<NormalForm, Failure>
-    ensures { NormalAnswers octets.now result }
-{
-    NormalReader::new(alloc).decode(octets, Vec::new(alloc))
+    NormalReader::new(alloc).read(profile, source, Vec::new(alloc))
 }
 
 /// The normal form of the message in the profile that the whole slice is.
 ///
 /// ```text
-/// let normal = decode_normal_as(alloc, Profile::Module, octets)?;
+/// let normal = decode_normal(alloc, Profile::Two, octets)?;
+/// archive.put(&normal.octets)?;
 /// ```
 ///
 /// # Errors
 ///
 /// Those of [`decode`](crate::decode), in the profile.
-pub fn decode_normal_as(
+pub fn decode_normal(
     alloc: Global,
     profile: Profile,
     octets: &[u8],
 ) -> Result<NormalForm, Failure>
     ensures { NormalAnswersIn (profile_of profile) octets.now result }
 {
-    NormalReader::new(alloc).decode_as(profile, octets, Vec::new(alloc))
+    NormalReader::new(alloc).decode(profile, octets, Vec::new(alloc))
 }

@@ -10,7 +10,7 @@ use crate::outline_draft::OutlineDraft;
 use crate::read::read_draft;
 use crate::reader::Reader;
 use crate::recorder::{NoRecorder, Recorder};
-use ber_core::{Lookahead, Source};
+use ber_core::Source;
 use ill_grammar::Outline;
 use ill_schema::Profile;
 use std::alloc::Global;
@@ -31,15 +31,26 @@ pub struct OutlinedMessage {
 ///
 /// ```text
 /// let mut reader = OutlineReader::new(alloc);
-/// while let Some(read) = reader.read_as::<R, L>(Profile::Two, source, outline, normal)? {
+/// while let Some(read) = reader.read(Profile::Two, source, memory)? {
 ///     show(read.outline.marks())?;
-///     (outline, normal) = (read.outline, read.normal);
+///     memory = read;
 /// }
 /// ```
 #[derive(Drop)]
 pub struct OutlineReader {
     alloc: Global,
     reader: Reader<OutlineDraft>,
+}
+
+impl OutlinedMessage {
+    /// No message, which takes no memory.
+    pub fn empty(alloc: Global) -> OutlinedMessage {
+        OutlinedMessage {
+            outline: Outline::new(alloc),
+            normal: Vec::new(alloc),
+            input_len: 0,
+        }
+    }
 }
 
 impl OutlineReader {
@@ -58,40 +69,38 @@ impl OutlineReader {
         }
     }
 
-    /// Reads the outline of the message in the profile at the front of what is left, in the memory of an outline and of a normal form, which
-    /// are forgotten. What was read before makes no difference. An outline takes two to four octets of memory for each octet of most messages.
+    /// Reads the outline of the message in the profile at the front of what is left, in the memory of another message, which is forgotten. What
+    /// was read before makes no difference. An outline takes two to four octets of memory for each octet of most messages.
     ///
     /// # Errors
     ///
     /// Those of [`read_message`](crate::read_message), in the profile.
     #[inline(always)]
-    pub fn read_as<R: Source, L: Lookahead<R>>(
+    pub fn read<R: Source>(
         &mut self,
         profile: Profile,
         source: &mut R,
-        outline: Outline,
-        normal: Vec<u8>,
+        memory: OutlinedMessage,
     ) -> Result<Option<OutlinedMessage>, ReadFailure>
         ensures next { ReadsNextIn (profile_of profile) (R.left source.old) (R.left source.new)
             (R.is_broken source.old) (R.is_broken source.new)
             (IsOutlinedIn (profile_of profile)) result }
         ensures few { open_count self.new.reader ≤ 32 }
     {
-        self.read_into::<R, L, NoRecorder>(profile, source, outline, normal, &mut NoRecorder)
+        self.read_into(profile, source, memory, &mut NoRecorder)
     }
 
-    /// Reads an outline as [`OutlineReader::read_as`] does, and appends the octets that the message had to `recorded`.
+    /// Reads an outline as [`OutlineReader::read`] does, and appends the octets that the message had to `recorded`.
     ///
     /// # Errors
     ///
     /// Those of [`read_message`](crate::read_message), in the profile; some octets may have been recorded then.
     #[inline(always)]
-    pub fn read_recording_as<R: Source, L: Lookahead<R>>(
+    pub fn read_recording<R: Source>(
         &mut self,
         profile: Profile,
         source: &mut R,
-        outline: Outline,
-        normal: Vec<u8>,
+        memory: OutlinedMessage,
         recorded: &mut Vec<u8>,
     ) -> Result<Option<OutlinedMessage>, ReadFailure>
         ensures next { ReadsNextIn (profile_of profile) (R.left source.old) (R.left source.new)
@@ -100,17 +109,16 @@ impl OutlineReader {
             × (recorded.new.items ≡ recorded.old.items ++ octets)) result }
         ensures few { open_count self.new.reader ≤ 32 }
     {
-        self.read_into::<R, L, Vec<u8>>(profile, source, outline, normal, recorded)
+        self.read_into(profile, source, memory, recorded)
     }
 
-    /// Reads an outline in the memory of an outline and of a normal form, and hands the octets that the message had to what keeps them.
+    /// Reads an outline in the memory of another message, and hands the octets that the message had to what keeps them.
     #[inline(always)]
-    fn read_into<R: Source, L: Lookahead<R>, K: Recorder>(
+    fn read_into<R: Source, K: Recorder>(
         &mut self,
         profile: Profile,
         source: &mut R,
-        outline: Outline,
-        normal: Vec<u8>,
+        memory: OutlinedMessage,
         recorder: &mut K,
     ) -> Result<Option<OutlinedMessage>, ReadFailure>
         ensures next { ReadsNextIn (profile_of profile) (R.left source.old) (R.left source.new)
@@ -119,9 +127,14 @@ impl OutlineReader {
             × Appends (K.recorded recorder.old) (K.recorded recorder.new) octets) result }
         ensures few { open_count self.new.reader ≤ 32 }
     {
+        let OutlinedMessage {
+            outline,
+            normal,
+            ..
+        } = memory;
         self.reader
             .restart(profile, OutlineDraft::new(self.alloc, outline, normal));
-        match read_draft::<OutlineDraft, R, L, K>(&mut self.reader, source, recorder) {
+        match read_draft(&mut self.reader, source, recorder) {
             Ok(Some(read)) => Ok(Some(self.outlined(read))),
             Ok(None) => Ok(None),
             Err(failure) => Err(failure),
@@ -145,25 +158,23 @@ impl OutlineReader {
     }
 }
 
-/// Reads the outline of the message in the profile at the front of what is left, as
-/// [`read_message_peeking`](crate::read_message_peeking) reads the message, in the memory of `buffer`, whose marks are forgotten.
+/// Reads the outline of the message in the profile at the front of what is left, as [`read_message`](crate::read_message) reads the message.
 ///
 /// ```text
-/// let outlined = read_outline_as::<_, Unbuffered>(alloc, Profile::Module, source, buffer)?;
+/// let outlined = read_outline(alloc, Profile::Module, source)?;
 /// ```
 ///
 /// # Errors
 ///
 /// Those of [`read_message`](crate::read_message), in the profile.
-pub fn read_outline_as<R: Source, L: Lookahead<R>>(
+pub fn read_outline<R: Source>(
     alloc: Global,
     profile: Profile,
     source: &mut R,
-    buffer: Outline,
 ) -> Result<Option<OutlinedMessage>, ReadFailure>
     ensures { ReadsNextIn (profile_of profile) (R.left source.old) (R.left source.new)
         (R.is_broken source.old) (R.is_broken source.new)
         (IsOutlinedIn (profile_of profile)) result }
 {
-    OutlineReader::new(alloc).read_as::<R, L>(profile, source, buffer, Vec::new(alloc))
+    OutlineReader::new(alloc).read(profile, source, OutlinedMessage::empty(alloc))
 }

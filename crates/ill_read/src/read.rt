@@ -3,9 +3,10 @@ ghost use Rattle.std.specs.Prelude.{◌≡◌, ℕ, ◌<◌, ◌≤◌, List, []
 ghost use Rattle.std.specs.Io.KnownBytes.{Appends, Consumes, Keeps};
 ghost use Rattle.ill_schema.specs.Profiles.{profile_of};
 ghost use Rattle.ill_tables.specs.declared.profile.Profile.{Profile as Named};
-ghost use Rattle.ill_read.specs.Answers.{DecodeAnswers, IsRead, IsSpelled, IsUnfinishedIn, ReadsNext, ReadsNextIn, TakesFront, TakesNoMessageIn};
-ghost use Rattle.ill_read.specs.code.Filling.{HasKept, HasPulled, HasTaken, NoneEndsWithin};
+ghost use Rattle.ill_read.specs.Answers.{DecodeAnswers, IsRead, IsReadFault, IsSpelled, IsUnfinishedIn, ReadsNext, ReadsNextIn, TakesFront, TakesNoMessageIn};
+ghost use Rattle.ill_read.specs.code.Filling.{HasKept, HasPulled, HasTaken, NoneEndsWithin, TakesUnfinished};
 ghost use Rattle.ill_read.specs.Feeding.{IsOpenAt};
+ghost use Rattle.ill_read.specs.declared.failure.ReadFailure.{ReadFailure};
 ghost use Rattle.ill_read.specs.code.ReaderCode.{HasBegun, IsFed, IsReadOf};
 
 use crate::draft::Draft;
@@ -13,14 +14,15 @@ use crate::failure::{Failure, ReadFailure};
 use crate::reader::Reader;
 use crate::recorder::{NoRecorder, Recorder};
 use crate::value_draft::ValueDraft;
-use ber_core::{Broken, Lookahead, Source, Unbuffered};
+use ber_core::{Broken, Source};
 use ill_schema::{Cause, LIMIT, Message, Profile};
 use std::alloc::Global;
 
 /// The number of octets that are asked of a source at once, where it shows none. They are cleared for each message, so they are few.
 const READ_LEN: usize = 128;
 
-/// Reads the message at the front of what is left, and takes its octets and no more; None where the input ends before any octet.
+/// Reads the message at the front of what is left, and takes its octets and no more; None where the input ends before any octet. Octets that
+/// the source has at hand are read where they are.
 ///
 /// # Errors
 ///
@@ -32,84 +34,18 @@ pub fn read_message<R: Source>(
     ensures { ReadsNext (R.left source.old) (R.left source.new) (R.is_broken source.old)
         (R.is_broken source.new) IsSpelled result }
 {
-    read_message_peeking::<R, Unbuffered>(alloc, source)
-}
-
-/// Reads a message as [`read_message`] does, with the lookahead `L`: octets that are at hand are read where they are, as far as the
-/// message goes, and no octet after it is taken.
-///
-/// # Errors
-///
-/// Those of [`read_message`].
-pub fn read_message_peeking<R: Source, L: Lookahead<R>>(
-    alloc: Global,
-    source: &mut R,
-) -> Result<Option<Message>, ReadFailure>
-    ensures { ReadsNext (R.left source.old) (R.left source.new) (R.is_broken source.old)
-        (R.is_broken source.new) IsSpelled result }
-{
-    read_into::<R, L, NoRecorder>(alloc, source, &mut NoRecorder)
-}
-
-/// Reads a message as [`read_message`] does, and appends its octets to `recorded`.
-///
-/// # Errors
-///
-/// Those of [`read_message`]; some octets may have been recorded then.
-pub fn read_recording<R: Source>(
-    alloc: Global,
-    source: &mut R,
-    recorded: &mut Vec<u8>,
-) -> Result<Option<Message>, ReadFailure>
-    ensures { ReadsNext (R.left source.old) (R.left source.new) (R.is_broken source.old)
-        (R.is_broken source.new)
-        (λ m octets. IsSpelled m octets
-        × (recorded.new.items ≡ recorded.old.items ++ octets)) result }
-{
-    read_recording_peeking::<R, Unbuffered>(alloc, source, recorded)
-}
-
-/// Reads a message as [`read_recording`] does, with the lookahead `L`.
-///
-/// # Errors
-///
-/// Those of [`read_message`]; some octets may have been recorded then.
-pub fn read_recording_peeking<R: Source, L: Lookahead<R>>(
-    alloc: Global,
-    source: &mut R,
-    recorded: &mut Vec<u8>,
-) -> Result<Option<Message>, ReadFailure>
-    ensures { ReadsNext (R.left source.old) (R.left source.new) (R.is_broken source.old)
-        (R.is_broken source.new)
-        (λ m octets. IsSpelled m octets
-        × (recorded.new.items ≡ recorded.old.items ++ octets)) result }
-{
-    read_into::<R, L, Vec<u8>>(alloc, source, recorded)
-}
-
-/// Reads a message, and hands its octets to what keeps them.
-#[inline(always)]
-fn read_into<R: Source, L: Lookahead<R>, K: Recorder>(
-    alloc: Global,
-    source: &mut R,
-    recorder: &mut K,
-) -> Result<Option<Message>, ReadFailure>
-    ensures { ReadsNext (R.left source.old) (R.left source.new) (R.is_broken source.old)
-        (R.is_broken source.new)
-        (λ m octets. IsSpelled m octets
-        × Appends (K.recorded recorder.old) (K.recorded recorder.new) octets) result }
-{
     let mut reader = Reader::new(alloc, Profile::Two, ValueDraft::new(alloc));
-    match read_draft::<ValueDraft, R, L, K>(&mut reader, source, recorder) {
+    match read_draft(&mut reader, source, &mut NoRecorder) {
         Ok(Some(_)) => Ok(reader.into_draft().into_message()),
         Ok(None) => Ok(None),
         Err(failure) => Err(failure),
     }
 }
 
+
 /// Reads a message with a reader that nothing was fed, in its profile. Where its draft has it, returns how many octets it had.
 #[inline(always)]
-pub(crate) fn read_draft<D: Draft, R: Source, L: Lookahead<R>, K: Recorder>(
+pub(crate) fn read_draft<D: Draft, R: Source, K: Recorder>(
     reader: &mut Reader<D>,
     source: &mut R,
     recorder: &mut K,
@@ -121,38 +57,32 @@ pub(crate) fn read_draft<D: Draft, R: Source, L: Lookahead<R>, K: Recorder>(
         (λ n octets. (n ≡ length octets) × IsReadOf p D.has reader.new.path.draft octets
         × Appends (K.recorded recorder.old) (K.recorded recorder.new) octets) result }
 {
-    match fill::<D, R, L, K>(reader, source, recorder) {
+    match fill(reader, source, recorder) {
         Ok(()) => match reader.ended() {
             Ok(true) => Ok(Some(reader.offset())),
             Ok(false) => Ok(None),
             Err(failure) => Err(ReadFailure::from(failure)),
         },
-        Err(FillError::Broken) => Err(ReadFailure::ReadFault),
-        Err(FillError::OutOfMemory) => Err(ReadFailure::OutOfMemory),
+        Err(failure) => Err(failure),
     }
-}
-
-/// The reason why a reader isn't filled.
-enum FillError {
-    Broken,
-    OutOfMemory,
 }
 
 /// Feeds a reader until it needs nothing more or the source ends, and records the octets that it is fed.
 #[inline(always)]
-fn fill<D: Draft, R: Source, L: Lookahead<R>, K: Recorder>(
+fn fill<D: Draft, R: Source, K: Recorder>(
     reader: &mut Reader<D>,
     source: &mut R,
     recorder: &mut K,
-) -> Result<(), FillError>
+) -> Result<(), ReadFailure>
     requires takes { D.takes reader.old.path.frames.profile }
     ensures filled { (p : Named) → IsOpenAt p D.holds reader.old []
         → IfOk result (λ _. HasKept p D.holds D.has (R.left source.old) (R.left source.new)
         reader.new (K.recorded recorder.old) (K.recorded recorder.new)) }
     ensures taken { TakesFront (R.left source.old) (R.left source.new) }
-    ensures broken { IsErrOf result FillError.Broken → IsTrue (R.is_broken source.new) }
+    ensures failed { IfErr result IsReadFault }
+    ensures broken { IsErrOf result ReadFailure.ReadFault → IsTrue (R.is_broken source.new) }
     ensures unfinished { (p : Named) → IsOpenAt p D.holds reader.old []
-        → IsErrOf result FillError.Broken
+        → IsErrOf result ReadFailure.ReadFault
         → TakesNoMessageIn (profile_of p) (R.left source.old) (R.left source.new) }
     ensures stays { IsTrue (R.is_broken source.old) → IsTrue (R.is_broken source.new) }
     ensures profile { reader.new.path.frames.profile ≡ reader.old.path.frames.profile }
@@ -160,7 +90,7 @@ fn fill<D: Draft, R: Source, L: Lookahead<R>, K: Recorder>(
     let mut buffer = [0; READ_LEN];
     let mut room = LIMIT;
     while room > 0 {
-        let count = match more::<D, R, L, K>(reader, source, recorder, &mut buffer, room) {
+        let count = match more(reader, source, recorder, &mut buffer, room) {
             Ok(0) => return Ok(()),
             Ok(count) => count,
             Err(failure) => return Err(failure),
@@ -173,13 +103,13 @@ fn fill<D: Draft, R: Source, L: Lookahead<R>, K: Recorder>(
 /// Feeds the reader with octets that the source has at hand, or else with some that it needs, at most `room`, and returns how many they
 /// are; 0 where nothing is needed or the source is at its end.
 #[inline(always)]
-fn more<D: Draft, R: Source, L: Lookahead<R>, K: Recorder>(
+fn more<D: Draft, R: Source, K: Recorder>(
     reader: &mut Reader<D>,
     source: &mut R,
     recorder: &mut K,
     buffer: &mut [u8],
     room: u32,
-) -> Result<usize, FillError>
+) -> Result<usize, ReadFailure>
     requires takes { D.takes reader.old.path.frames.profile }
     requires space { 0 < length buffer.old }
     requires room { 0 < room }
@@ -188,32 +118,33 @@ fn more<D: Draft, R: Source, L: Lookahead<R>, K: Recorder>(
         (K.recorded recorder.new) reader.old reader.new n) }
     ensures front { IfErr result (λ _. (octets : List ℕ)
         × Consumes (R.left source.old) (R.left source.new) octets × (length octets ≤ room)) }
-    ensures broken { IsErrOf result FillError.Broken → IsTrue (R.is_broken source.new) }
-    ensures untaken { IsErrOf result FillError.Broken
-        → Keeps (R.left source.old) (R.left source.new) }
-    ensures unfinished { IsErrOf result FillError.Broken → (p : Named) (b : List ℕ)
+    ensures broken { IsErrOf result ReadFailure.ReadFault → IsTrue (R.is_broken source.new) }
+    ensures failed { IfErr result IsReadFault }
+    ensures unfinished { IsErrOf result ReadFailure.ReadFault → (p : Named) (b : List ℕ)
         → IsFed p D.holds D.has reader.old b → NoneEndsWithin p b
-        → IsUnfinishedIn (profile_of p) b }
+        → TakesUnfinished p (R.left source.old) (R.left source.new) b }
     ensures stays { IsTrue (R.is_broken source.old) → IsTrue (R.is_broken source.new) }
     ensures space { length buffer.new ≡ length buffer.old }
     ensures profile { reader.new.path.frames.profile ≡ reader.old.path.frames.profile }
 {
-    let hand = L::buffered(source);
+    let hand = source.buffered();
     let most = hand.len().min(room as usize);
     let seen = reader.read_buffered(&hand[..most]);
     if seen > 0 {
         if let Err(_) = recorder.append(&hand[..seen]) {
-            return Err(FillError::OutOfMemory);
+            return Err(ReadFailure::OutOfMemory);
         }
-        L::consume(source, seen);
-        return Ok(seen);
+        return match source.consume(seen) {
+            Ok(()) => Ok(seen),
+            Err(Broken) => Err(ReadFailure::ReadFault),
+        };
     }
     match take_octets(reader, source, buffer, room) {
         Ok(count) => match recorder.append(&buffer[..count]) {
             Ok(()) => Ok(count),
-            Err(_) => Err(FillError::OutOfMemory),
+            Err(_) => Err(ReadFailure::OutOfMemory),
         },
-        Err(Broken) => Err(FillError::Broken),
+        Err(Broken) => Err(ReadFailure::ReadFault),
     }
 }
 

@@ -1,7 +1,7 @@
-ghost use Rattle.std.specs.Prelude.{◌≡◌, [], false, IfOk};
+ghost use Rattle.std.specs.Prelude.{◌≡◌, [], false, IfOk, length};
 ghost use Rattle.std.specs.Io.Buffered.{reader_buffer, reader_inner, reader_remaining};
 
-use super::{Broken, BufferedSource, Source};
+use super::{Broken, Source};
 use std::alloc::{AllocError, Global};
 use std::io::{BufRead, BufReader, Read};
 
@@ -56,6 +56,8 @@ impl<R: Read> Source for FromBuffer<R> {
 
     ghost is_broken = { λ s. is_buffer_broken s };
 
+    ghost hand_len = { λ s. length (reader_buffer (buffer_of s)) };
+
     fn take(&mut self, buffer: &mut [u8]) -> Result<usize, Broken> {
         if self.broken {
             return Err(Broken);
@@ -72,18 +74,13 @@ impl<R: Read> Source for FromBuffer<R> {
     fn broken(&self) -> bool {
         self.broken
     }
-}
-
-impl<R: Read> BufferedSource for FromBuffer<R> {
-    ghost use Rattle.ber_core.specs.Supply.{buffer_of};
-
-    ghost hand = { λ s. reader_buffer (buffer_of s) };
 
     fn buffered(&self) -> &[u8] {
         self.inner.buffer()
     }
 
-    fn consume(&mut self, count: usize) {
+    fn consume(&mut self, count: usize) -> Result<(), Broken> {
         self.inner.consume(count);
+        Ok(())
     }
 }

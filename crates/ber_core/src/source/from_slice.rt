@@ -1,7 +1,7 @@
 ghost use Rattle.std.specs.Prelude.{◌≡◌, ◌≤◌, ◌↔◌, min, false, Ok, Some, IfOk, IsErr, IsTrue, length, take, drop};
 ghost use Rattle.std.specs.Io.KnownBytes.{ReadConsumes};
 
-use super::{Broken, BufferedSource, Source};
+use super::{Broken, Source};
 use std::marker::Model;
 
 /// A slice as a source, which never breaks, and has all that is left at hand. In contracts it is the octets that are left.
@@ -10,7 +10,7 @@ use std::marker::Model;
 ///
 /// ```
 /// let mut source = FromSlice::new(&[1, 2, 3]);
-/// source.consume(1);
+/// source.consume(1)?;
 /// // Now `source.buffered()` is `[2, 3]`.
 /// ```
 #[derive(Debug, Drop)]
@@ -40,6 +40,8 @@ impl Source for FromSlice<'_> {
 
     ghost is_broken = { λ _. false };
 
+    ghost hand_len = { λ s. length s };
+
     /// Takes as many octets as there are, or as the buffer has room for.
     fn take(&mut self, buffer: &mut [u8]) -> Result<usize, Broken>
         ensures count { IfOk result (λ n. n ≤ length buffer.new) }
@@ -61,17 +63,14 @@ impl Source for FromSlice<'_> {
     fn broken(&self) -> bool {
         false
     }
-}
-
-impl BufferedSource for FromSlice<'_> {
-    ghost hand = { λ s. s };
 
     fn buffered(&self) -> &[u8] {
         self.octets
     }
 
-    fn consume(&mut self, count: usize) {
+    fn consume(&mut self, count: usize) -> Result<(), Broken> {
         let all: &[u8] = self.octets;
         self.octets = &all[count..];
+        Ok(())
     }
 }

@@ -5,6 +5,7 @@ use Rattle.std.specs.Prelude.{◌≡◌, ◌≢◌, ◌⊎◌, ℕ, ◌≤◌, L
 use Rattle.std.specs.Io.KnownBytes.{Appends, Consumes, IsAtEnd}
 use Rattle.ill_schema.specs.Apdu.{Apdu, Accepts}
 use Rattle.ill_grammar.specs.Standing.{Level}
+use Rattle.ill_read.specs.Answers.{IsUnfinishedIn}
 use Rattle.ill_read.specs.code.ReaderCode.{IsFed}
 use Rattle.ill_read.specs.declared.reader.Reader.{Reader}
 use Rattle.ill_read.specs.declared.reader.State.TheVariants as state
@@ -12,6 +13,10 @@ use Rattle.ill_read.specs.declared.reader.State.TheVariants as state
 -- no message ends before the octets do
 abbrev pub NoneEndsWithin : Named → List ℕ → Type 0
 NoneEndsWithin p b = (a : Apdu) (n : ℕ) → Accepts (profile_of p) b a n → length b ≤ n
+
+-- octets were taken after those, and no message ends there
+abbrev pub TakesUnfinished : Named → Option (List ℕ) → Option (List ℕ) → List ℕ → Type 0
+TakesUnfinished p left left' b = (octets : List ℕ) × Consumes left left' octets × IsUnfinishedIn (profile_of p) (b ++ octets)
 
 -- the reader was fed these octets, within which no message ends
 pub record HasLooked {D : Type 0} (p : Named) (holds : D → List Level → List ℕ → Type 0) (has : Named → D → Apdu → ℕ → Type 0) (d : Reader D) (octets : List ℕ) : Type 0 where

@@ -1,7 +1,7 @@
 use Rattle.std.proofs.Common.{◌≡◌, [], ◌++◌, Err, length-append, ap, ◌∙◌, inl, sym, subst, arith}
-use Rattle.std.proofs.KnownBytes.{Appends-trans, Consumes-trans, Consumes-kept}
+use Rattle.std.proofs.KnownBytes.{Appends-trans, Consumes-trans}
 use Rattle.std.proofs.lemmas.List.{nil_from_length}
-use Rattle.ill_read.specs.declared.read.FillError.TheVariants.{Broken}
+use Rattle.ill_read.specs.declared.failure.ReadFailure.TheVariants.{ReadFault}
 use Rattle.ill_read.proofs.SourceReads.{full_closed}
 use Rattle.ill_read.proofs.read.fill.Goals as goal
 
@@ -34,10 +34,10 @@ returns-in-Err-clause-taken g c =
 pub returns-in-Err-clause-unfinished : goal.returns-in-Err-clause-unfinished
 returns-in-Err-clause-unfinished g c p opened is_err =
     let i = c.loop-room.invariant.0 in
-    let is : c.in-Err.failure ≡ Broken = cc in
-    let broken = c.in-Err.is ∙ ap Err is in
+    let is : c.in-Err.failure ≡ ReadFault = cc in
     let was = i.3 p opened in
-    (i.0, Consumes-kept _ _ _ i.0 i.1 (c.more.ensures.untaken broken), c.more.ensures.unfinished broken p i.0 was.0 was.1)
+    let more = c.more.ensures.unfinished (c.in-Err.is ∙ ap Err is) p i.0 was.0 was.1 in
+    (i.0 ++ more.0, Consumes-trans _ _ _ i.0 more.0 i.1 more.1, more.2)
 
 pub loop-room-preserved : goal.loop-room-preserved
 loop-room-preserved g c =

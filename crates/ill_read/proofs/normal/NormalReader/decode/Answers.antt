@@ -10,7 +10,7 @@ use Rattle.ill_read.specs.code.ReaderCode.{HasOutcome}
 use Rattle.ill_read.specs.declared.failure.Failure.{Failure}
 use Rattle.ill_read.proofs.ClosedElements.{handed_on}
 use Rattle.ill_read.proofs.MessageEnds.{normal_fails, normal_trails, normal_whole, runs}
-use Rattle.ill_read.proofs.normal.NormalReader.decode_as.Goals as goal
+use Rattle.ill_read.proofs.normal.NormalReader.decode.Goals as goal
 
 pub returns-in_err-outcome-clause-answers : goal.returns-in_err-outcome-clause-answers
 returns-in_err-outcome-clause-answers c =
