@@ -2,9 +2,7 @@
 ghost use Rattle.ill_schema.specs.Profiles.{profile_of};
 ghost use Rattle.ill_c.specs.code.Steps.{FrontAnswers};
 
-use ill_normal::{
-    Buffered, Cause, Failure, FromSlice, NormalForm, NormalReader, Profile, ReadFailure,
-};
+use ill_normal::{Cause, Failure, FromSlice, NormalForm, NormalReader, Profile, ReadFailure};
 use std::alloc::Global;
 
 /// The number of octets that memory is taken for at first. Most normal forms have fewer.
@@ -20,7 +18,7 @@ pub(crate) fn read_front(
 {
     let buffer = Vec::with_capacity(alloc, octets.len().min(FIRST_CAPACITY))?;
     let mut source = FromSlice::new(octets);
-    match NormalReader::new(alloc).read_as::<FromSlice, Buffered>(profile, &mut source, buffer) {
+    match NormalReader::new(alloc).read(profile, &mut source, buffer) {
         Ok(Some(normal)) => Ok(Some(normal)),
         Ok(None) => Ok(None),
         Err(ReadFailure::Refused(it)) => match it.cause {

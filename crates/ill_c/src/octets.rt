@@ -14,7 +14,7 @@ use crate::put::put;
 use crate::refusal::{IllcanonRefusal, report};
 use crate::status::Status;
 use crate::whole::{read_whole, read_whole_outline};
-use ill_normal::{Profile, message_digest_as};
+use ill_normal::{Profile, message_digest};
 use ill_read::Outline;
 use ill_text::Text;
 use std::alloc::{AllocError, Global};
@@ -193,7 +193,7 @@ fn digest(
         (change buffer.old buffer.new) (change size.old size.new)
         (change refusal.old refusal.new) result }
 {
-    match message_digest_as(alloc, profile, octets) {
+    match message_digest(alloc, profile, octets) {
         Ok(digest) => put(&digest, buffer, size),
         Err(failure) => report(failure, refusal),
     }

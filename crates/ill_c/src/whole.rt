@@ -8,13 +8,12 @@ ghost use Rattle.ill_read.specs.declared.failure.Failure.{Failure};
 ghost use Rattle.ill_c.specs.code.Steps.{OutlineAnswers};
 
 use ill_normal::{
-    Buffered, Cause, Failure, FromSlice, LIMIT, NormalForm, NormalReader, Profile, ReadFailure,
-    Refusal,
+    Cause, Failure, FromSlice, LIMIT, NormalForm, NormalReader, Profile, ReadFailure, Refusal,
 };
-use ill_read::{Outline, OutlinedMessage, read_outline_as};
+use ill_read::{OutlinedMessage, read_outline};
 use std::alloc::Global;
 
-/// The normal form of the message in the profile that the octets are, as [`decode_normal_as`](ill_normal::decode_normal_as) gives it.
+/// The normal form of the message in the profile that the octets are, as [`decode_normal`](ill_normal::decode_normal) gives it.
 /// Memory is taken once, as much as the message has, since a normal form is seldom longer.
 pub(crate) fn read_whole(
     alloc: Global,
@@ -25,7 +24,7 @@ pub(crate) fn read_whole(
 {
     let buffer = Vec::with_capacity(alloc, octets.len().min(LIMIT as usize))?;
     let mut source = FromSlice::new(octets);
-    match NormalReader::new(alloc).read_as::<FromSlice, Buffered>(profile, &mut source, buffer) {
+    match NormalReader::new(alloc).read(profile, &mut source, buffer) {
         Ok(Some(normal)) => whole(normal, octets.len()),
         Ok(None) => Err(refused(0, Cause::Truncated)),
         Err(ReadFailure::Refused(refusal)) => Err(Failure::Refused(refusal)),
@@ -44,7 +43,7 @@ pub(crate) fn read_whole_outline(
     ensures { OutlineAnswers (profile_of profile) octets.now result }
 {
     let mut source = FromSlice::new(octets);
-    match read_outline_as::<FromSlice, Buffered>(alloc, profile, &mut source, Outline::new(alloc)) {
+    match read_outline(alloc, profile, &mut source) {
         Ok(Some(outlined)) => whole_outline(outlined, octets.len()),
         Ok(None) => Err(refused(0, Cause::Truncated)),
         Err(ReadFailure::Refused(refusal)) => Err(Failure::Refused(refusal)),

@@ -8,7 +8,7 @@ ghost use Rattle.ill_cli.specs.code.Puts.{AreElementsPut, IsJobPut};
 use crate::refused::KeepRefused;
 use crate::report_lines::PrintReports;
 use crate::tally::Tally;
-use ber_core::{Buffered, BufferedSource, Sink};
+use ber_core::{Sink, Source};
 use ill_commands::{
     JobOptions, LineOptions, LinesFault, RunFault, Verdict, run_job, run_lines_as, verdict_of,
 };
@@ -18,7 +18,7 @@ use std::alloc::Global;
 use std::io::Write;
 
 /// Does a job with the messages of a source. A line is printed for each refused one that the work goes on after.
-pub(crate) fn put_messages<R: Eprint + AllocGlobal, S: BufferedSource, W: Sink, P, Q>(
+pub(crate) fn put_messages<R: Eprint + AllocGlobal, S: Source, W: Sink, P, Q>(
     rt: &R,
     work: JobOptions<'_>,
     source: &mut S,
@@ -34,14 +34,14 @@ where
 {
     let name = work.names_input.then_some(work.name);
     let mut reports = PrintReports::new(rt, name, work.job.is_json(), kept, tally);
-    let end = run_job::<S, Buffered, W, _>(rt.alloc(), work, source, sink, &mut reports);
+    let end = run_job(rt.alloc(), work, source, sink, &mut reports);
     reports.add_to(tally);
     let counts = tally.add_input(end, work.on_refusal, reports.last)?;
     Ok(verdict_of(work.job, counts))
 }
 
 /// Writes the elements of the messages of a source. A line is printed for each refused one that the work goes on after.
-pub(crate) fn put_elements<R: Eprint + AllocGlobal, S: BufferedSource, W: Sink, P, Q>(
+pub(crate) fn put_elements<R: Eprint + AllocGlobal, S: Source, W: Sink, P, Q>(
     rt: &R,
     dump: DumpOptions<'_>,
     source: &mut S,
@@ -57,7 +57,7 @@ where
 {
     let name = dump.names_input.then_some(dump.name);
     let mut reports = PrintReports::new(rt, name, false, kept, tally);
-    let end = run_dump::<S, Buffered, W, _>(rt.alloc(), dump, source, sink, &mut reports);
+    let end = run_dump(rt.alloc(), dump, source, sink, &mut reports);
     reports.add_to(tally);
     let counts = tally.add_input(end, dump.on_refusal, reports.last)?;
     match missing_message(dump, counts.messages) {
@@ -78,7 +78,7 @@ fn missing_message(dump: DumpOptions<'_>, count: u32) -> Option<ProgramError> {
 }
 
 /// Writes the result of each line.
-pub(crate) fn put_lines<S: BufferedSource, W: Sink>(
+pub(crate) fn put_lines<S: Source, W: Sink>(
     alloc: Global,
     work: LineOptions,
     source: &mut S,

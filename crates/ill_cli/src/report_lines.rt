@@ -4,7 +4,7 @@ use crate::refused::KeepRefused;
 use crate::tally::Tally;
 use ill_files::{FileNameRef, ProgressLine, RunLine};
 use ill_inputs::RunFault;
-use ill_normal::{NotReported, RefusalReport, ReportRefusals};
+use ill_normal::{RefusalReport, ReportRefusals, RunFault};
 use std::fmt;
 use std::io::Write;
 
@@ -79,7 +79,7 @@ impl<R: Eprint, P: Write + Drop, Q: Write + Drop> ReportRefusals for PrintReport
 
     ghost reported = { λ _. None };
 
-    fn report(&mut self, report: RefusalReport, octets: &[u8]) -> Result<(), NotReported> {
+    fn report(&mut self, report: RefusalReport, octets: &[u8]) -> Result<(), RunFault> {
         self.kept.keep(report, octets);
         let line = ReportLine(report);
         self.progress.clear(self.rt);
@@ -93,7 +93,7 @@ impl<R: Eprint, P: Write + Drop, Q: Write + Drop> ReportRefusals for PrintReport
         };
         if self.limit.ends_with_next() {
             self.last = Some(report);
-            return Err(NotReported);
+            return Err(RunFault::NotReported);
         }
         Ok(())
     }

@@ -10,14 +10,13 @@ ghost use Rattle.ill_cli.specs.Plans.{is_json_result};
 use crate::limit::RefusalLimit;
 use crate::refused::KeepRefused;
 use crate::tally::Tally;
-use ber_core::{Buffered, BufferedSource, Sink, put_all};
+use ber_core::{Sink, Source, put_all};
 use ill_commands::{
     Job, JobOptions, RefusalKind, RefusalReport, RefusedLine, ReportRefusals, RunFault, Verdict,
     refused_json, run_job, verdict_of,
 };
 use ill_dump::place_of_refusal;
 use ill_files::ProgramError;
-use ill_normal::NotReported;
 use std::alloc::{AllocError, Global};
 use std::io::Write;
 
@@ -102,15 +101,15 @@ impl<V: Sink, P: Write + Drop, Q: Write + Drop> ReportRefusals for WriteRefused<
 
     ghost reported = { λ _. None };
 
-    fn report(&mut self, report: RefusalReport, octets: &[u8]) -> Result<(), NotReported> {
+    fn report(&mut self, report: RefusalReport, octets: &[u8]) -> Result<(), RunFault> {
         self.kept.keep(report, octets);
         if let Err(fault) = self.write(report, octets) {
             self.stop = Some(Stop::Fault(fault));
-            return Err(NotReported);
+            return Err(RunFault::NotReported);
         }
         if self.limit.ends_with_next() {
             self.stop = Some(Stop::Limit(report));
-            return Err(NotReported);
+            return Err(RunFault::NotReported);
         }
         Ok(())
     }
@@ -132,7 +131,7 @@ fn line_of(
 }
 
 /// Writes the result of each message, of refused ones too. Their lines go to `reports`, which has a second sink to the output.
-pub(crate) fn put_results<S: BufferedSource, W: Sink + Drop, P, Q>(
+pub(crate) fn put_results<S: Source, W: Sink + Drop, P, Q>(
     source: &mut S,
     sink: &mut W,
     mut reports: WriteRefused<'_, W, P, Q>,
@@ -147,7 +146,7 @@ where
 {
     let alloc = reports.alloc;
     let work = reports.work;
-    let end = run_job::<S, Buffered, W, _>(alloc, work, source, sink, &mut reports);
+    let end = run_job(alloc, work, source, sink, &mut reports);
     reports.kept.add_to(tally);
     tally.limit = reports.limit;
     tally.summary.add_not_read(reports.not_read);

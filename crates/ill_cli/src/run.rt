@@ -9,7 +9,7 @@ use crate::plan::{Action, InputAction};
 use crate::refused::RefusedFile;
 use crate::results::{WriteRefused, has_json_result, put_results};
 use crate::tally::Tally;
-use ber_core::{BufferedSource, ToWrite};
+use ber_core::{Source, ToWrite};
 use ill_commands::{JobOptions, OnRefusal, Verdict};
 use ill_files::{Output, ProgramError, Shared, ToOutput};
 use std::io::{Read, Write};
@@ -60,7 +60,7 @@ impl<'a, 'r, 'p, R: Print + Eprint + Files + AllocGlobal> Run<'a, 'r, 'p, R> {
     }
 
     /// Writes the results of a source, and counts its messages.
-    fn put_source<B: BufferedSource, S: Write + Drop, F: Write + Drop>(
+    fn put_source<B: Source, S: Write + Drop, F: Write + Drop>(
         &mut self,
         task: InputAction<'_>,
         source: &mut B,
@@ -96,7 +96,7 @@ impl<'a, 'r, 'p, R: Print + Eprint + Files + AllocGlobal> Run<'a, 'r, 'p, R> {
 
     /// Does a job with the messages of a source, whose results are lines of JSON: of refused messages, too. Unless the work goes on after
     /// them, it ends with the first.
-    fn put_json_lines<B: BufferedSource, S: Write + Drop, F: Write + Drop>(
+    fn put_json_lines<B: Source, S: Write + Drop, F: Write + Drop>(
         &mut self,
         work: JobOptions<'_>,
         source: &mut B,

@@ -18,8 +18,8 @@ mod written;
 
 pub use ill_json::{RefusalKind, RefusalPlace};
 pub use ill_normal::{
-    Counts, MAX_HEX_TEXT, OnRefusal, ReadError, RefusalReport, ReportRefusals, RunFault, StreamEnd,
-    Verdict, read_at_most, read_hex, text_octets,
+    Counts, MAX_HEX_TEXT, OnRefusal, RefusalReport, ReportRefusals, RunFault, StreamEnd, Verdict,
+    read_at_most, read_hex, text_octets,
 };
 pub use job::{Job, JobOptions, verdict_of};
 pub use lines::{LineJob, LineOptions, LinesFault, run_lines, run_lines_as};

@@ -9,7 +9,7 @@ ghost use Rattle.ill_commands.specs.Runs.{DoesMessages, JobDone, JobFails, Refus
 
 use crate::job::{Job, JobOptions, answer_of};
 use crate::write_job::WriteJob;
-use ber_core::{Lookahead, Sink, Source, Unbuffered};
+use ber_core::{Sink, Source};
 use ill_normal::{
     NoReports, OnRefusal, Reading, ReportRefusals, RunFault, StreamEnd, Verdict, read_input,
 };
@@ -139,17 +139,17 @@ pub fn run_with<R: Source, W: Sink>(
         on_refusal: OnRefusal::Stop,
         ..work
     };
-    let end = run_job::<R, Unbuffered, W, NoReports>(alloc, stopping, source, sink, &mut NoReports);
+    let end = run_job(alloc, stopping, source, sink, &mut NoReports);
     answer_of(work.job, end)
 }
 
-/// Does a job with the messages of an input, with the lookahead `L`. Where its work goes on after a refused message, that is reported. Those that
+/// Does a job with the messages of an input. Where its work goes on after a refused message, that is reported. Those that
 /// `work` doesn't compare with their normal forms all count as good.
 ///
 /// ```
-/// let end = run_job::<R, Buffered, W, T>(alloc, work, source, sink, reports);
+/// let end = run_job(alloc, work, source, sink, reports);
 /// ```
-pub fn run_job<R: Source, L: Lookahead<R>, W: Sink, T: ReportRefusals>(
+pub fn run_job<R: Source, W: Sink, T: ReportRefusals>(
     alloc: Global,
     work: JobOptions<'_>,
     source: &mut R,
@@ -169,5 +169,5 @@ pub fn run_job<R: Source, L: Lookahead<R>, W: Sink, T: ReportRefusals>(
         only: None,
     };
     let mut writer = WriteJob::new(alloc, work);
-    read_input::<WriteJob<'_>, R, L, W, T>(reading, &mut writer, source, sink, reports)
+    read_input(reading, &mut writer, source, sink, reports)
 }

@@ -5,11 +5,9 @@ ghost use Rattle.ill_commands.specs.Refusals.{apdu_begun, is_limit, HasKind, IsR
 
 use crate::job::JobOptions;
 use crate::piece::file_of;
-use ber_core::{FromSlice, Unbuffered};
+use ber_core::FromSlice;
 use ill_json::{RefusalKind, RefusalPlace, RefusedHead, refused_line};
-use ill_normal::{
-    NormalReader, Profile, ReadFailure, RefusalReport, apdu_name_as, check_one_in_as,
-};
+use ill_normal::{NormalReader, Profile, ReadFailure, RefusalReport, apdu_name_as, check_one_in};
 use ill_schema::{Cause, Refusal};
 use std::alloc::{AllocError, Global};
 
@@ -105,13 +103,7 @@ fn kind_in_two(alloc: Global, octets: &[u8], refusal: Refusal) -> Result<Refusal
     let mut reader = NormalReader::new(alloc);
     let mut source = FromSlice::new(octets);
     let buffer = Vec::new(alloc);
-    match check_one_in_as::<FromSlice<'_>, Unbuffered>(
-        alloc,
-        Profile::Module,
-        &mut reader,
-        &mut source,
-        buffer,
-    ) {
+    match check_one_in(alloc, Profile::Module, &mut reader, &mut source, buffer) {
         Ok(Some(_)) => Ok(RefusalKind::NotRead),
         Ok(None) => Ok(RefusalKind::Invalid),
         Err(ReadFailure::Refused(other)) if other.at > refusal.at => Ok(RefusalKind::NotRead),

@@ -123,5 +123,5 @@ fn read_side<R: Source>(alloc: Global, hex: bool, source: &mut R) -> Result<Vec<
     if hex {
         return read_hex(alloc, source);
     }
-    Ok(read_at_most(alloc, source, LIMIT as usize + 1)?)
+    read_at_most(alloc, source, LIMIT as usize + 1)
 }

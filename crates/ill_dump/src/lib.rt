@@ -11,7 +11,7 @@
 //!     format: DumpFormat::Text,
 //!     on_refusal: OnRefusal::EndWith,
 //! };
-//! let end = run_dump::<R, Unbuffered, W, NoReports>(alloc, dump, &mut source, &mut sink, &mut NoReports);
+//! let end = run_dump(alloc, dump, &mut source, &mut sink, &mut NoReports);
 //! ```
 #![tactic(auto)]
 

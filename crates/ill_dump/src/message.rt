@@ -6,7 +6,7 @@ ghost use Rattle.ill_dump.specs.Dumped.{IsJudged};
 use crate::put::{put_check, put_head, put_refused_line};
 use crate::run::DumpOptions;
 use ill_normal::OnRefusal;
-use ill_read::{Failure, decode_normal_as};
+use ill_read::{Failure, decode_normal};
 use ill_schema::{Cause, LIMIT, Profile, Refusal};
 use ill_walk::{DumpFormat, ElementWalk, LineBuffer, Steps, UnjudgedWalk, put_refusal_lines};
 use std::alloc::{AllocError, Global};
@@ -46,7 +46,7 @@ pub fn dump_message(
     };
     let mut lines = LineBuffer::new(alloc, DumpFormat::Text);
     put_head(dump, number, &mut lines)?;
-    match decode_normal_as(alloc, profile, octets) {
+    match decode_normal(alloc, profile, octets) {
         Ok(normal) => {
             put_check(dump, octets, &normal.octets, &mut lines)?;
             let mut walk = ElementWalk::new(alloc, profile, octets.len());

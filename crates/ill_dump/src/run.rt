@@ -5,7 +5,7 @@ ghost use Rattle.ill_normal.specs.Reading.{reporting};
 ghost use Rattle.ill_dump.specs.Dumped.{RunsDump, is_chosen};
 
 use crate::write_dump::WriteDump;
-use ber_core::{Lookahead, Sink, Source};
+use ber_core::{Sink, Source};
 use ill_normal::{OnRefusal, Reading, ReportRefusals, StreamEnd, read_input};
 use ill_schema::Profile;
 use ill_walk::DumpFormat;
@@ -48,7 +48,7 @@ impl DumpOptions<'_> {
 ///
 /// Where one message alone is asked for, those before it are read and not written, and nothing after it is read. Fewer messages than its
 /// number say that the input has no such message.
-pub fn run_dump<R: Source, L: Lookahead<R>, W: Sink, T: ReportRefusals>(
+pub fn run_dump<R: Source, W: Sink, T: ReportRefusals>(
     alloc: Global,
     dump: DumpOptions<'_>,
     source: &mut R,
@@ -68,5 +68,5 @@ pub fn run_dump<R: Source, L: Lookahead<R>, W: Sink, T: ReportRefusals>(
         only: dump.only,
     };
     let mut writer = WriteDump::new(alloc, dump);
-    read_input::<WriteDump<'_>, R, L, W, T>(reading, &mut writer, source, sink, reports)
+    read_input(reading, &mut writer, source, sink, reports)
 }

@@ -11,6 +11,6 @@ abbrev pub is_broken_of : {S F : Type 0} → (S → Bool) → (F → Bool) → O
 is_broken_of standard file (Standard source) = standard source
 is_broken_of standard file (File source) = file source
 
-abbrev pub hand_of : {S F : Type 0} → (S → List ℕ) → (F → List ℕ) → Opened S F → List ℕ
-hand_of standard file (Standard source) = standard source
-hand_of standard file (File source) = file source
+abbrev pub hand_len_of : {S F : Type 0} → (S → ℕ) → (F → ℕ) → Opened S F → ℕ
+hand_len_of standard file (Standard source) = standard source
+hand_len_of standard file (File source) = file source

@@ -1,5 +1,5 @@
 //! Inputs that are files or standard input.
-ghost use Rattle.ill_files.specs.Opened.{left_of, is_broken_of};
+ghost use Rattle.ill_files.specs.Opened.{hand_len_of, is_broken_of, left_of};
 
 use crate::error::ProgramError;
 use crate::host::Host;
@@ -7,8 +7,8 @@ use crate::open_obstacle::OpenObstacle;
 use crate::output::{FlushBeforeRead, Output, OutputOf};
 use crate::progress::{ProgressLine, ProgressReader};
 use crate::same_file::FileId;
-use ber_core::{Broken, BufferedSource, FromBuffer, FromRead, Source};
-use ill_inputs::{RunFault, read_at_most};
+use ber_core::{Broken, FromBuffer, FromRead, Source};
+use ill_inputs::read_at_most;
 use std::alloc::Global;
 use std::fs::{self, OpenFile};
 use std::io::{Printer, Read, Take, Write};
@@ -26,6 +26,8 @@ impl<S: Source, F: Source> Source for Opened<S, F> {
 
     ghost is_broken = { λ opened. is_broken_of S.is_broken F.is_broken opened };
 
+    ghost hand_len = { λ opened. hand_len_of S.hand_len F.hand_len opened };
+
     fn take(&mut self, buffer: &mut [u8]) -> Result<usize, Broken> {
         match self {
             Opened::Standard(source) => source.take(buffer),
@@ -39,12 +41,6 @@ impl<S: Source, F: Source> Source for Opened<S, F> {
             Opened::File(source) => source.broken(),
         }
     }
-}
-
-impl<S: BufferedSource, F: BufferedSource> BufferedSource for Opened<S, F> {
-    ghost use Rattle.ill_files.specs.Opened.{hand_of};
-
-    ghost hand = { λ opened. hand_of S.hand F.hand opened };
 
     fn buffered(&self) -> &[u8] {
         match self {
@@ -53,7 +49,7 @@ impl<S: BufferedSource, F: BufferedSource> BufferedSource for Opened<S, F> {
         }
     }
 
-    fn consume(&mut self, count: usize) {
+    fn consume(&mut self, count: usize) -> Result<(), Broken> {
         match self {
             Opened::Standard(source) => source.consume(count),
             Opened::File(source) => source.consume(count),
@@ -115,7 +111,7 @@ fn read_all<S: Source + Drop>(alloc: Global, source: S) -> Result<Vec<u8>, Progr
     let mut source = source;
     match read_at_most(alloc, &mut source, usize::MAX) {
         Ok(octets) => Ok(octets),
-        Err(why) => Err(ProgramError::from(RunFault::from(why))),
+        Err(fault) => Err(ProgramError::from(fault)),
     }
 }
 

@@ -12,13 +12,13 @@ use Rattle.ill_schema.proofs.Streams.{accepts_some}
 use Rattle.ill_tables.specs.declared.profile.Profile.{Profile as Named}
 use Rattle.ill_read.specs.Answers.{TakesFront, TakesNoMessageIn}
 use Rattle.ill_inputs.specs.InputEnds.{GoesOn}
-use Rattle.ill_inputs.specs.declared.input_end.EndError.{EndError}
 use Rattle.ill_inputs.specs.declared.run_fault.RunFault.{RunFault}
 use Rattle.ill_normal.specs.Counting.{no_counts, with_accepted, with_refused}
 use Rattle.ill_normal.specs.Entries.{Entry, accepted, refused, entry_at, AreWritten, Puts}
 use Rattle.ill_normal.specs.Items.{Item, good, bad, AreItems, IsRefusedFor, item_octets, position_past, report, reports_from, good_in, Adds, ComesWith}
 use Rattle.ill_normal.specs.Messages.{Spelling, counted, first, after, one_if, position}
-use Rattle.ill_normal.specs.Next.{HasNoEnd, IsNextRefused}
+use Rattle.ill_normal.specs.Next.{HasNoEnd, IsNextRefused, TakesPart}
+use Rattle.ill_normal.specs.code.Taking.{IsTakeFault}
 use Rattle.ill_normal.specs.Reading.{AreAccepted, EndsFor, GoesPast, IsLast, IsNotPut, IsUnreported, Passes, PutsRefused, ReadsItems, RefusesRest, TakesLast, last_of}
 use Rattle.ill_normal.specs.code.Loop.{Streams, HasRead, fault_of, putting_of, reporting_of, stream_end, taking_of, with_last_refused}
 use Rattle.ill_normal.specs.declared.counts.Counts.{Counts}
@@ -260,15 +260,42 @@ module _ (q : Named) where
           ends_with counts.messages counts.refused (Some RunFault.ReadFault) (omega arith) (omega arith) t (omega (arith, few), broken, (none, λ full. absurd (omega (arith, few, full))), still, quiet)
 
       -- after the last message that an input may have an octet was taken, or the source broke
-      pub ends_too_many : counts.messages ≡ 1_000_000 → GoesOn was.left now.left now.source_broken EndError.MoreOctets → was.held ≡ now.held → was.reported ≡ now.reported → EndsBy (Some RunFault.TooManyMessages)
+      ends_too_many : counts.messages ≡ 1_000_000 → GoesOn was.left now.left now.source_broken RunFault.TooManyMessages → was.held ≡ now.held → was.reported ≡ now.reported → EndsBy (Some RunFault.TooManyMessages)
       ends_too_many full more still quiet =
           ends_with counts.messages counts.refused (Some RunFault.TooManyMessages) (omega arith) (omega arith) (takes_front reading.on_refusal was.left now.left (more.0 ∷ [], more.1, omega arith)) (full, more, still, quiet)
 
-      pub ends_broken_last : counts.messages ≡ 1_000_000 → GoesOn was.left now.left now.source_broken EndError.Broken → was.held ≡ now.held → was.reported ≡ now.reported → EndsBy (Some RunFault.ReadFault)
+      ends_broken_last : counts.messages ≡ 1_000_000 → GoesOn was.left now.left now.source_broken RunFault.ReadFault → was.held ≡ now.held → was.reported ≡ now.reported → EndsBy (Some RunFault.ReadFault)
       ends_broken_last full more still quiet =
           let none = Consumes-kept was.left was.left now.left [] (Consumes-nil was.left) more.1 in
           ends_with counts.messages counts.refused (Some RunFault.ReadFault) (omega arith) (omega arith) (takes_front reading.on_refusal was.left now.left ([], none, omega arith))
           (omega (arith, full), more.0, (([], none, λ a i h. accepts_some (profile_of q) [] a i refl h), λ _. more.1), still, quiet)
+
+      pub ends_past : (fault : RunFault) → counts.messages ≡ 1_000_000 → GoesOn was.left now.left now.source_broken fault → was.held ≡ now.held → was.reported ≡ now.reported → EndsBy (Some fault)
+      ends_past RunFault.TooManyMessages full more still quiet = ends_too_many full more still quiet
+      ends_past RunFault.ReadFault full more still quiet = ends_broken_last full more still quiet
+      ends_past (RunFault.Refused message refusal) full more still quiet = absurd more
+      ends_past (RunFault.RefusedSide side refusal) full more still quiet = absurd more
+      ends_past RunFault.OddHex full more still quiet = absurd more
+      ends_past (RunFault.BadHex place) full more still quiet = absurd more
+      ends_past RunFault.HexTooLong full more still quiet = absurd more
+      ends_past RunFault.NotReported full more still quiet = absurd more
+      ends_past RunFault.OutOfMemory full more still quiet = absurd more
+      ends_past (RunFault.WriteFault n) full more still quiet = absurd more
+
+      -- the next message was not taken
+      pub ends_untaken : (fault : RunFault) → IsTakeFault fault → counts.messages < 1_000_000 → TakesLast reading.on_refusal was.left now.left
+          → (fault ≡ RunFault.ReadFault → IsTrue now.source_broken × TakesPart was.left now.left) → was.held ≡ now.held → was.reported ≡ now.reported → EndsBy (Some fault)
+      ends_untaken RunFault.OutOfMemory fails few t broken still quiet = ends_unread few t still quiet
+      ends_untaken RunFault.ReadFault fails few t broken still quiet =
+          let b = broken refl in let part = b.1 in ends_broken few t b.0 (part.octets, part.taken, part.unfinished q) still quiet
+      ends_untaken RunFault.TooManyMessages fails few t broken still quiet = absurd fails
+      ends_untaken (RunFault.Refused message refusal) fails few t broken still quiet = absurd fails
+      ends_untaken (RunFault.RefusedSide side refusal) fails few t broken still quiet = absurd fails
+      ends_untaken RunFault.OddHex fails few t broken still quiet = absurd fails
+      ends_untaken (RunFault.BadHex place) fails few t broken still quiet = absurd fails
+      ends_untaken RunFault.HexTooLong fails few t broken still quiet = absurd fails
+      ends_untaken RunFault.NotReported fails few t broken still quiet = absurd fails
+      ends_untaken (RunFault.WriteFault n) fails few t broken still quiet = absurd fails
 
       -- the output for the next message was not put whole
       pub ends_unwritten : (error : PutError) → counts.messages < 1_000_000 → TakesLast reading.on_refusal was.left now.left → IsNotPut (profile_of q) writes fails (taking_of was now) (putting_of was now) here error

@@ -29,7 +29,7 @@ use Rattle.ill_normal.specs.Messages.{counted}
 use Rattle.ill_normal.proofs.Counted.{counted_left}
 use Rattle.ill_normal.specs.Items.{IsCutAtEnd}
 use Rattle.ill_normal.specs.Next.{HasNoEnd, IsNextRefused, TakesPart}
-use Rattle.ill_normal.specs.code.Taking.{IsFraming, Takes, TakesElement, TakesUnframed, TakesWhereCut, Took, end_of}
+use Rattle.ill_normal.specs.code.Taking.{IsFraming, Takes, TakesElement, TakesPartAfter, TakesUnframed, TakesWhereCut, Took, end_of}
 
 -- all octets of a slice of which no fewer leave more to be needed
 pub feeds_all : (f : Framer) (b xs : List ℕ) (m need : ℕ) → m ≤ length xs → length xs ≤ need → ((w : List ℕ) → length w < need → IsPartOfFrame (b ++ w))
@@ -110,17 +110,20 @@ recorded_more (suc m) (x ∷ a) b =
     let e : suc m - suc (length (take m a)) ≡ m - length (take m a) = omega arith in
     ap (λ z. x ∷ z) (ap (λ (i : ℕ). take m a ++ take i b) e ∙ recorded_more m a b)
 
+-- each front of octets is part of an element
+within_more : (a b : List ℕ) → ((n : ℕ) → n < length a → IsPartOfFrame (take n a)) → ((n : ℕ) → n < length b → IsPartOfFrame (a ++ take n b)) → (k : ℕ) → k < length (a ++ b) → IsPartOfFrame (take k (a ++ b))
+within_more a b first second k lt = elim (cases_lt k (length a)) [
+  | inl less ↦ subst IsPartOfFrame (sym (take-append-le k a b (omega (arith, less)))) (first k less)
+  | inr ge ↦
+      let more : k - length a < length b = omega (arith, ge, lt, length-append a b) in
+      let sum : length a + (k - length a) ≡ k = omega (arith, ge) in
+      let e : a ++ take (k - length a) b ≡ take k (a ++ b) = sym (take-append-add a b (k - length a)) ∙ ap (λ (i : ℕ). take i (a ++ b)) sum in
+      subst IsPartOfFrame e (second (k - length a) more)
+]
+
 module _ (left left' left'' : Option (List ℕ)) (f f' : Framer) (recorded recorded' : List ℕ) (count size n : ℕ) (r : IsFraming left left' f recorded count size) (t : Takes left' left'' f f' recorded recorded' n) where
   within_both : (k : ℕ) → k < length (r.octets ++ t.octets) → IsPartOfFrame (take k (r.octets ++ t.octets))
-  within_both k lt = elim (cases_lt k (length r.octets)) [
-    | inl less ↦ subst IsPartOfFrame (sym (take-append-le k r.octets t.octets (omega (arith, less)))) (r.within k less)
-    | inr ge ↦
-        let more : k - length r.octets < length t.octets = omega (arith, ge, lt, length-append r.octets t.octets) in
-        let sum : length r.octets + (k - length r.octets) ≡ k = omega (arith, ge) in
-        let e : r.octets ++ take (k - length r.octets) t.octets ≡ take k (r.octets ++ t.octets) =
-        sym (take-append-add r.octets t.octets (k - length r.octets)) ∙ ap (λ (i : ℕ). take i (r.octets ++ t.octets)) sum in
-        subst IsPartOfFrame e (t.within r.octets (k - length r.octets) r.fed more)
-  ]
+  within_both k lt = within_more r.octets t.octets r.within (λ n less. t.within r.octets n r.fed less) k lt
 
   pub framing_more : (least : ℕ) → least ≤ count + n → IsFraming left left'' f' recorded' least (counted (size + n))
   framing_more least le = record {
@@ -181,13 +184,15 @@ no_message q b p within a n h = elim (cases_lt n (length b)) [
   | inr ge ↦ part_and_whole b p (subst IsFrame (take_all n b ge) (spelling_framed q a (take n b) h.1))
 ]
 
-pub part_taken : (left left' left'' : Option (List ℕ)) (f : Framer) (recorded : List ℕ) (count size : ℕ) → IsFraming left left' f recorded count size → Keeps left' left'' → ((b : List ℕ) → IsFed f b → IsPartOfFrame b)
+pub part_taken : (left left' left'' : Option (List ℕ)) (f : Framer) (recorded : List ℕ) (count size : ℕ) → IsFraming left left' f recorded count size → ((b : List ℕ) → IsFed f b → TakesPartAfter left' left'' b)
     → TakesPart left left''
-part_taken left left' left'' f recorded count size r keeps part = record {
-  octets = r.octets;
-  taken = Consumes-kept left left' left'' r.octets r.taken keeps;
-  unfinished = λ q. no_message q r.octets (part r.octets r.fed) r.within;
-}
+part_taken left left' left'' f recorded count size r part =
+    let more = part r.octets r.fed in
+    record {
+      octets = r.octets ++ more.0;
+      taken = Consumes-trans left left' left'' r.octets more.0 r.taken more.1;
+      unfinished = λ q. no_message q (r.octets ++ more.0) more.2 (within_more r.octets more.0 r.within more.3);
+    }
 
 none_is_part : IsPartOfFrame []
 none_is_part = (1 ∷ 0 ∷ [], (λ e. cc), definite [] (low (λ e. omega arith) (λ e. omega arith) refl) (short (lit≤ tt)) (lit≤ tt) refl)

@@ -138,13 +138,15 @@ impl MessageReader {
         };
         let spelled = &mut self.message.spelled;
         spelled.clear();
-        let read = if wants.spelled {
-            self.outline
-                .read_recording(profile, source, memory, spelled)
-        } else {
-            self.outline.read(profile, source, memory)
-        };
-        match read {
+        if wants.spelled {
+            let reader = &mut self.outline;
+            return match reader.read_recording(profile, source, memory, spelled) {
+                Ok(Some(read)) => Ok(Some(self.keep_outlined(read))),
+                Ok(None) => Ok(None),
+                Err(failure) => Err(failure),
+            };
+        }
+        match self.outline.read(profile, source, memory) {
             Ok(Some(read)) => Ok(Some(self.keep_outlined(read))),
             Ok(None) => Ok(None),
             Err(failure) => Err(failure),

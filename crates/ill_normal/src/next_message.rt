@@ -5,8 +5,9 @@ ghost use Rattle.ber_framing.specs.Framed.{IsPartOfFrame};
 ghost use Rattle.ill_schema.specs.Profiles.{profile_of};
 ghost use Rattle.ber_framing.specs.Framer.{IsFed, HasFraming};
 ghost use Rattle.ber_framing.specs.declared.framer.Framing.{Framing};
+ghost use Rattle.ill_inputs.specs.declared.run_fault.RunFault.{RunFault};
 ghost use Rattle.ill_normal.specs.Next.{IsNext, TakesPart};
-ghost use Rattle.ill_normal.specs.code.Taking.{end_of, Takes, TakesElement, TakesOctet, TakesUnframed, TakesWhereCut, Took};
+ghost use Rattle.ill_normal.specs.code.Taking.{end_of, IsTakeFault, Takes, TakesElement, TakesOctet, TakesPartAfter, TakesUnframed, TakesWhereCut, Took};
 
 use crate::message_reader::{MessageReader, Wants};
 use ber_core::{Broken, FromSlice, Source};
@@ -46,6 +47,7 @@ pub fn take_message<R: Source>(
 ) -> Result<NextMessage, RunFault>
     ensures next { IfOk result (IsNext (profile_of profile) wants (R.left source.old)
         (R.left source.new) recorded.new.items reader.new.message) }
+    ensures failed { IfErr result IsTakeFault }
     ensures broken { IfErr result (λ e. e ≡ RunFault.ReadFault → IsTrue (R.is_broken source.new)
         × TakesPart (R.left source.old) (R.left source.new)) }
     ensures stays { IsTrue (R.is_broken source.old) → IsTrue (R.is_broken source.new) }
@@ -96,6 +98,7 @@ fn end_of(taken: TakenElement) -> Option<u64>
 fn take_element<R: Source>(source: &mut R, recorded: &mut Vec<u8>) -> Result<TakenElement, RunFault>
     ensures element { IfOk result (λ taken. Took (R.left source.old) (R.left source.new)
         recorded.new.items taken.octets taken.framing) }
+    ensures failed { IfErr result IsTakeFault }
     ensures broken { IfErr result (λ e. e ≡ RunFault.ReadFault → IsTrue (R.is_broken source.new)
         × TakesPart (R.left source.old) (R.left source.new)) }
     ensures stays { IsTrue (R.is_broken source.old) → IsTrue (R.is_broken source.new) }
@@ -119,6 +122,7 @@ fn take_rest<R: Source>(source: &mut R, recorded: &mut Vec<u8>, count: u8) -> Re
     ensures rest { OnOk result ((from : Option (List ℕ))
         → TakesUnframed from (R.left source.old) recorded.old.items
         → TakesUnframed from (R.left source.new) recorded.new.items) }
+    ensures failed { IfErr result IsTakeFault }
     ensures broken { IfErr result (λ e. e ≡ RunFault.ReadFault → IsTrue (R.is_broken source.new)
         × ((from : Option (List ℕ)) → TakesUnframed from (R.left source.old) recorded.old.items
         → TakesPart from (R.left source.new))) }
@@ -138,6 +142,7 @@ fn take_rest<R: Source>(source: &mut R, recorded: &mut Vec<u8>, count: u8) -> Re
 fn take_octet<R: Source>(source: &mut R, recorded: &mut Vec<u8>) -> Result<bool, RunFault>
     ensures takes { IfOk result (TakesOctet (R.left source.old) (R.left source.new)
         recorded.old.items recorded.new.items) }
+    ensures failed { IfErr result IsTakeFault }
     ensures broken { IfErr result (λ e. e ≡ RunFault.ReadFault → IsTrue (R.is_broken source.new)
         × Keeps (R.left source.old) (R.left source.new) × (recorded.new ≡ recorded.old)) }
     ensures stays { IsTrue (R.is_broken source.old) → IsTrue (R.is_broken source.new) }
@@ -159,6 +164,7 @@ fn take_framed<R: Source>(source: &mut R, recorded: &mut Vec<u8>) -> Result<(Fra
     ensures element { IfOk result (λ taken. (frame : Framing)
         → ((b : List ℕ) → IsFed taken.0 b → HasFraming b frame)
         → TakesElement (R.left source.old) (R.left source.new) recorded.new.items taken.1 frame) }
+    ensures failed { IfErr result IsTakeFault }
     ensures broken { IfErr result (λ e. e ≡ RunFault.ReadFault → IsTrue (R.is_broken source.new)
         × TakesPart (R.left source.old) (R.left source.new)) }
     ensures stays { IsTrue (R.is_broken source.old) → IsTrue (R.is_broken source.new) }
@@ -187,6 +193,7 @@ fn take_where_cut<R: Source>(
 ) -> Result<bool, RunFault>
     ensures takes { IfOk result (TakesWhereCut (R.left source.old) (R.left source.new)
         recorded.old.items recorded.new.items framing cause) }
+    ensures failed { IfErr result IsTakeFault }
     ensures broken { IfErr result (λ e. e ≡ RunFault.ReadFault → (framing ≡ Framing.Unframed)
         × IsTrue (R.is_broken source.new) × Keeps (R.left source.old) (R.left source.new)) }
     ensures stays { IsTrue (R.is_broken source.old) → IsTrue (R.is_broken source.new) }
@@ -208,10 +215,11 @@ fn take_some<R: Source>(
     requires { 0 < length buffer.old }
     ensures takes { IfOk result (Takes (R.left source.old) (R.left source.new) framer.old framer.new
         recorded.old.items recorded.new.items) }
-    ensures broken { IfErr result (λ e. e ≡ RunFault.ReadFault → IsTrue (R.is_broken source.new)
-        × Keeps (R.left source.old) (R.left source.new)) }
+    ensures failed { IfErr result IsTakeFault }
+    ensures broken { IfErr result
+        (λ e. e ≡ RunFault.ReadFault → IsTrue (R.is_broken source.new)) }
     ensures part { IfErr result (λ e. e ≡ RunFault.ReadFault → (b : List ℕ) → IsFed framer.old b
-        → IsPartOfFrame b) }
+        → TakesPartAfter (R.left source.old) (R.left source.new) b) }
     ensures stays { IsTrue (R.is_broken source.old) → IsTrue (R.is_broken source.new) }
     ensures room { length buffer.new ≡ length buffer.old }
 {

@@ -7,8 +7,8 @@ ghost use Rattle.ill_grammar.specs.Outline.{IsOutlineOf};
 ghost use Rattle.ill_text.specs.Shown.{shown_text};
 
 use crate::text::Text;
-use ber_core::{Buffered, FromSlice};
-use ill_read::{Outline, ReadFailure, read_outline_as};
+use ber_core::FromSlice;
+use ill_read::{Outline, ReadFailure, read_outline};
 use ill_schema::{Message, Profile};
 use ill_write::normal_bytes;
 use std::alloc::{AllocError, Global};
@@ -47,8 +47,7 @@ fn outline_of(alloc: Global, octets: &[u8]) -> Result<Outline, AllocError>
         → IfOk result (λ outline. IsOutlineOf outline a) }
 {
     let mut source = FromSlice::new(octets);
-    let buffer = Outline::new(alloc);
-    match read_outline_as::<FromSlice<'_>, Buffered>(alloc, Profile::Two, &mut source, buffer) {
+    match read_outline(alloc, Profile::Two, &mut source) {
         Ok(Some(read)) => Ok(read.outline),
         Ok(None) => unreachable!(),
         Err(ReadFailure::Refused(_)) => unreachable!(),

@@ -3,7 +3,7 @@
 mod contracts;
 mod skipping;
 
-use ber_core::{Pieces, Room, Sink, Source, ToWrite, Unbuffered};
+use ber_core::{Pieces, Room, Sink, Source, ToWrite};
 use ill_commands::RunFault;
 use ill_dump::{DumpFormat, DumpOptions, run_dump};
 use ill_normal::{NoReports, OnRefusal};
@@ -96,7 +96,7 @@ fn result_of<R: Source, W: Sink>(
     sink: &mut W,
 ) -> Result<u32, RunFault> {
     let reports = &mut NoReports;
-    let end = run_dump::<R, Unbuffered, W, NoReports>(alloc, dump, source, sink, reports);
+    let end = run_dump(alloc, dump, source, sink, reports);
     match end.fault {
         None => Ok(end.counts.messages),
         Some(fault) => Err(fault),

@@ -7,8 +7,8 @@ ghost use Rattle.ber_leaf.specs.Content.{IsContent};
 ghost use Rattle.ber_leaf.specs.Leaf.{normal_content};
 
 use ber_core::{
-    Broken, Buffered, BufferedSource, Class, FromBuffer, FromRead, FromSlice, Header, HeaderFault,
-    HeaderState, Id, Lookahead, Pieces, Room, Sink, Source, ToWrite, Unbuffered, header_size,
+    Broken, Class, FromBuffer, FromRead, FromSlice, Header, HeaderFault,
+    HeaderState, Id, Pieces, Room, Sink, Source, ToWrite, header_size,
     put_header,
 };
 use ber_leaf::{
@@ -281,38 +281,36 @@ fn buffers_say_that_they_broke<R: Read + Drop>(
     Ok(())
 }
 
-/// Takes of a source the octets that are seen.
-fn looks_pass_what_they_show<R: Source, L: Lookahead<R>>(
+/// Takes of a source the octets that it shows.
+fn sources_give_what_they_show<R: Source>(
     source: &mut R,
     alloc: Global,
-) -> Result<Vec<u8>, AllocError>
-    ensures octets { IfOk result (λ seen. Consumes (R.left source.old) (R.left source.new)
-        seen.items) }
-    ensures broken { R.is_broken source.new ≡ R.is_broken source.old }
+) -> Result<Result<Vec<u8>, Broken>, AllocError>
+    ensures octets { IfOk result (λ taken. IfOk taken
+        (λ shown. Consumes (R.left source.old) (R.left source.new) shown.items)) }
+    ensures broken { IfOk result (λ taken. IsErr taken → IsTrue (R.is_broken source.new)) }
 {
-    let seen = Vec::from_slice(alloc, L::buffered(source))?;
-    L::consume(source, seen.len());
-    prove!(L::buffered(source).is_empty());
-    Ok(seen)
+    let shown = Vec::from_slice(alloc, source.buffered())?;
+    match source.consume(shown.len()) {
+        Ok(()) => Ok(Ok(shown)),
+        Err(Broken) => Ok(Err(Broken)),
+    }
 }
 
-/// A caller of any look takes what a source shows, and of a source that is not seen as much as it says.
-fn looks_serve_all_sources<A: BufferedSource, R: Source>(
-    shown: &mut A,
-    unseen: &mut R,
-    alloc: Global,
-) -> Result<(Vec<u8>, Vec<u8>), AllocError>
-    ensures shown { IfOk result (λ r. Consumes (A.left shown.old) (A.left shown.new) r.0.items) }
-    ensures unseen { IfOk result (λ r. Consumes (R.left unseen.old) (R.left unseen.new) r.1.items) }
-{
-    let seen = looks_pass_what_they_show::<A, Buffered>(shown, alloc)?;
-    let rest = looks_pass_what_they_show::<R, Unbuffered>(unseen, alloc)?;
-    Ok((seen, rest))
+/// A slice shows all that is left, and can be taken as it is shown.
+fn slices_give_what_they_show(source: &mut FromSlice<'_>) {
+    let len = source.buffered().len();
+    let taken = source.consume(len);
+    prove!(taken.is_ok());
+    prove!(source.buffered().is_empty());
 }
 
-/// Nothing is seen of a source that doesn't show it.
-fn unseen_sources_show_nothing<R: Source>(source: &R) {
-    prove!(<Unbuffered as Lookahead<R>>::buffered(source).is_empty());
+/// A buffer gives all that it shows, and then shows nothing.
+fn buffers_give_what_they_show<R: Read + Drop>(source: &mut FromBuffer<R>) {
+    let len = source.buffered().len();
+    let taken = source.consume(len);
+    prove!(taken.is_ok());
+    prove!(source.buffered().is_empty());
 }
 
 /// A source over a reader is broken exactly after an error.

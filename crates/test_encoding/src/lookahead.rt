@@ -1,9 +1,7 @@
 //! Sources that show what they have at hand.
 use super::fake::Step::{self, Fails, Moves};
 use super::fake::{Log, Scripted, are_first, takes};
-use ber_core::{
-    Buffered, BufferedSource, FromBuffer, FromSlice, Lookahead, Pieces, Source, Unbuffered,
-};
+use ber_core::{Broken, FromBuffer, FromSlice, Pieces, Source};
 use std::alloc::{AllocError, Global};
 use std::io::ErrorKind;
 use std::test::Fail;
@@ -118,7 +116,7 @@ static ROWS: [Row; 9] = [
 ];
 
 /// Tells whether as many octets are at hand as must be, and those that are consumed are no longer there. They are added to those that were taken before.
-fn passes<S: BufferedSource>(
+fn passes<S: Source>(
     source: &mut S,
     count: usize,
     buffered: usize,
@@ -129,8 +127,7 @@ fn passes<S: BufferedSource>(
         return Ok(false);
     }
     taken.extend_from_slice(&shown[..count])?;
-    source.consume(count);
-    Ok(true)
+    Ok(source.consume(count) == Ok(()))
 }
 
 /// Tells whether each call of a row does what it must, on a source that is not broken at first. The octets that it takes are added.
@@ -170,33 +167,63 @@ fn slices_show_all_that_is_left(rt: HostRuntime) {
     let mut source = FromSlice::new(&octets);
     let mut buffer = [0; 2];
     let is_whole = source.buffered() == octets.as_slice();
-    source.consume(2);
+    let is_passed = source.consume(2) == Ok(());
     let is_taken = source.take(&mut buffer) == Ok(2) && buffer == [3, 4];
-    let is_left = source.buffered() == [5].as_slice();
-    source.consume(1);
-    assert!(rt; is_whole && is_taken && is_left);
+    let is_left = source.buffered() == [5].as_slice() && source.consume(1) == Ok(());
+    assert!(rt; is_whole && is_passed && is_taken && is_left);
     assert!(rt; source.take(&mut buffer) == Ok(0) && source.buffered().is_empty());
     assert!(rt; !source.broken());
 }
 
-/// Takes an octet, if one is seen.
-fn next<R: Source, L: Lookahead<R>>(source: &mut R) -> Option<u8> {
-    let octet = *L::buffered(source).first()?;
-    L::consume(source, 1);
-    Some(octet)
+/// Takes an octet, if one is at hand.
+fn next<R: Source>(source: &mut R) -> Result<Option<u8>, Broken> {
+    let Some(octet) = source.buffered().first().copied() else {
+        return Ok(None);
+    };
+    source.consume(1)?;
+    Ok(Some(octet))
 }
 
 #[test]
-fn looks_see_what_is_at_hand_or_nothing(rt: HostRuntime) {
+fn sources_show_what_is_at_hand_or_nothing(rt: HostRuntime) {
     let octets = [1, 2];
     let mut slice = FromSlice::new(&octets);
-    let seen = [
-        next::<FromSlice<'_>, Buffered>(&mut slice),
-        next::<FromSlice<'_>, Unbuffered>(&mut slice),
-        next::<FromSlice<'_>, Buffered>(&mut slice),
-        next::<FromSlice<'_>, Buffered>(&mut slice),
-    ];
+    let seen = [next(&mut slice), next(&mut slice), next(&mut slice)];
     let mut pieces = Pieces::new(&octets, 1, None);
-    let unseen = next::<Pieces<'_>, Unbuffered>(&mut pieces);
-    assert!(rt; seen == [Some(1), None, Some(2), None] && unseen.is_none());
+    let unseen = next(&mut pieces);
+    assert!(rt; seen == [Ok(Some(1)), Ok(Some(2)), Ok(None)] && unseen == Ok(None));
+}
+
+/// A source that says that it has octets at hand, and has no `consume` of its own.
+struct Plain<'a> {
+    octets: Pieces<'a>,
+}
+
+impl Source for Plain<'_> {
+    ghost use Rattle.std.specs.Prelude.{None};
+
+    ghost left = { λ _. None };
+
+    ghost is_broken = { λ s. s.octets.broken };
+
+    ghost hand_len = { λ _. 2 };
+
+    fn take(&mut self, buffer: &mut [u8]) -> Result<usize, Broken> {
+        self.octets.take(buffer)
+    }
+
+    fn broken(&self) -> bool {
+        self.octets.broken()
+    }
+}
+
+#[test]
+fn octets_are_taken_one_by_one_by_default(rt: HostRuntime) {
+    let mut plain = Plain {
+        octets: Pieces::new(&[1, 2, 3, 4], 1, Some(3)),
+    };
+    let mut buffer = [0];
+    let is_taken = plain.consume(2) == Ok(()) && plain.take(&mut buffer) == Ok(1) && buffer == [3];
+    assert!(rt; is_taken && plain.buffered().is_empty());
+    assert!(rt; plain.consume(1) == Err(Broken) && plain.broken());
 }

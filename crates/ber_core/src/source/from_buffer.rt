@@ -1,4 +1,6 @@
-ghost use Rattle.std.specs.Prelude.{◌≡◌, [], false, IfOk, length};
+ghost use Rattle.std.specs.Prelude.{◌≡◌, ◌≤◌, [], drop, false, Ok, IfOk, IfSome, IsErr, IsTrue, OnErr, OnOk, length};
+ghost use Rattle.std.specs.Io.{StartsWith};
+ghost use Rattle.ber_core.specs.Shown.{Drops, DropsFewer};
 ghost use Rattle.std.specs.Io.Buffered.{reader_buffer, reader_inner, reader_remaining};
 
 use super::{Broken, Source};
@@ -75,11 +77,29 @@ impl<R: Read> Source for FromBuffer<R> {
         self.broken
     }
 
-    fn buffered(&self) -> &[u8] {
+    fn buffered(&self) -> &[u8]
+        ensures front { IfSome (reader_remaining R.remaining (buffer_of self.now))
+            (λ octets. StartsWith octets result.now) }
+        ensures len { length result.now ≤ length (reader_buffer (buffer_of self.now)) }
+        ensures all { result.now ≡ reader_buffer (buffer_of self.now) }
+    {
         self.inner.buffer()
     }
 
-    fn consume(&mut self, count: usize) -> Result<(), Broken> {
+    fn consume(&mut self, count: usize) -> Result<(), Broken>
+        requires hand { count ≤ length (reader_buffer (buffer_of self.old)) }
+        ensures octets { OnOk result (Drops (reader_remaining R.remaining (buffer_of self.old))
+            (reader_remaining R.remaining (buffer_of self.new)) count) }
+        ensures part { OnErr result
+            (DropsFewer (reader_remaining R.remaining (buffer_of self.old))
+            (reader_remaining R.remaining (buffer_of self.new)) count) }
+        ensures breaks { IsErr result → IsTrue (is_buffer_broken self.new) }
+        ensures stays { IsTrue (is_buffer_broken self.old) → IsTrue (is_buffer_broken self.new) }
+        ensures takes { result ≡ Ok tt }
+        ensures rest { reader_buffer (buffer_of self.new) ≡ drop count
+            (reader_buffer (buffer_of self.old)) }
+        ensures broken { is_buffer_broken self.new ≡ is_buffer_broken self.old }
+    {
         self.inner.consume(count);
         Ok(())
     }

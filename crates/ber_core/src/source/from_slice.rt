@@ -1,5 +1,7 @@
-ghost use Rattle.std.specs.Prelude.{◌≡◌, ◌≤◌, ◌↔◌, min, false, Ok, Some, IfOk, IsErr, IsTrue, length, take, drop};
+ghost use Rattle.std.specs.Prelude.{◌≡◌, ◌≤◌, ◌↔◌, min, false, Ok, Some, IfOk, IfSome, IsErr, IsTrue, OnErr, OnOk, length, take, drop};
+ghost use Rattle.std.specs.Io.{StartsWith};
 ghost use Rattle.std.specs.Io.KnownBytes.{ReadConsumes};
+ghost use Rattle.ber_core.specs.Shown.{Drops, DropsFewer};
 
 use super::{Broken, Source};
 use std::marker::Model;
@@ -64,11 +66,24 @@ impl Source for FromSlice<'_> {
         false
     }
 
-    fn buffered(&self) -> &[u8] {
+    /// All octets that are left.
+    fn buffered(&self) -> &[u8]
+        ensures front { IfSome (Some self.now) (λ octets. StartsWith octets result.now) }
+        ensures len { length result.now ≤ length self.now }
+        ensures all { result.now ≡ self.now }
+    {
         self.octets
     }
 
-    fn consume(&mut self, count: usize) -> Result<(), Broken> {
+    fn consume(&mut self, count: usize) -> Result<(), Broken>
+        requires hand { count ≤ length self.old }
+        ensures octets { OnOk result (Drops (Some self.old) (Some self.new) count) }
+        ensures part { OnErr result (DropsFewer (Some self.old) (Some self.new) count) }
+        ensures breaks { IsErr result → IsTrue false }
+        ensures stays { IsTrue false → IsTrue false }
+        ensures takes { result ≡ Ok tt }
+        ensures rest { self.new ≡ drop count self.old }
+    {
         let all: &[u8] = self.octets;
         self.octets = &all[count..];
         Ok(())

@@ -52,7 +52,7 @@ fn message_result(
 ) -> Result<LineResult, AllocError>
     ensures { IfOk result (λ found. IsResultOf work octets.now found.words.items found.is_good) }
 {
-    match reader.decode_as(work.profile, octets, Vec::new(alloc)) {
+    match reader.decode(work.profile, octets, Vec::new(alloc)) {
         Ok(normal) => form_result(alloc, work, octets, &normal.octets),
         Err(Failure::Refused(refusal)) => Ok(LineResult {
             words: refusal_words(alloc, refusal)?,

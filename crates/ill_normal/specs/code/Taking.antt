@@ -2,6 +2,7 @@
 use Rattle.std.specs.Prelude.{◌≡◌, ◌⊎◌, ℕ, ◌-◌, ◌<◌, ◌≤◌, Bool, true, false, List, [], ◌∷◌, ◌++◌, length, take, Option, Some, None}
 use Rattle.std.specs.Io.KnownBytes.{Consumes, IsAtEnd}
 use Rattle.ill_schema.specs.declared.refusal.Cause.{Cause}
+use Rattle.ill_inputs.specs.declared.run_fault.RunFault.{RunFault}
 use Rattle.ill_normal.specs.Messages.{counted}
 use Rattle.ber_framing.specs.declared.framer.Framing.{Framing}
 use Rattle.ber_framing.specs.declared.framer.Framing.TheVariants as frame
@@ -67,6 +68,16 @@ TakesWhereCut left left' recorded recorded' framing cause true =
     (framing ≡ frame.Unframed) × (cause ≡ Cause.Truncated) × TakesOctet left left' recorded recorded' true
 TakesWhereCut left left' recorded recorded' framing cause false =
     (recorded' ≡ recorded) × (((left' ≡ left) × (framing ≡ frame.Unframed → cause ≡ Cause.Truncated → ⊥)) ⊎ ((framing ≡ frame.Unframed) × Consumes left left' [] × IsAtEnd left'))
+
+-- memory or the source failed
+abbrev pub IsTakeFault : RunFault → Type 0
+IsTakeFault RunFault.OutOfMemory = Unit {0}
+IsTakeFault RunFault.ReadFault = Unit {0}
+IsTakeFault _ = ⊥
+
+-- octets were taken after those, and all are part of an element
+abbrev pub TakesPartAfter : Option (List ℕ) → Option (List ℕ) → List ℕ → Type 0
+TakesPartAfter left left' b = (octets : List ℕ) × Consumes left left' octets × IsPartOfFrame (b ++ octets) × ((n : ℕ) → n < length octets → IsPartOfFrame (b ++ take n octets))
 
 -- how many octets an element has whose end was found
 abbrev pub end_of : Framing → ℕ → Option ℕ

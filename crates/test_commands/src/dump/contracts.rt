@@ -9,7 +9,7 @@ ghost use Rattle.ill_inputs.specs.declared.run_fault.RunFault.{RunFault};
 ghost use Rattle.ill_normal.specs.declared.messages.OnRefusal.{OnRefusal as Mode};
 ghost use Rattle.test_commands.specs.Heads.{AreHeaded};
 
-use ber_core::{Pieces, Room, Sink, Source, Unbuffered};
+use ber_core::{Pieces, Room, Sink, Source};
 use ill_commands::RunFault;
 use ill_dump::{DumpOptions, run_dump};
 use ill_normal::{NoReports, StreamEnd};
@@ -32,14 +32,14 @@ fn inputs_end_in_one_way(
     ensures { (e : RunFault) → result.0.fault ≡ None → result.1.fault ≡ Some e → IsResourceFault e }
 {
     (
-        run_dump::<Pieces, Unbuffered, Room<64>, NoReports>(
+        run_dump(
             alloc,
             dump,
             source,
             sink,
             &mut NoReports,
         ),
-        run_dump::<Pieces, Unbuffered, Room<64>, NoReports>(
+        run_dump(
             alloc,
             dump,
             other,
@@ -70,7 +70,7 @@ fn each_message_is_dumped(
         → (result.counts.messages ≡ i) × ((lines : List ℕ) × AreHeaded dump.entry 1 i lines
         × Appends (Some sink.old.octets) (Some sink.new.octets) lines) }
 {
-    run_dump::<Pieces, Unbuffered, Room<64>, NoReports>(alloc, dump, source, sink, &mut NoReports)
+    run_dump(alloc, dump, source, sink, &mut NoReports)
 }
 
 /// A read fault is of a source that is broken, and a write fault of a sink that is.
@@ -80,7 +80,7 @@ fn dumps_fail_where_something_is_broken(
     sink: &mut Room<64>,
     alloc: Global,
 ) {
-    let end = run_dump::<Pieces, Unbuffered, Room<64>, NoReports>(
+    let end = run_dump(
         alloc,
         dump,
         source,

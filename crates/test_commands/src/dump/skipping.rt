@@ -1,9 +1,9 @@
 //! Dumps that go on after a message that is refused, or are of one message alone.
 use super::{PLAIN, SPELLED, result_of};
-use ber_core::{Pieces, Room, Unbuffered};
+use ber_core::{Pieces, Room};
 use ill_dump::{DumpOptions, run_dump};
 use ill_normal::{
-    Cause, Counts, NotReported, OnRefusal, Refusal, RefusalReport, ReportRefusals, RunFault,
+    Cause, Counts, OnRefusal, Refusal, RefusalReport, ReportRefusals, RunFault,
     StreamEnd,
 };
 use std::alloc::{AllocError, Global};
@@ -21,9 +21,9 @@ impl ReportRefusals for Reported {
 
     ghost reported = { λ _. None };
 
-    fn report(&mut self, report: RefusalReport, octets: &[u8]) -> Result<(), NotReported> {
+    fn report(&mut self, report: RefusalReport, octets: &[u8]) -> Result<(), RunFault> {
         let _ = octets;
-        self.reports.push(report).map_err(|_| NotReported)
+        self.reports.push(report).map_err(|_| RunFault::NotReported)
     }
 }
 
@@ -84,7 +84,7 @@ fn dump_of(alloc: Global, dump: DumpOptions<'_>, octets: &[u8]) -> Result<Dumped
         on_refusal: OnRefusal::GoOn,
         ..dump
     };
-    let end = run_dump::<Pieces<'_>, Unbuffered, Room<4096>, Reported>(
+    let end = run_dump(
         alloc,
         dump,
         &mut source,

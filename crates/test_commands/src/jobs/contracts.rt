@@ -11,7 +11,7 @@ ghost use Rattle.ill_schema.specs.Fits.{FitsApdu};
 ghost use Rattle.ill_schema.specs.Message.{apdu_of};
 ghost use Rattle.ill_normal.specs.declared.messages.OnRefusal.{OnRefusal as Mode};
 
-use ber_core::{Pieces, Room, Sink, Source, Unbuffered};
+use ber_core::{Pieces, Room, Sink, Source};
 use ill_commands::{
     Job, JobOptions, LineJob, LinesFault, ReportRefusals, RunFault, StreamEnd, Verdict, run_as,
     run_job, run_lines_as, run_same_as, run_with,
@@ -165,7 +165,7 @@ fn jobs_that_go_on_fail_where_something_is_broken<T: ReportRefusals>(
     reports: &mut T,
     alloc: Global,
 ) {
-    let end = run_job::<Pieces, Unbuffered, Room<64>, T>(alloc, work, source, sink, reports);
+    let end = run_job(alloc, work, source, sink, reports);
     match end.fault {
         Some(RunFault::ReadFault) => {
             prove!(source.broken());
@@ -258,7 +258,7 @@ fn inputs_are_taken_to_their_limit(
         → length source.old.octets ≤ result.counts.octets + 1 + length source.new.octets }
 {
     let reports = &mut NoReports;
-    run_job::<Pieces, Unbuffered, Room<64>, NoReports>(alloc, work, source, sink, reports)
+    run_job(alloc, work, source, sink, reports)
 }
 
 /// Equal pairs of inputs have one verdict in each profile, and one line is written. Where one pair has a verdict, the other is not refused.

@@ -1,7 +1,7 @@
 //! Lines of `json_line`, row by row.
-use ber_core::{Buffered, FromSlice};
+use ber_core::{FromSlice};
 use ill_json::{LineHead, json_line, json_line_as};
-use ill_read::{Outline, read_outline_as};
+use ill_read::{Outline, read_outline};
 use ill_schema::Profile;
 use std::alloc::Global;
 use std::test::Fail;
@@ -73,7 +73,7 @@ const MODULE_ROWS: [(&str, u32, &str); 3] = [
 fn outline(alloc: Global, profile: Profile, octets: &[u8]) -> Result<Outline, Fail> {
     let mut source = FromSlice::new(octets);
     let buffer = Outline::new(alloc);
-    match read_outline_as::<FromSlice<'_>, Buffered>(alloc, profile, &mut source, buffer) {
+    match read_outline(alloc, profile, &mut source) {
         Ok(Some(read)) => Ok(read.outline),
         _ => Err(Fail::from("not read")),
     }

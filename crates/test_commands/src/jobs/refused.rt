@@ -1,7 +1,7 @@
 //! Lines of `refused_json` with the place in words, row by row.
 use ill_commands::{Job, JobOptions, RefusalReport, refused_json};
 use ill_dump::place_of_refusal;
-use ill_normal::{Cause, Failure, Refusal, decode_normal_as};
+use ill_normal::{Cause, Failure, Refusal, decode_normal};
 use ill_schema::Profile;
 use std::alloc::Global;
 use std::test::Fail;
@@ -122,7 +122,7 @@ const TOO_LONG: &str =
 
 /// The refusal of the message that the octets are.
 fn refusal_of(alloc: Global, profile: Profile, octets: &[u8]) -> Result<Refusal, Fail> {
-    match decode_normal_as(alloc, profile, octets) {
+    match decode_normal(alloc, profile, octets) {
         Err(Failure::Refused(refusal)) => Ok(refusal),
         _ => Err(Fail::from("not refused")),
     }

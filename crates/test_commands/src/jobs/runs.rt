@@ -1,6 +1,6 @@
 //! Output and results of `run`, row by row.
 use super::gives;
-use ber_core::{Pieces, Room, ToWrite, Unbuffered};
+use ber_core::{Pieces, Room, ToWrite};
 use ill_commands::{Counts, Job, JobOptions, OnRefusal, RunFault, Verdict, run_job, run_with};
 use ill_normal::{Cause, NoReports, Profile, Refusal};
 use std::alloc::{AllocError, Global};
@@ -326,7 +326,7 @@ fn counts(alloc: Global, octets: &[u8], work: JobOptions<'_>, good: u32) -> bool
     let mut source = Pieces::new(octets, 4096, None);
     let mut written = Vec::new(alloc);
     let mut sink = ToWrite::new(&mut written);
-    let end = run_job::<Pieces<'_>, Unbuffered, _, NoReports>(
+    let end = run_job(
         alloc,
         work,
         &mut source,

@@ -1,9 +1,9 @@
 //! Output and reports of jobs that go on after a refused message, row by row.
-use ber_core::{Pieces, ToWrite, Unbuffered};
+use ber_core::{Pieces, ToWrite};
 use ill_commands::{
     Counts, Job, JobOptions, OnRefusal, RefusalReport, ReportRefusals, RunFault, run_job,
 };
-use ill_normal::{Cause, NotReported, Refusal};
+use ill_normal::{Cause, Refusal};
 use std::alloc::Global;
 use std::test::Fail;
 use test_support::octets_of;
@@ -19,9 +19,9 @@ impl ReportRefusals for Reported {
 
     ghost reported = { λ _. None };
 
-    fn report(&mut self, report: RefusalReport, octets: &[u8]) -> Result<(), NotReported> {
+    fn report(&mut self, report: RefusalReport, octets: &[u8]) -> Result<(), RunFault> {
         let _ = octets;
-        self.reports.push(report).map_err(|_| NotReported)
+        self.reports.push(report).map_err(|_| RunFault::NotReported)
     }
 }
 
@@ -165,7 +165,7 @@ fn comes_true(alloc: Global, row: &Row, octets: &[u8]) -> bool {
         on_refusal: OnRefusal::GoOn,
         ..JobOptions::new(row.job, row.hex)
     };
-    let end = run_job::<Pieces<'_>, Unbuffered, _, Reported>(
+    let end = run_job(
         alloc,
         work,
         &mut source,

@@ -9,13 +9,13 @@ ghost use Rattle.ill_schema.specs.Profiles.{profile_of};
 ghost use Rattle.ill_inputs.specs.declared.run_fault.RunFault.{RunFault as Fault};
 ghost use Rattle.ill_normal.specs.Messages.{AreSpelled, Spelling};
 
-use ber_core::{Buffered, FromSlice, Pieces, Room, Sink, Source, Unbuffered};
+use ber_core::{Buffered, FromSlice, Pieces, Room, Sink, Source};
 use ill_normal::{
     Checked, Failure, Message, MessageReader, NoReports, NormalFailure, NormalForm, NormalReader,
     OnRefusal, Profile, ReadFailure, Reading, Refusal, RunFault, Side, StreamEnd, StreamFailure,
     Wants, WriteNormalForms, check_one, check_one_in, decode, decode_normal, is_normal, normalise,
     normalise_stream, read_input, read_message, read_message_peeking, read_normal_in,
-    read_normal_peeking, read_normal_recording_peeking, same_message,
+    read_normal_peeking, read_recording, same_message,
 };
 use std::alloc::Global;
 
@@ -107,7 +107,7 @@ fn messages_at_hand_are_taken_whole(
       | None ↦ (source.old ≡ []) × (source.new ≡ [])
     ]) }
 {
-    read_message_peeking::<FromSlice, Buffered>(alloc, source)
+    read_message(alloc, source)
 }
 
 /// The normal form of the message at the front is read, and no octet after that message is taken; the octets that it had are recorded.
@@ -124,7 +124,8 @@ fn normal_forms_are_of_the_message_at_the_front(
           | None ↦ ⊥
         ]) }
 {
-    read_normal_recording_peeking::<Pieces, Unbuffered>(alloc, source, recorded)
+    let mut reader = NormalReader::new(alloc);
+    reader.read_recording(Profile::Two, source, Vec::new(alloc), recorded)
 }
 
 /// Of octets at hand no more are passed than the message has whose normal form is read.
@@ -139,7 +140,7 @@ fn normal_forms_at_hand_are_taken_whole(
           | None ↦ ⊥
         ]) }
 {
-    read_normal_peeking::<FromSlice, Buffered>(alloc, source)
+    read_normal(alloc, Profile::Two, source)
 }
 
 /// Nothing that is in the buffer comes into a normal form.
@@ -155,7 +156,7 @@ fn normal_forms_have_nothing_of_the_room(
           | None ↦ ⊥
         ]) }
 {
-    read_normal_in::<FromSlice, Buffered>(alloc, source, buffer)
+    NormalReader::new(alloc).read(Profile::Two, source, buffer)
 }
 
 /// Nothing that is in the buffer, or that the reader read before, comes into a normal form, or among the octets that are recorded.
@@ -173,7 +174,7 @@ fn kept_normal_forms_have_nothing_of_the_room(
           | None ↦ ⊥
         ]) }
 {
-    reader.read_recording::<Pieces, Unbuffered>(source, buffer, recorded)
+    reader.read_recording(Profile::Two, source, buffer, recorded)
 }
 
 /// Nothing that the reader read before comes into the normal form of a message.
@@ -190,7 +191,7 @@ fn messages_have_nothing_of_those_before(
           | None ↦ ⊥
         ]) }
 {
-    reader.read::<Pieces, Unbuffered>(profile, wants, source)
+    reader.read(profile, wants, source)
 }
 
 /// The message at the front is checked, and the result describes it.
@@ -224,7 +225,7 @@ fn checks_have_nothing_of_the_room(
           | None ↦ ⊥
         ]) }
 {
-    check_one_in::<Pieces, Unbuffered>(alloc, reader, source, buffer)
+    check_one_in(alloc, Profile::Two, reader, source, buffer)
 }
 
 /// Nothing is written before the whole message was read, and then as many octets as are reported.
@@ -307,7 +308,7 @@ fn messages_are_read_to_their_end(
         alloc,
         profile: Profile::Two,
     };
-    read_input::<WriteNormalForms, Pieces, Unbuffered, Room<64>, NoReports>(
+    read_input(
         STOPPING,
         &mut writer,
         source,

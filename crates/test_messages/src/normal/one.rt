@@ -3,10 +3,10 @@ use super::rows::{ROWS, octets_of_row};
 use super::sips::ShortWriter;
 use super::{EXPIRED, INDEFINITE_HEX, LONG_FORM};
 use ill_normal::{
-    Buffered, BufferedSource, Cause, FromSlice, Message, NodeId, NormalFailure, PartId, Pieces,
+    Cause, FromSlice, Message, NodeId, NormalFailure, PartId, Pieces,
     Refusal, Room, Source, apdu_name, decode, normal_form_is_accepted, normal_form_is_its_own,
     normal_forms_are_equal_exactly_if_apdus_are, normalise, one_prefix_is_accepted,
-    one_refusal_of_a_slice, read_message, read_message_peeking,
+    one_refusal_of_a_slice, read_message,
 };
 use std::alloc::{AllocError, Global};
 use std::test::Fail;
@@ -27,7 +27,7 @@ fn has_normal_form(alloc: Global, octets: &[u8], normal: &[u8], per_call: usize)
 
 /// Tells whether there is a message, and then this number of octets is at hand.
 fn leaves(alloc: Global, source: &mut FromSlice<'_>, count: usize) -> bool {
-    let read = read_message_peeking::<FromSlice<'_>, Buffered>(alloc, source);
+    let read = read_message(alloc, source);
     matches!(read, Ok(Some(_))) && source.buffered().len() == count
 }
 
@@ -40,7 +40,7 @@ fn is_taken_twice(alloc: Global, octets: &[u8]) -> Result<bool, AllocError> {
         leaves(alloc, &mut source, octets.len())
             && leaves(alloc, &mut source, 0)
             && matches!(
-                read_message_peeking::<FromSlice<'_>, Buffered>(alloc, &mut source),
+                read_message(alloc, &mut source),
                 Ok(None)
             ),
     )

@@ -1,8 +1,8 @@
 //! Messages one after another, where some are refused.
 use super::{EXPIRED, EXPIRED_HEX, INDEFINITE_HEX};
-use ber_core::{Buffered, FromSlice, Lookahead, Sink, Unbuffered};
+use ber_core::{FromSlice, Sink};
 use ill_normal::{
-    Broken, Cause, Counts, NodeId, NormalFailure, NotReported, OnRefusal, PartId, Pieces, Profile,
+    Broken, Cause, Counts, NodeId, NormalFailure, OnRefusal, PartId, Pieces, Profile,
     Reading, Refusal, RefusalReport, ReportRefusals, Room, RunFault, Source, StreamCause,
     StreamEnd, ToWrite, WriteNormalForms, normalise_stream, read_input,
 };
@@ -22,7 +22,7 @@ impl ReportRefusals for Reported {
 
     ghost reported = { λ _. None };
 
-    fn report(&mut self, report: RefusalReport, octets: &[u8]) -> Result<(), NotReported> {
+    fn report(&mut self, report: RefusalReport, octets: &[u8]) -> Result<(), RunFault> {
         let _ = self.reports.push(report);
         if report.octets.is_some() {
             let _ = self.octets.extend_from_slice(octets);
@@ -230,7 +230,7 @@ const GOING_ON: Reading = Reading {
 };
 
 /// Makes the call. Its contract is long, and the tests look at results alone.
-fn pass_over<R: Source, L: Lookahead<R>, W: Sink, T: ReportRefusals>(
+fn pass_over<R: Source, W: Sink, T: ReportRefusals>(
     alloc: Global,
     source: &mut R,
     sink: &mut W,
@@ -240,17 +240,17 @@ fn pass_over<R: Source, L: Lookahead<R>, W: Sink, T: ReportRefusals>(
         alloc,
         profile: Profile::Two,
     };
-    read_input::<WriteNormalForms, R, L, W, T>(GOING_ON, &mut writer, source, sink, reports)
+    read_input(GOING_ON, &mut writer, source, sink, reports)
 }
 
 /// Tells whether that comes of the messages of a source.
-fn comes_of<R: Source, L: Lookahead<R>>(alloc: Global, source: &mut R, want: &Want<'_>) -> bool {
+fn comes_of<R: Source>(alloc: Global, source: &mut R, want: &Want<'_>) -> bool {
     let mut octets = Vec::new(alloc);
     let mut reported = Reported {
         reports: Vec::new(alloc),
         octets: Vec::new(alloc),
     };
-    let result = pass_over::<R, L, ToWrite<&mut Vec<u8>>, Reported>(
+    let result = pass_over(
         alloc,
         source,
         &mut ToWrite::new(&mut octets),
@@ -313,11 +313,11 @@ fn comes_true(alloc: Global, row: &Row, octets: &[u8]) -> bool {
     };
     for per_call in [1, 5, 64] {
         let mut source = Pieces::new(octets, per_call, None);
-        if !comes_of::<Pieces<'_>, Unbuffered>(alloc, &mut source, &want) {
+        if !comes_of(alloc, &mut source, &want) {
             return false;
         }
     }
-    comes_of::<FromSlice<'_>, Buffered>(alloc, &mut FromSlice::new(octets), &want)
+    comes_of(alloc, &mut FromSlice::new(octets), &want)
 }
 
 #[test]
@@ -348,7 +348,7 @@ fn has_the_first(alloc: Global, octets: &[u8], n: usize) -> bool {
         reports: Vec::new(alloc),
         octets: Vec::new(alloc),
     };
-    let result = pass_over::<FromSlice<'_>, Buffered, Room<128>, Reported>(
+    let result = pass_over(
         alloc,
         &mut source,
         &mut sink,
@@ -411,7 +411,7 @@ fn leaves_what_was_whole(alloc: Global, octets: &[u8], n: usize) -> bool {
         reports,
     };
     let mut source = Pieces::new(octets, 64, Some(n));
-    comes_of::<Pieces<'_>, Unbuffered>(alloc, &mut source, &want)
+    comes_of(alloc, &mut source, &want)
 }
 
 #[test]
@@ -445,7 +445,7 @@ fn a_message_past_the_limit_is_passed_over(rt: HostRuntime) -> Result<(), Fail> 
         reports: &[(1, 0, 0, Cause::TooLong, Some(2_097_158))],
     };
     let mut source = FromSlice::new(&octets);
-    assert!(rt; comes_of::<FromSlice<'_>, Buffered>(rt.alloc(), &mut source, &want));
+    assert!(rt; comes_of(rt.alloc(), &mut source, &want));
     Ok(())
 }
 
@@ -487,7 +487,7 @@ impl ReportRefusals for Count {
 
     ghost reported = { λ _. None };
 
-    fn report(&mut self, report: RefusalReport, octets: &[u8]) -> Result<(), NotReported> {
+    fn report(&mut self, report: RefusalReport, octets: &[u8]) -> Result<(), RunFault> {
         let _ = report;
         let _ = octets;
         self.reports = self.reports.saturating_add(1);
@@ -504,10 +504,10 @@ impl ReportRefusals for TakesNone {
 
     ghost reported = { λ _. None };
 
-    fn report(&mut self, report: RefusalReport, octets: &[u8]) -> Result<(), NotReported> {
+    fn report(&mut self, report: RefusalReport, octets: &[u8]) -> Result<(), RunFault> {
         let _ = report;
         let _ = octets;
-        Err(NotReported)
+        Err(RunFault::NotReported)
     }
 }
 
@@ -516,7 +516,7 @@ fn a_report_that_is_not_taken_ends_the_work(rt: HostRuntime) -> Result<(), Fail>
     let octets = joined(rt.alloc(), BETWEEN)?;
     let mut source = FromSlice::new(&octets);
     let mut sink: Room<128> = Room::new(128, None);
-    let result = pass_over::<FromSlice<'_>, Buffered, Room<128>, TakesNone>(
+    let result = pass_over(
         rt.alloc(),
         &mut source,
         &mut sink,
@@ -541,7 +541,7 @@ fn a_million_refused_messages_are_enough(rt: HostRuntime) {
     let mut source = Nulls { at: false };
     let mut sink: Room<1> = Room::new(1, None);
     let mut count = Count { reports: 0 };
-    let result = pass_over::<Nulls, Unbuffered, Room<1>, Count>(
+    let result = pass_over(
         rt.alloc(),
         &mut source,
         &mut sink,

@@ -6,7 +6,7 @@ ghost use Rattle.ill_schema.specs.Profiles.{profile_of};
 ghost use Rattle.ill_read.specs.Feeding.{HasFailedWith, IsOpenAfter, IsWholeWith, MayTake};
 
 use ill_read::{
-    Decoder, Failure, NormalForm, Progress, decode_normal_as, decoders_are_apart, one_place,
+    Decoder, Failure, NormalForm, Progress, decode_normal, decoders_are_apart, one_place,
 };
 use ill_schema::{Message, Profile, Refusal};
 use std::alloc::Global;
@@ -119,7 +119,7 @@ fn slices_have_one_normal_form_in_each_profile(
         → result.1 ≡ Err (Failure.Refused x) → ⊥ }
 {
     (
-        decode_normal_as(alloc, profile, octets),
-        decode_normal_as(alloc, profile, octets),
+        decode_normal(alloc, profile, octets),
+        decode_normal(alloc, profile, octets),
     )
 }

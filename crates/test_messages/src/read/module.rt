@@ -1,8 +1,8 @@
 //! Worked inputs of the module profile through the reader of normal forms: whole, and octet by octet.
 use super::module_rows::ROWS;
 use super::refusal_text;
-use ber_core::{Pieces, Unbuffered};
-use ill_read::{Failure, NormalForm, ReadFailure, decode_normal_as, read_normal_as};
+use ber_core::Pieces;
+use ill_read::{Failure, NormalForm, ReadFailure, decode_normal, read_normal};
 use ill_schema::{Cause, Profile, Refusal};
 use std::alloc::{AllocError, Global};
 use std::test::Fail;
@@ -54,13 +54,13 @@ impl Worked {
     }
 
     fn whole(&self, alloc: Global) -> Result<bool, AllocError> {
-        let answer = decode_normal_as(alloc, self.profile, &self.octets);
+        let answer = decode_normal(alloc, self.profile, &self.octets);
         self.is_outcome(alloc, answer)
     }
 
     fn octet_by_octet(&self, alloc: Global) -> Result<bool, AllocError> {
         let mut source = Pieces::new(&self.octets, 1, None);
-        let answer = match read_normal_as::<_, Unbuffered>(alloc, self.profile, &mut source) {
+        let answer = match read_normal(alloc, self.profile, &mut source) {
             Ok(Some(normal)) => Ok(normal),
             Ok(None) => Err(Failure::Refused(Refusal {
                 at: 0,

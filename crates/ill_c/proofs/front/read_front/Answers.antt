@@ -10,7 +10,7 @@ pub returns-in-Ok-None : goal.returns-in-Ok-None
 returns-in-Ok-None c =
     let p = profile_of c.args.profile in
     let h = rw c.in-Ok-None.field-0-is at c.in-Ok-None.ensures.next in
-    let part = none_part c.args.profile c.new-source.result c.read_as.new.source h.none.0 h.none.1 in
+    let part = none_part c.args.profile c.new-source.result c.read.new.source h.none.0 h.none.1 in
     subst (IsPartIn p) c.new-source.ensures part
 
 pub returns-in-Truncated : goal.returns-in-Truncated

@@ -10,7 +10,7 @@ pub returns-in-Ok-Some : goal.returns-in-Ok-Some
 returns-in-Ok-Some c =
     let p = profile_of c.args.profile in
     let h = rw c.in-Ok-Some.field-0-is at c.in-Ok-Some.ensures.next in
-    let rest = c.read_as.new.source in
+    let rest = c.read.new.source in
     let split : c.args.octets.now ≡ h.message.0 ++ rest = sym c.new-source.ensures ∙ h.message.1 in
     subst (λ s. NormalAnswersIn p s c.whole.result) (sym split) (c.whole.ensures p h.message.0 rest (ap length split) h.message.2)
 
@@ -18,7 +18,7 @@ pub returns-in-Ok-None : goal.returns-in-Ok-None
 returns-in-Ok-None c =
     let p = profile_of c.args.profile in
     let h = rw c.in-Ok-None.field-0-is at c.in-Ok-None.ensures.next in
-    let none = none_refused c.args.profile c.new-source.result c.read_as.new.source h.none.0 h.none.1 in
+    let none = none_refused c.args.profile c.new-source.result c.read.new.source h.none.0 h.none.1 in
     rw c.refused.ensures (subst (λ s. RefusesWholeIn p s (fault Cause.Truncated 0)) c.new-source.ensures none)
 
 pub returns-in-Err-Refused : goal.returns-in-Err-Refused

@@ -11,7 +11,7 @@ pub returns-in-Ok-Some : goal.returns-in-Ok-Some
 returns-in-Ok-Some c =
     let next = rw c.in-Ok-Some.field-0-is at c.in-Ok-Some.ensures.next in
     let message = next.message in
-    let left' = Some c.check_one_in_as.new.source in
+    let left' = Some c.check_one_in.new.source in
     reads_message c.args.octets.now left' message.0 message.2.0.0 c.args.refusal (subst (λ (s : List ℕ). Consumes (Some s) left' message.0) c.new-source.ensures message.1) message.2.0.1
 
 pub returns-in-Err-Refused-2 : goal.returns-in-Err-Refused-2

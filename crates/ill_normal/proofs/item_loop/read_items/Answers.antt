@@ -1,7 +1,7 @@
 use Rattle.std.proofs.Common.{◌≡◌, ◌∙◌, ℕ, Some, ap, arith, inl, inr, refl, sym}
 use Rattle.std.proofs.KnownBytes.{Consumes-nil}
 use Rattle.ill_normal.specs.declared.counts.Counts.{Counts}
-use Rattle.ill_normal.proofs.ReadItems.{ends_broken_last, ends_here, ends_too_many, has_read_none}
+use Rattle.ill_normal.proofs.ReadItems.{ends_here, ends_past, has_read_none}
 use Rattle.ill_normal.proofs.item_loop.read_items.Goals as goal
 
 pub loop-before-init : goal.loop-before-init
@@ -38,12 +38,7 @@ returns-in-Ok-end_of_input-clause-reads g c =
     let end = c.in-Ok-end_of_input.ensures.end in
     rw c.ended-in-Ok-end_of_input.ensures (ends_here _ _ _ _ _ _ _ _ _ c.loop-before.invariant.read (omega (arith, full)) end.0 (inl end.1) refl refl)
 
-pub returns-in-Err-MoreOctets-clause-reads : goal.returns-in-Err-MoreOctets-clause-reads
-returns-in-Err-MoreOctets-clause-reads g c =
-    let full : c.loop-before.work.counts.messages ≡ 1_000_000 = omega (arith, c.loop-before.invariant.count, c.loop-before-test.false, c.loop-before.auto.before-end) in
-    rw c.ended-in-Err-MoreOctets.ensures (ends_too_many _ _ _ _ _ _ _ _ _ c.loop-before.invariant.read full (rw c.in-Err-MoreOctets.field-0-is at c.in-Err-MoreOctets.ensures.more) refl refl)
-
 pub returns-clause-reads : goal.returns-clause-reads
 returns-clause-reads g c =
     let full : c.loop-before.work.counts.messages ≡ 1_000_000 = omega (arith, c.loop-before.invariant.count, c.loop-before-test.false, c.loop-before.auto.before-end) in
-    rw c.ended-in-Err-Broken.ensures (ends_broken_last _ _ _ _ _ _ _ _ _ c.loop-before.invariant.read full (rw c.in-Err-Broken.field-0-is at c.in-Err-Broken.ensures.more) refl refl)
+    rw c.ended-in-Err-end_of_input.ensures (ends_past _ _ _ _ _ _ _ _ _ c.loop-before.invariant.read c.in-Err-end_of_input.fault full c.in-Err-end_of_input.ensures.more refl refl)

@@ -8,8 +8,7 @@ returns-in-Ok-eq0-clause-element g c =
 
 pub returns-in-Err-clause-broken : goal.returns-in-Err-clause-broken
 returns-in-Err-clause-broken g c is_broken =
-    let broken = c.in-Err.ensures.broken is_broken in
-    (broken.0, part_taken _ _ _ _ _ _ _ c.element.invariant.framing broken.1 (c.in-Err.ensures.part is_broken))
+    (c.in-Err.ensures.broken is_broken, part_taken _ _ _ _ _ _ _ c.element.invariant.framing (c.in-Err.ensures.part is_broken))
 
 pub element-preserved : goal.element-preserved
 element-preserved g c = record {

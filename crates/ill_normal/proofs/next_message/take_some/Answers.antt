@@ -1,19 +1,35 @@
-use Rattle.std.proofs.Common.{rules, ◌≡◌, ◌++◌, length, take, drop, refl, sym, subst, ap, ◌∙◌, arith}
-use Rattle.std.proofs.lemmas.List.{length-take-le, take-append-le}
+use Rattle.std.proofs.Common.{rules, ◌≡◌, ◌≤◌, ◌++◌, length, take, drop, refl, sym, subst, ap, ◌∙◌, arith}
+use Rattle.std.proofs.lemmas.List.{length-take-le, take-append-le, take-take}
 use Rattle.std.specs.Io.KnownBytes.{Consumes}
 use Rattle.std.proofs.KnownBytes.{Consumes-nil}
 use Rattle.ill_normal.proofs.TakenElements.{fed_no_more, takes_needed, takes_none, takes_seen}
+use Rattle.ber_core.proofs.Shown.{drops_shown}
+use Rattle.ber_framing.specs.Framed.{IsPartOfFrame}
 use Rattle.ill_normal.specs.code.Taking.{Takes}
 use Rattle.ill_normal.proofs.next_message.take_some.Goals as goal
 
-pub returns-in-Ok-clause-takes : goal.returns-in-Ok-clause-takes
-returns-in-Ok-clause-takes g c =
+pub returns-in-Ok-consume-clause-takes : goal.returns-in-Ok-consume-clause-takes
+returns-in-Ok-consume-clause-takes g c =
     let hand = c.buffered-hand.result.now in
     let n = c.feed-seen.result in
     let fed = c.feed-seen.ensures in
     takes_seen _ _ _ _ _ _ hand n c.if-seen-gt0.true fed.count
-    (subst (λ xs. Consumes (g.R.Source.left c.args.source.now) (g.R.Source.left c.consume.new.source) (take n xs)) (sym c.buffered-hand.ensures.hand) c.consume.ensures.octets)
+    (drops_shown (g.R.Source.left c.args.source.now) (g.R.Source.left c.consume.new.self) hand n c.buffered-hand.ensures.front fed.count c.in-Ok-consume.ensures.octets)
     fed.fed fed.within c.in-Ok.ensures
+
+pub returns-in-Err-consume-clause-part : goal.returns-in-Err-consume-clause-part
+returns-in-Err-consume-clause-part g c is b h =
+    let hand = c.buffered-hand.result.now in
+    let fed = c.feed-seen.ensures in
+    let fewer = c.in-Err-consume.ensures.part in
+    let k = fewer.0 in
+    let le : k ≤ length hand = omega (arith, fewer.1, fed.count) in (
+      take k hand,
+      drops_shown (g.R.Source.left c.args.source.now) (g.R.Source.left c.consume.new.self) hand k c.buffered-hand.ensures.front le fewer.2,
+      fed.within b k h fewer.1,
+      λ n lt. let size = length-take-le k hand le in
+          subst (λ z. IsPartOfFrame (b ++ z)) (sym (take-take n k hand (omega (arith, lt, size)))) (fed.within b n h (omega (arith, lt, size, fewer.1))),
+    )
 
 pub returns-then-wanted-eq0-clause-takes : goal.returns-then-wanted-eq0-clause-takes
 returns-then-wanted-eq0-clause-takes g c =

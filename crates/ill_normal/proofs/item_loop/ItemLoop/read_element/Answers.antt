@@ -1,5 +1,5 @@
 use Rattle.std.proofs.Common.{arith, inl, refl}
-use Rattle.ill_normal.proofs.ReadItems.{comes_with, ends_broken, ends_here, ends_unread, takes_on}
+use Rattle.ill_normal.proofs.ReadItems.{comes_with, ends_here, ends_untaken, takes_on}
 use Rattle.ill_normal.proofs.item_loop.ItemLoop.read_element.Goals as goal
 
 pub write_refused-requires-clause-comes : goal.write_refused-requires-clause-comes
@@ -27,17 +27,8 @@ returns-in-Ok-AtEnd-clause-steps g c =
       ends = λ from k. rw c.ended.ensures (ends_here _ _ _ _ _ from _ _ _ k (omega (arith, c.requires.few)) end.0 (inl end.1) refl refl);
     }
 
-pub returns-in-Err-OutOfMemory-clause-steps : goal.returns-in-Err-OutOfMemory-clause-steps
-returns-in-Err-OutOfMemory-clause-steps g c = record {
+pub returns-in-Err-clause-steps : goal.returns-in-Err-clause-steps
+returns-in-Err-clause-steps g c = record {
   next = λ from k. tt;
-  ends = λ from k. rw c.ended-in-Err-OutOfMemory.ensures (ends_unread _ _ _ _ _ from _ _ _ k c.requires.few (takes_on c.args.self.now.reading.on_refusal _ _ c.requires.on) refl refl);
+  ends = λ from k. rw c.ended-in-Err.ensures (ends_untaken _ _ _ _ _ from _ _ _ k c.in-Err.fault c.in-Err.ensures.failed c.requires.few (takes_on c.args.self.now.reading.on_refusal _ _ c.requires.on) c.in-Err.ensures.broken refl refl);
 }
-
-pub returns-in-Err-Broken-clause-steps : goal.returns-in-Err-Broken-clause-steps
-returns-in-Err-Broken-clause-steps g c =
-    let broken = c.in-Err-Broken.ensures.broken c.in-Err-Broken.field-0-is in
-    record {
-      next = λ from k. tt;
-      ends = λ from k. rw c.ended-in-Err-Broken.ensures (ends_broken _ _ _ _ _ from _ _ _ k c.requires.few (takes_on c.args.self.now.reading.on_refusal _ _ c.requires.on) broken.0
-          (broken.1.octets, broken.1.taken, broken.1.unfinished (g.I.WriteItems.reads (g.I.WriteItems.options c.args.writer.now))) refl refl);
-    }

@@ -23,7 +23,7 @@ returns-in-Err-report-clause-steps g c = λ left now u v h.
     let put = subst (λ r. Puts writes (refused r octets) c.in-Ok.written held held') c.requires.place (rw c.as_slice.ensures.value at c.in-Ok.ensures.puts) in
     record {
       next = λ from k. tt;
-      ends = λ from k. rw c.ended.ensures (ends_unreported _ _ _ _ _ from _ _ _ k c.requires.few c.requires.on
+      ends = λ from k. rw (c.ended.ensures, c.in-Err-report.ensures.fault) (ends_unreported _ _ _ _ _ from _ _ _ k c.requires.few c.requires.on
           (record { octets = octets; refusal = c.args.report.refusal; end = c.args.report.octets; is = h; put = (c.in-Ok.written, put); none = c.in-Err-report.ensures.refused }));
     }
 

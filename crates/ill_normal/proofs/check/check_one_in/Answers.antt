@@ -12,7 +12,7 @@ use Rattle.ill_schema.specs.Profiles.{profile_of}
 use Rattle.ill_normal.proofs.Canonical.{spells_once}
 use Rattle.ill_normal.proofs.DescribedMessages.{described}
 use Rattle.ill_normal.proofs.InputAnswers.{none_is_no_spelling, read_fails_accepts}
-use Rattle.ill_normal.proofs.check.check_one_in_as.Goals as goal
+use Rattle.ill_normal.proofs.check.check_one_in.Goals as goal
 
 pub returns-in_err-normal-clause-accepts : goal.returns-in_err-normal-clause-accepts
 returns-in_err-normal-clause-accepts g c =
@@ -28,8 +28,8 @@ returns-clause-next g c =
     let h = rw c.in-Some.is at c.in_ok-normal.ensures.next in
     let eq = slice_eq-Decides Decides-eqb c.as_slice.result.now c.as_slice-2.result.now c.eq.result c.eq.ensures in
     let checked : Checked = record { apdu = c.apdu_number.result; octets = c.in-Some.normal.input_len; normal = c.len.result; is_normal = c.eq.result } in
-    reads_as (λ (n : NormalForm) (b : List ℕ). IsNormalIn p n b × (c.read_recording_as.new.recorded.items ≡ c.new-recorded.result.items ++ b)) (λ found b. DescribesIn p found.0 b × IsFormIn p found.1.items b)
-    (g.R.Source.left c.args.source.now) (g.R.Source.left c.read_recording_as.new.source) (g.R.Source.is_broken c.args.source.now) (g.R.Source.is_broken c.read_recording_as.new.source)
+    reads_as (λ (n : NormalForm) (b : List ℕ). IsNormalIn p n b × (c.read_recording.new.recorded.items ≡ c.new-recorded.result.items ++ b)) (λ found b. DescribesIn p found.0 b × IsFormIn p found.1.items b)
+    (g.R.Source.left c.args.source.now) (g.R.Source.left c.read_recording.new.source) (g.R.Source.is_broken c.args.source.now) (g.R.Source.is_broken c.read_recording.new.source)
     c.in-Some.normal (checked, c.in-Some.normal.octets)
     (λ b is. (
       described p checked c.in-Some.normal b _ is.0 (is.1 ∙ ap (λ x. x ++ b) c.new-recorded.ensures.items)
