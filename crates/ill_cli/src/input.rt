@@ -5,13 +5,10 @@ ghost use Rattle.ill_inputs.specs.Inputs.{verdict_if};
 ghost use Rattle.ill_commands.specs.Lines.{LinesDone};
 ghost use Rattle.ill_cli.specs.code.Puts.{AreElementsPut, IsJobPut};
 
-use crate::refused::KeepRefused;
 use crate::report_lines::PrintReports;
 use crate::tally::Tally;
 use ber_core::{Sink, Source};
-use ill_commands::{
-    JobOptions, LineOptions, LinesFault, RunFault, Verdict, run_job, run_lines_as, verdict_of,
-};
+use ill_commands::{JobOptions, LineOptions, RunFault, Verdict, run_job, run_lines_as, verdict_of};
 use ill_dump::{DumpOptions, run_dump};
 use ill_files::{MissingMessage, ProgramError};
 use std::alloc::Global;
@@ -19,11 +16,10 @@ use std::io::Write;
 
 /// Does a job with the messages of a source. A line is printed for each refused one that the work goes on after.
 pub(crate) fn put_messages<R: Eprint + AllocGlobal, S: Source, W: Sink, P, Q>(
-    rt: &R,
     work: JobOptions<'_>,
     source: &mut S,
     sink: &mut W,
-    kept: KeepRefused<'_, P, Q>,
+    mut reports: PrintReports<'_, R, P, Q>,
     tally: &mut Tally<'_>,
 ) -> Result<Verdict, ProgramError>
 where
@@ -32,21 +28,18 @@ where
     ensures { IfOk result (λ verdict. IsJobPut work.entry
         (taking (S.left source.old) (S.left source.new) (S.is_broken source.new)) verdict) }
 {
-    let name = work.names_input.then_some(work.name);
-    let mut reports = PrintReports::new(rt, name, work.job.is_json(), kept, tally);
-    let end = run_job(rt.alloc(), work, source, sink, &mut reports);
-    reports.add_to(tally);
-    let counts = tally.add_input(end, work.on_refusal, reports.last)?;
+    let end = run_job(reports.rt.alloc(), work, source, sink, &mut reports);
+    let last = reports.kept.end(tally);
+    let counts = tally.add_input(end, work.on_refusal, last)?;
     Ok(verdict_of(work.job, counts))
 }
 
 /// Writes the elements of the messages of a source. A line is printed for each refused one that the work goes on after.
 pub(crate) fn put_elements<R: Eprint + AllocGlobal, S: Source, W: Sink, P, Q>(
-    rt: &R,
     dump: DumpOptions<'_>,
     source: &mut S,
     sink: &mut W,
-    kept: KeepRefused<'_, P, Q>,
+    mut reports: PrintReports<'_, R, P, Q>,
     tally: &mut Tally<'_>,
 ) -> Result<Verdict, ProgramError>
 where
@@ -55,11 +48,9 @@ where
     ensures { IfOk result (λ verdict. AreElementsPut dump.entry
         (taking (S.left source.old) (S.left source.new) (S.is_broken source.new)) verdict) }
 {
-    let name = dump.names_input.then_some(dump.name);
-    let mut reports = PrintReports::new(rt, name, false, kept, tally);
-    let end = run_dump(rt.alloc(), dump, source, sink, &mut reports);
-    reports.add_to(tally);
-    let counts = tally.add_input(end, dump.on_refusal, reports.last)?;
+    let end = run_dump(reports.rt.alloc(), dump, source, sink, &mut reports);
+    let last = reports.kept.end(tally);
+    let counts = tally.add_input(end, dump.on_refusal, last)?;
     match missing_message(dump, counts.messages) {
         Some(error) => Err(error),
         None if counts.refused == 0 => Ok(Verdict::Good),
@@ -91,8 +82,7 @@ pub(crate) fn put_lines<S: Source, W: Sink>(
     match run_lines_as(alloc, work.profile, work.job, source, sink) {
         Ok(true) => Ok(Verdict::Good),
         Ok(false) => Ok(Verdict::NotGood),
-        Err(LinesFault::OutOfMemory) => Err(ProgramError::out_of_memory()),
-        Err(LinesFault::ReadFault) => Err(ProgramError::from(RunFault::ReadFault)),
-        Err(LinesFault::WriteFault) => Err(ProgramError::Flush),
+        Err(RunFault::WriteFault(_)) => Err(ProgramError::Flush),
+        Err(fault) => Err(ProgramError::from(fault)),
     }
 }

@@ -4,7 +4,7 @@ use crate::refused::KeepRefused;
 use crate::tally::Tally;
 use ill_files::{FileNameRef, ProgressLine, RunLine};
 use ill_inputs::RunFault;
-use ill_normal::{RefusalReport, ReportRefusals, RunFault};
+use ill_normal::{RefusalReport, ReportRefusals};
 use std::fmt;
 use std::io::Write;
 
@@ -31,7 +31,51 @@ impl fmt::Display for ReportLine {
     }
 }
 
-/// Prints a line for each refused message, with the name of its file where there are several.
+/// Keeps the octets of refused messages, and counts the messages up to the limit.
+#[derive(Drop)]
+pub struct KeepReports<'a, P: Write + Drop, Q: Write + Drop> {
+    /// Gets the octets of the messages.
+    kept: KeepRefused<'a, P, Q>,
+    /// The number of refused messages that the work goes on to.
+    limit: RefusalLimit,
+    /// The refused message with which the work ended, if it is the last one that the limit allows.
+    last: Option<RefusalReport>,
+}
+
+impl<'a, P: Write + Drop, Q: Write + Drop> KeepReports<'a, P, Q> {
+    /// No message was refused yet.
+    pub fn new(kept: KeepRefused<'a, P, Q>, limit: RefusalLimit) -> KeepReports<'a, P, Q> {
+        KeepReports {
+            kept,
+            limit,
+            last: None,
+        }
+    }
+
+    /// Adds its counts to those of the command, and returns the refused message with which the work ended, if there is one.
+    pub fn end(self, tally: &mut Tally<'_>) -> Option<RefusalReport> {
+        self.kept.add_to(tally);
+        tally.limit = self.limit;
+        self.last
+    }
+}
+
+impl<P: Write + Drop, Q: Write + Drop> ReportRefusals for KeepReports<'_, P, Q> {
+    ghost use Rattle.std.specs.Prelude.{None};
+
+    ghost reported = { λ _. None };
+
+    fn report(&mut self, report: RefusalReport, octets: &[u8]) -> Result<(), RunFault> {
+        self.kept.keep(report, octets);
+        if self.limit.ends_with_next() {
+            self.last = Some(report);
+            return Err(RunFault::NotReported);
+        }
+        Ok(())
+    }
+}
+
+/// Prints a line for each refused message, with the name of its file where there are several, and keeps the messages.
 #[derive(Drop)]
 pub struct PrintReports<'a, R, P: Write + Drop, Q: Write + Drop> {
     pub rt: &'a R,
@@ -39,39 +83,7 @@ pub struct PrintReports<'a, R, P: Write + Drop, Q: Write + Drop> {
     /// True if the name is the file's own, not yet escaped for printing.
     pub is_raw: bool,
     pub progress: &'a ProgressLine,
-    /// Gets the octets of the messages.
-    pub kept: KeepRefused<'a, P, Q>,
-    /// The number of refused messages that the work goes on to.
-    pub limit: RefusalLimit,
-    /// The refused message with which the work ended, if it is the last one that the limit allows.
-    pub last: Option<RefusalReport>,
-}
-
-impl<'a, R, P: Write + Drop, Q: Write + Drop> PrintReports<'a, R, P, Q> {
-    /// Reports the refused messages of an input, whose lines have this name, if there is one.
-    pub fn new(
-        rt: &'a R,
-        name: Option<&'a str>,
-        is_raw: bool,
-        kept: KeepRefused<'a, P, Q>,
-        tally: &Tally<'a>,
-    ) -> PrintReports<'a, R, P, Q> {
-        PrintReports {
-            rt,
-            name,
-            is_raw,
-            progress: tally.progress,
-            kept,
-            limit: tally.limit,
-            last: None,
-        }
-    }
-
-    /// Adds its counts to those of the command.
-    pub fn add_to(&self, tally: &mut Tally<'_>) {
-        self.kept.add_to(tally);
-        tally.limit = self.limit;
-    }
+    pub kept: KeepReports<'a, P, Q>,
 }
 
 impl<R: Eprint, P: Write + Drop, Q: Write + Drop> ReportRefusals for PrintReports<'_, R, P, Q> {
@@ -80,7 +92,6 @@ impl<R: Eprint, P: Write + Drop, Q: Write + Drop> ReportRefusals for PrintReport
     ghost reported = { λ _. None };
 
     fn report(&mut self, report: RefusalReport, octets: &[u8]) -> Result<(), RunFault> {
-        self.kept.keep(report, octets);
         let line = ReportLine(report);
         self.progress.clear(self.rt);
         // A line that can't be written changes nothing of the work.
@@ -91,10 +102,6 @@ impl<R: Eprint, P: Write + Drop, Q: Write + Drop> ReportRefusals for PrintReport
             Some(name) => eprintln!(self.rt; "illcanon: {name}: {line}"),
             None => eprintln!(self.rt; "illcanon: {line}"),
         };
-        if self.limit.ends_with_next() {
-            self.last = Some(report);
-            return Err(RunFault::NotReported);
-        }
-        Ok(())
+        self.kept.report(report, octets)
     }
 }

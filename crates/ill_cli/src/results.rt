@@ -1,24 +1,30 @@
 //! Results as lines of JSON, those of refused messages among them.
 ghost use Rattle.std.specs.Prelude.{◌≡◌, IfOk};
 ghost use Rattle.ill_normal.specs.Calls.{taking};
-ghost use Rattle.ill_normal.specs.declared.messages.OnRefusal.{OnRefusal as Mode};
 ghost use Rattle.ill_inputs.specs.declared.place.RefusalPlace.{RefusalPlace};
+ghost use Rattle.ill_commands.specs.Output.{is_counted_good};
 ghost use Rattle.ill_commands.specs.Refusals.{IsRefusedLine};
-ghost use Rattle.ill_cli.specs.code.Puts.{IsJobPut};
+ghost use Rattle.ill_commands.specs.code.Rendering.{needs_of};
+ghost use Rattle.ill_cli.specs.code.Puts.{AreLinesPut};
+ghost use Rattle.ill_cli.specs.code.Results.{BreaksResult, WritesResult};
 ghost use Rattle.ill_cli.specs.Plans.{is_json_result};
 
-use crate::limit::RefusalLimit;
-use crate::refused::KeepRefused;
+use crate::report_lines::KeepReports;
 use crate::tally::Tally;
 use ber_core::{Sink, Source, put_all};
 use ill_commands::{
-    Job, JobOptions, RefusalKind, RefusalReport, RefusedLine, ReportRefusals, RunFault, Verdict,
-    refused_json, run_job, verdict_of,
+    Job, JobOptions, RefusalKind, RefusalReport, RefusedLine, Verdict, WriteJob, refused_json,
+    verdict_of,
 };
 use ill_dump::place_of_refusal;
 use ill_files::ProgramError;
+use ill_normal::{
+    MessagePlace, PutError, ReadMessage, Reading, Wants, WriteItems, Written, read_input,
+};
+use ill_schema::Profile;
 use std::alloc::{AllocError, Global};
 use std::io::Write;
+use std::mem;
 
 /// Tells whether the results of a job are lines of JSON.
 pub(crate) fn has_json_result(job: Job) -> bool
@@ -27,91 +33,97 @@ pub(crate) fn has_json_result(job: Job) -> bool
     matches!(job, Job::CheckJson | Job::DigestJson)
 }
 
-/// Writes the line of each message that is refused, and counts the kinds of refusals.
+/// Writes a line of JSON for each message of an input, accepted or refused.
 #[derive(Drop)]
-pub(crate) struct WriteRefused<'a, V, P: Write + Drop, Q: Write + Drop> {
+pub(crate) struct WriteResults<'a> {
     alloc: Global,
-    work: JobOptions<'a>,
-    sink: V,
-    /// Memory for a line.
+    /// Writes the lines of accepted messages.
+    job: WriteJob<'a>,
+    /// Memory for the line of a refused message.
     buffer: Vec<u8>,
     /// The number of messages that are only not read.
     not_read: u32,
-    /// Gets the octets of the messages.
-    kept: KeepRefused<'a, P, Q>,
-    /// The number of messages that the work goes on to.
-    limit: RefusalLimit,
-    /// The reason why the work ended with a message.
-    stop: Option<Stop>,
 }
 
-/// The reason why the work ends with a refused message.
-#[derive(Clone, Copy)]
-enum Stop {
-    /// Its line was not written.
-    Fault(RunFault),
-    /// It is the last one that the limit allows.
-    Limit(RefusalReport),
-}
-
-impl<'a, V, P: Write + Drop, Q: Write + Drop> WriteRefused<'a, V, P, Q> {
-    /// No message was refused yet. The lines go to `sink`.
-    pub(crate) fn new(
-        alloc: Global,
-        work: JobOptions<'a>,
-        sink: V,
-        kept: KeepRefused<'a, P, Q>,
-        limit: RefusalLimit,
-    ) -> WriteRefused<'a, V, P, Q>
-        ensures { result.work ≡ work.entry }
+impl<'a> WriteResults<'a> {
+    /// A writer for this work.
+    pub(crate) fn new(alloc: Global, work: JobOptions<'a>) -> WriteResults<'a>
+        ensures { result.job.work ≡ work.entry }
     {
-        WriteRefused {
+        WriteResults {
             alloc,
-            work,
-            sink,
+            job: WriteJob::new(alloc, work),
             buffer: Vec::new(alloc),
             not_read: 0,
-            kept,
-            limit,
-            stop: None,
         }
     }
 }
 
-impl<V: Sink, P: Write + Drop, Q: Write + Drop> WriteRefused<'_, V, P, Q> {
-    /// Writes the line of a message.
-    fn write(&mut self, report: RefusalReport, octets: &[u8]) -> Result<(), RunFault> {
-        let mut buffer = Vec::new(self.alloc);
-        std::mem::swap(&mut buffer, &mut self.buffer);
-        let RefusedLine { line, kind } = line_of(self.alloc, self.work, report, octets, buffer)?;
+impl<'a> WriteItems for WriteResults<'a> {
+    type Options = JobOptions<'a>;
+
+    ghost options = { λ writer. writer.job.work };
+
+    ghost is_ready = { λ _. Unit {0} };
+
+    ghost reads = { λ work. work.profile };
+
+    ghost needs = { λ work. needs_of work.job work.compares };
+
+    ghost writes = { λ work. WritesResult work };
+
+    ghost fails = { λ work. BreaksResult work };
+
+    ghost is_good = { λ work. is_counted_good work };
+
+    fn alloc(&self) -> Global {
+        self.alloc
+    }
+
+    fn profile(&self) -> Profile {
+        self.job.profile()
+    }
+
+    fn wants(&self) -> Wants {
+        self.job.wants()
+    }
+
+    fn accepted<W: Sink>(
+        &mut self,
+        place: MessagePlace,
+        message: &mut ReadMessage,
+        sink: &mut W,
+    ) -> Result<Written, PutError> {
+        self.job.accepted(place, message, sink)
+    }
+
+    fn refused<W: Sink>(
+        &mut self,
+        report: RefusalReport,
+        octets: &[u8],
+        sink: &mut W,
+    ) -> Result<u64, PutError> {
+        let buffer = mem::replace(&mut self.buffer, Vec::new(self.alloc));
+        let RefusedLine { line, kind } = match line_of(
+            self.alloc,
+            self.job.work,
+            report,
+            octets,
+            buffer,
+        ) {
+            Ok(refused) => refused,
+            Err(AllocError) => return Err(PutError::OutOfMemory),
+        };
         if kind == RefusalKind::NotRead {
             self.not_read = self.not_read.saturating_add(1);
         }
-        let written = put_all(&mut self.sink, &line);
+        let put = put_all(sink, &line);
+        let len = line.len() as u64;
         self.buffer = line;
-        match written {
-            Ok(()) => Ok(()),
-            Err(count) => Err(RunFault::WriteFault(count as u128)),
+        match put {
+            Ok(()) => Ok(len),
+            Err(count) => Err(PutError::Broken(count as u64)),
         }
-    }
-}
-
-impl<V: Sink, P: Write + Drop, Q: Write + Drop> ReportRefusals for WriteRefused<'_, V, P, Q> {
-    ghost use Rattle.std.specs.Prelude.{None};
-
-    ghost reported = { λ _. None };
-
-    fn report(&mut self, report: RefusalReport, octets: &[u8]) -> Result<(), RunFault> {
-        self.kept.keep(report, octets);
-        if let Err(fault) = self.write(report, octets) {
-            self.stop = Some(Stop::Fault(fault));
-            return Err(RunFault::NotReported);
-        }
-        if self.limit.ends_with_next() {
-            self.stop = Some(Stop::Limit(report));
-            return Err(RunFault::NotReported);
-        }
-        Ok(())
     }
 }
 
@@ -130,31 +142,29 @@ fn line_of(
     refused_json(alloc, work, report, octets, &place, buffer)
 }
 
-/// Writes the result of each message, of refused ones too. Their lines go to `reports`, which has a second sink to the output.
-pub(crate) fn put_results<S: Source, W: Sink + Drop, P, Q>(
+/// Writes the result of each message of a source, of refused ones too.
+pub(crate) fn put_results<S: Source, W: Sink, P, Q>(
+    mut writer: WriteResults<'_>,
     source: &mut S,
     sink: &mut W,
-    mut reports: WriteRefused<'_, W, P, Q>,
+    mut reports: KeepReports<'_, P, Q>,
     tally: &mut Tally<'_>,
 ) -> Result<Verdict, ProgramError>
 where
     P: Write + Drop,
     Q: Write + Drop,
-    ensures { let work = reports.entry.work in work.on_refusal ≡ Mode.GoOn
-        → IfOk result (λ verdict. IsJobPut work
+    ensures { let work = writer.entry.job.work in IfOk result (λ verdict. AreLinesPut work
         (taking (S.left source.old) (S.left source.new) (S.is_broken source.new)) verdict) }
 {
-    let alloc = reports.alloc;
-    let work = reports.work;
-    let end = run_job(alloc, work, source, sink, &mut reports);
-    reports.kept.add_to(tally);
-    tally.limit = reports.limit;
-    tally.summary.add_not_read(reports.not_read);
-    let last = match reports.stop {
-        Some(Stop::Fault(fault)) => return Err(tally.fail(end.counts, fault)),
-        Some(Stop::Limit(last)) => Some(last),
-        None => None,
+    let work = writer.job.work;
+    let reading = Reading {
+        hex: work.hex,
+        on_refusal: work.on_refusal,
+        only: None,
     };
+    let end = read_input(reading, &mut writer, source, sink, &mut reports);
+    let last = reports.end(tally);
+    tally.summary.add_not_read(writer.not_read);
     let counts = tally.add_input(end, work.on_refusal, last)?;
     Ok(verdict_of(work.job, counts))
 }

@@ -7,7 +7,8 @@ use crate::input::{put_elements, put_lines, put_messages};
 use crate::limit::RefusalLimit;
 use crate::plan::{Action, InputAction};
 use crate::refused::RefusedFile;
-use crate::results::{WriteRefused, has_json_result, put_results};
+use crate::report_lines::{KeepReports, PrintReports};
+use crate::results::{WriteResults, has_json_result, put_results};
 use crate::tally::Tally;
 use ber_core::{Source, ToWrite};
 use ill_commands::{JobOptions, OnRefusal, Verdict};
@@ -74,14 +75,26 @@ impl<'a, 'r, 'p, R: Print + Eprint + Files + AllocGlobal> Run<'a, 'r, 'p, R> {
                 self.put_json_lines(work, source, output)
             }
             InputAction::Messages(work) => {
-                let kept = self.refused.keeper();
+                let reports = PrintReports {
+                    rt: self.rt,
+                    name: work.names_input.then_some(work.name),
+                    is_raw: work.job.is_json(),
+                    progress: self.tally.progress,
+                    kept: KeepReports::new(self.refused.keeper(), self.tally.limit),
+                };
                 let sink = &mut sink_to(output);
-                put_messages(self.rt, work, source, sink, kept, &mut self.tally)
+                put_messages(work, source, sink, reports, &mut self.tally)
             }
             InputAction::Elements(dump) => {
-                let kept = self.refused.keeper();
+                let reports = PrintReports {
+                    rt: self.rt,
+                    name: dump.names_input.then_some(dump.name),
+                    is_raw: false,
+                    progress: self.tally.progress,
+                    kept: KeepReports::new(self.refused.keeper(), self.tally.limit),
+                };
                 let sink = &mut sink_to(output);
-                put_elements(self.rt, dump, source, sink, kept, &mut self.tally)
+                put_elements(dump, source, sink, reports, &mut self.tally)
             }
             InputAction::Lines(work) => {
                 // The results of lines are there before more input is waited for.
@@ -105,7 +118,6 @@ impl<'a, 'r, 'p, R: Print + Eprint + Files + AllocGlobal> Run<'a, 'r, 'p, R> {
         ensures { IfOk result (λ verdict. AreResultsPut work.entry
             (taking (B.left source.old) (B.left source.new) (B.is_broken source.new)) verdict) }
     {
-        let alloc = self.rt.alloc();
         let goes_on = work.on_refusal == OnRefusal::GoOn;
         let limit = if goes_on {
             self.tally.limit
@@ -116,10 +128,15 @@ impl<'a, 'r, 'p, R: Print + Eprint + Files + AllocGlobal> Run<'a, 'r, 'p, R> {
             on_refusal: OnRefusal::GoOn,
             ..work
         };
-        let mut sink = sink_to(output);
-        let kept = self.refused.keeper();
-        let reports = WriteRefused::new(alloc, each, sink_to(output), kept, limit);
-        match put_results(source, &mut sink, reports, &mut self.tally) {
+        let writer = WriteResults::new(self.rt.alloc(), each);
+        let reports = KeepReports::new(self.refused.keeper(), limit);
+        match put_results(
+            writer,
+            source,
+            &mut sink_to(output),
+            reports,
+            &mut self.tally,
+        ) {
             // The message with which the work ended has its line.
             Err(ProgramError::RefusedEnough(_)) if !goes_on => Ok(Verdict::NotGood),
             done => done,

@@ -48,3 +48,7 @@ refused_head r kind = record { number = r.message; offset = r.offset; octets = r
 abbrev pub IsRefusedLine : JobOptions → RefusalReport → List ℕ → RefusalPlace → RefusalKind → List ℕ → Type 0
 IsRefusedLine work r octets place kind line = HasKind work.profile octets r.refusal kind
     × (line ≡ refused_line_of (file_of work.names_input work.name.now) (refused_head r kind) (apdu_begun octets) place)
+
+-- the line of a message of these octets that is refused, with some words for its place
+abbrev pub IsLineOfRefused : JobOptions → RefusalReport → List ℕ → List ℕ → Type 0
+IsLineOfRefused work r octets line = (place : RefusalPlace) × (kind : RefusalKind) × IsRefusedLine work r octets place kind line

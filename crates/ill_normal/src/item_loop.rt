@@ -89,7 +89,8 @@ impl ItemLoop {
         }
     }
 
-    /// Reads the next message, and has it written.
+    /// Reads the next message, and has it written. Where the work goes on after refused messages, its element is taken first, and a refused one is
+    /// written and reported.
     #[inline(always)]
     fn step<I: WriteItems, R: Source, W: Sink, T: ReportRefusals>(
         &mut self,
@@ -118,10 +119,23 @@ impl ItemLoop {
             → IsTrue (R.is_broken source.new) }
         ensures sink_stays { IsTrue (W.is_broken sink.old) → IsTrue (W.is_broken sink.new) }
     {
-        match self.reading.on_refusal {
-            OnRefusal::Stop => self.read_message(writer, source, sink),
-            OnRefusal::EndWith => self.read_message(writer, source, sink),
-            OnRefusal::GoOn => self.read_element(writer, source, sink, reports),
+        let OnRefusal::GoOn = self.reading.on_refusal else {
+            return self.read_message(writer, source, sink);
+        };
+        match take_message(
+            writer.profile(),
+            writer.wants(),
+            &mut self.reader,
+            source,
+            &mut self.recorded,
+        ) {
+            Ok(NextMessage::Read) => self.write_accepted(writer, sink),
+            Ok(NextMessage::Refused { refusal, end }) => {
+                let report = RefusalReport::new(self.counts.next_place(), refusal, end);
+                self.write_refused(report, writer, sink, reports)
+            }
+            Ok(NextMessage::AtEnd) => Err(self.ended(None)),
+            Err(fault) => Err(self.ended(Some(fault))),
         }
     }
 
@@ -163,52 +177,6 @@ impl ItemLoop {
             }
             Err(ReadFailure::OutOfMemory) => Err(self.ended(Some(RunFault::OutOfMemory))),
             Err(ReadFailure::ReadFault) => Err(self.ended(Some(RunFault::ReadFault))),
-        }
-    }
-
-    /// Takes the next element, where the work goes on, and has the message written, or written and reported if it is refused.
-    fn read_element<I: WriteItems, R: Source, W: Sink, T: ReportRefusals>(
-        &mut self,
-        writer: &mut I,
-        source: &mut R,
-        sink: &mut W,
-        reports: &mut T,
-    ) -> Result<(), StreamEnd>
-        requires ready { I.is_ready writer.old }
-        requires few { self.old.counts.messages < 1_000_000 }
-        requires counted { IsCounted self.old.counts }
-        requires on { self.old.reading.on_refusal ≡ Mode.GoOn }
-        ensures steps { Steps self.old.reading (profile_of (I.reads (I.options writer.old)))
-            (I.writes (I.options writer.old)) (I.fails (I.options writer.old))
-            (I.is_good (I.options writer.old))
-            (streams (R.left source.old) (R.is_broken source.old) (W.contents sink.old)
-            (W.is_broken sink.old) (T.reported reports.old))
-            (streams (R.left source.new) (R.is_broken source.new) (W.contents sink.new)
-            (W.is_broken sink.new) (T.reported reports.new))
-            self.old.counts self.new.counts result }
-        ensures counted { OnOk result (IsCounted self.new.counts) }
-        ensures one { OnOk result (self.new.counts.messages ≡ self.old.counts.messages + 1) }
-        ensures ready { OnOk result (I.is_ready writer.new) }
-        ensures options { I.options writer.new ≡ I.options writer.old }
-        ensures reading { self.new.reading ≡ self.old.reading }
-        ensures source_stays { IsTrue (R.is_broken source.old)
-            → IsTrue (R.is_broken source.new) }
-        ensures sink_stays { IsTrue (W.is_broken sink.old) → IsTrue (W.is_broken sink.new) }
-    {
-        match take_message(
-            writer.profile(),
-            writer.wants(),
-            &mut self.reader,
-            source,
-            &mut self.recorded,
-        ) {
-            Ok(NextMessage::Read) => self.write_accepted(writer, sink),
-            Ok(NextMessage::Refused { refusal, end }) => {
-                let report = RefusalReport::new(self.counts.next_place(), refusal, end);
-                self.write_refused(report, writer, sink, reports)
-            }
-            Ok(NextMessage::AtEnd) => Err(self.ended(None)),
-            Err(fault) => Err(self.ended(Some(fault))),
         }
     }
 

@@ -7,9 +7,8 @@ ghost use Rattle.ber_leaf.specs.Content.{IsContent};
 ghost use Rattle.ber_leaf.specs.Leaf.{normal_content};
 
 use ber_core::{
-    Broken, Class, FromBuffer, FromRead, FromSlice, Header, HeaderFault,
-    HeaderState, Id, Pieces, Room, Sink, Source, ToWrite, header_size,
-    put_header,
+    Broken, Class, FromBuffer, FromRead, FromSlice, Header, HeaderFault, HeaderState, Id, Pieces,
+    Room, Sink, Source, ToWrite, header_size, put_header,
 };
 use ber_leaf::{
     BitString, DateText, GeneralText, IllString, Leaf, ObjectDescriptor, ObjectIdentifier,
@@ -237,7 +236,8 @@ fn slices_show_what_is_left(octets: &[u8], count: usize) -> FromSlice<'_>
     let mut source = FromSlice::new(octets);
     prove!(source.buffered() == octets);
     prove!(!source.broken());
-    source.consume(count);
+    let taken = source.consume(count);
+    prove!(taken.is_ok());
     source
 }
 
@@ -260,7 +260,9 @@ fn buffers_lose_nothing(
     let Ok(shown) = Vec::from_slice(alloc, source.buffered()) else {
         return None;
     };
-    source.consume(shown.len());
+    let Ok(()) = source.consume(shown.len()) else {
+        return None;
+    };
     let Ok(last) = source.take(other) else {
         return None;
     };
@@ -281,20 +283,18 @@ fn buffers_say_that_they_broke<R: Read + Drop>(
     Ok(())
 }
 
-/// Takes of a source the octets that it shows.
-fn sources_give_what_they_show<R: Source>(
-    source: &mut R,
-    alloc: Global,
-) -> Result<Result<Vec<u8>, Broken>, AllocError>
-    ensures octets { IfOk result (λ taken. IfOk taken
-        (λ shown. Consumes (R.left source.old) (R.left source.new) shown.items)) }
-    ensures broken { IfOk result (λ taken. IsErr taken → IsTrue (R.is_broken source.new)) }
+/// Takes of a source the octets that it shows, and returns them; None where there is no memory, or the source is broken.
+fn sources_give_what_they_show<R: Source>(source: &mut R, alloc: Global) -> Option<Vec<u8>>
+    ensures { IfSome result (λ shown. Consumes (R.left source.old) (R.left source.new)
+        shown.items) }
 {
-    let shown = Vec::from_slice(alloc, source.buffered())?;
-    match source.consume(shown.len()) {
-        Ok(()) => Ok(Ok(shown)),
-        Err(Broken) => Ok(Err(Broken)),
-    }
+    let Ok(shown) = Vec::from_slice(alloc, source.buffered()) else {
+        return None;
+    };
+    let Ok(()) = source.consume(shown.len()) else {
+        return None;
+    };
+    Some(shown)
 }
 
 /// A slice shows all that is left, and can be taken as it is shown.

@@ -195,6 +195,7 @@ fn sources_show_what_is_at_hand_or_nothing(rt: HostRuntime) {
 }
 
 /// A source that says that it has octets at hand, and has no `consume` of its own.
+#[derive(Drop)]
 struct Plain<'a> {
     octets: Pieces<'a>,
 }

@@ -14,6 +14,7 @@ use Rattle.ill_normal.specs.Reading.{reporting}
 use Rattle.ill_normal.specs.declared.messages.OnRefusal.{OnRefusal}
 use Rattle.ill_normal.specs.declared.messages.StreamEnd.{StreamEnd}
 use Rattle.ill_cli.specs.Plans.{is_json_result}
+use Rattle.ill_cli.specs.code.Results.{RunsResults}
 use Rattle.ill_cli.specs.declared.plan.InputAction.{InputAction}
 
 -- an input was read as far as was asked: there is no fault, or the end of its last message is unknown, which was reported
@@ -28,9 +29,15 @@ IsJobPut work source verdict =
     (end : StreamEnd) × (output : Putting) × (verdict ≡ verdict_of_counts work.job end.counts) × IsRead work.on_refusal end.fault
     × RunsJob work source output (reporting None None) end
 
--- a job was done whose results are lines of JSON: of refused messages, too; with the first of them the work may end, and that is not good
+-- a job was done whose results are lines of JSON, of refused messages, too
+abbrev pub AreLinesPut : JobOptions → Taking → Verdict → Type 0
+AreLinesPut work source verdict =
+    (end : StreamEnd) × (output : Putting) × (verdict ≡ verdict_of_counts work.job end.counts) × IsRead work.on_refusal end.fault
+    × RunsResults work source output (reporting None None) end
+
+-- with the first refused message the work may end, and that is not good
 abbrev pub AreResultsPut : JobOptions → Taking → Verdict → Type 0
-AreResultsPut work source verdict = (verdict ≡ Verdict.NotGood) ⊎ IsJobPut (record work { on_refusal = OnRefusal.GoOn }) source verdict
+AreResultsPut work source verdict = (verdict ≡ Verdict.NotGood) ⊎ AreLinesPut (record work { on_refusal = OnRefusal.GoOn }) source verdict
 
 abbrev pub AreMessagesPut : Bool → JobOptions → Taking → Verdict → Type 0
 AreMessagesPut true work source verdict = AreResultsPut work source verdict

@@ -32,20 +32,8 @@ fn inputs_end_in_one_way(
     ensures { (e : RunFault) → result.0.fault ≡ None → result.1.fault ≡ Some e → IsResourceFault e }
 {
     (
-        run_dump(
-            alloc,
-            dump,
-            source,
-            sink,
-            &mut NoReports,
-        ),
-        run_dump(
-            alloc,
-            dump,
-            other,
-            other_sink,
-            &mut NoReports,
-        ),
+        run_dump(alloc, dump, source, sink, &mut NoReports),
+        run_dump(alloc, dump, other, other_sink, &mut NoReports),
     )
 }
 
@@ -80,13 +68,7 @@ fn dumps_fail_where_something_is_broken(
     sink: &mut Room<64>,
     alloc: Global,
 ) {
-    let end = run_dump(
-        alloc,
-        dump,
-        source,
-        sink,
-        &mut NoReports,
-    );
+    let end = run_dump(alloc, dump, source, sink, &mut NoReports);
     match end.fault {
         Some(RunFault::ReadFault) => {
             prove!(source.broken());

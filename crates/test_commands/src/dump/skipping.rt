@@ -3,8 +3,7 @@ use super::{PLAIN, SPELLED, result_of};
 use ber_core::{Pieces, Room};
 use ill_dump::{DumpOptions, run_dump};
 use ill_normal::{
-    Cause, Counts, OnRefusal, Refusal, RefusalReport, ReportRefusals, RunFault,
-    StreamEnd,
+    Cause, Counts, OnRefusal, Refusal, RefusalReport, ReportRefusals, RunFault, StreamEnd,
 };
 use std::alloc::{AllocError, Global};
 use std::test::Fail;
@@ -84,13 +83,7 @@ fn dump_of(alloc: Global, dump: DumpOptions<'_>, octets: &[u8]) -> Result<Dumped
         on_refusal: OnRefusal::GoOn,
         ..dump
     };
-    let end = run_dump(
-        alloc,
-        dump,
-        &mut source,
-        &mut sink,
-        &mut reported,
-    );
+    let end = run_dump(alloc, dump, &mut source, &mut sink, &mut reported);
     Ok(Dumped {
         text: sink.octets().to_vec(alloc)?,
         reports: reported.reports,

@@ -1,5 +1,5 @@
 //! Lines of `json_line`, row by row.
-use ber_core::{FromSlice};
+use ber_core::FromSlice;
 use ill_json::{LineHead, json_line, json_line_as};
 use ill_read::{Outline, read_outline};
 use ill_schema::Profile;

@@ -326,13 +326,7 @@ fn counts(alloc: Global, octets: &[u8], work: JobOptions<'_>, good: u32) -> bool
     let mut source = Pieces::new(octets, 4096, None);
     let mut written = Vec::new(alloc);
     let mut sink = ToWrite::new(&mut written);
-    let end = run_job(
-        alloc,
-        work,
-        &mut source,
-        &mut sink,
-        &mut NoReports,
-    );
+    let end = run_job(alloc, work, &mut source, &mut sink, &mut NoReports);
     let counts = Counts {
         messages: 2,
         refused: 0,

@@ -4,8 +4,8 @@ use super::given::{EXPIRED, Given};
 use ber_core::{FromBuffer, Pieces};
 use ber_leaf::Segments;
 use ill_normal::{ReadFailure, check_one, is_normal, same_message};
-use ill_read::{Decoder, Failure, Progress, decode, read_message, read_recording};
-use ill_schema::Message;
+use ill_read::{Decoder, Failure, NormalReader, Progress, decode, read_message};
+use ill_schema::{Message, Profile};
 use std::alloc::Global;
 use test_support::Outcome;
 
@@ -30,7 +30,7 @@ pub fn calls(alloc: Global, given: &Given) -> [Row; 15] {
         ("decode", of_decoding(decode(alloc, EXPIRED).map(|_| true))),
         ("Decoder::feed and finish", feed(alloc)),
         ("read_message", read(alloc)),
-        ("read_recording", read_and_keep(alloc)),
+        ("NormalReader::read_recording", read_and_keep(alloc)),
         ("check_one", check(alloc)),
         ("same_message", same(alloc)),
         ("is_normal", of_decoding(is_normal(alloc, EXPIRED))),
@@ -106,7 +106,11 @@ fn read(alloc: Global) -> Outcome {
 fn read_and_keep(alloc: Global) -> Outcome {
     let mut source = Pieces::new(EXPIRED, 64, None);
     let mut kept = Vec::new(alloc);
-    of_reading(read_recording(alloc, &mut source, &mut kept))
+    let mut reader = NormalReader::new(alloc);
+    match reader.read_recording(Profile::Two, &mut source, Vec::new(alloc), &mut kept) {
+        Ok(read) => Outcome::right(read.is_some()),
+        Err(failure) => Outcome::out_of_memory(failure == ReadFailure::OutOfMemory),
+    }
 }
 
 fn check(alloc: Global) -> Outcome {

@@ -9,13 +9,12 @@ ghost use Rattle.ill_schema.specs.Profiles.{profile_of};
 ghost use Rattle.ill_inputs.specs.declared.run_fault.RunFault.{RunFault as Fault};
 ghost use Rattle.ill_normal.specs.Messages.{AreSpelled, Spelling};
 
-use ber_core::{Buffered, FromSlice, Pieces, Room, Sink, Source};
+use ber_core::{FromSlice, Pieces, Room, Sink, Source};
 use ill_normal::{
     Checked, Failure, Message, MessageReader, NoReports, NormalFailure, NormalForm, NormalReader,
     OnRefusal, Profile, ReadFailure, Reading, Refusal, RunFault, Side, StreamEnd, StreamFailure,
     Wants, WriteNormalForms, check_one, check_one_in, decode, decode_normal, is_normal, normalise,
-    normalise_stream, read_input, read_message, read_message_peeking, read_normal_in,
-    read_normal_peeking, read_recording, same_message,
+    normalise_stream, read_input, read_message, read_normal, same_message,
 };
 use std::alloc::Global;
 
@@ -56,7 +55,7 @@ fn slices_have_the_normal_form_of_their_message(
     ensures normal { (x : Refusal) (n : NormalForm) → result.0 ≡ Err (Failure.Refused x)
         → result.1 ≡ Ok n → ⊥ }
 {
-    (decode(alloc, octets), decode_normal(alloc, octets))
+    (decode(alloc, octets), decode_normal(alloc, Profile::Two, octets))
 }
 
 /// Two slices are the same exactly where they spell one APDU, and exactly where the normal forms of what they spell are equal.
@@ -308,11 +307,5 @@ fn messages_are_read_to_their_end(
         alloc,
         profile: Profile::Two,
     };
-    read_input(
-        STOPPING,
-        &mut writer,
-        source,
-        sink,
-        &mut NoReports,
-    )
+    read_input(STOPPING, &mut writer, source, sink, &mut NoReports)
 }

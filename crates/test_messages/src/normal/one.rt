@@ -3,8 +3,8 @@ use super::rows::{ROWS, octets_of_row};
 use super::sips::ShortWriter;
 use super::{EXPIRED, INDEFINITE_HEX, LONG_FORM};
 use ill_normal::{
-    Cause, FromSlice, Message, NodeId, NormalFailure, PartId, Pieces,
-    Refusal, Room, Source, apdu_name, decode, normal_form_is_accepted, normal_form_is_its_own,
+    Cause, FromSlice, Message, NodeId, NormalFailure, PartId, Pieces, Refusal, Room, Source,
+    apdu_name, decode, normal_form_is_accepted, normal_form_is_its_own,
     normal_forms_are_equal_exactly_if_apdus_are, normalise, one_prefix_is_accepted,
     one_refusal_of_a_slice, read_message,
 };
@@ -39,10 +39,7 @@ fn is_taken_twice(alloc: Global, octets: &[u8]) -> Result<bool, AllocError> {
     Ok(
         leaves(alloc, &mut source, octets.len())
             && leaves(alloc, &mut source, 0)
-            && matches!(
-                read_message(alloc, &mut source),
-                Ok(None)
-            ),
+            && matches!(read_message(alloc, &mut source), Ok(None)),
     )
 }
 

@@ -2,9 +2,9 @@
 use super::{EXPIRED, EXPIRED_HEX, INDEFINITE_HEX};
 use ber_core::{FromSlice, Sink};
 use ill_normal::{
-    Broken, Cause, Counts, NodeId, NormalFailure, OnRefusal, PartId, Pieces, Profile,
-    Reading, Refusal, RefusalReport, ReportRefusals, Room, RunFault, Source, StreamCause,
-    StreamEnd, ToWrite, WriteNormalForms, normalise_stream, read_input,
+    Broken, Cause, Counts, NodeId, NormalFailure, OnRefusal, PartId, Pieces, Profile, Reading,
+    Refusal, RefusalReport, ReportRefusals, Room, RunFault, Source, StreamCause, StreamEnd,
+    ToWrite, WriteNormalForms, normalise_stream, read_input,
 };
 use std::alloc::Global;
 use std::test::Fail;
@@ -250,12 +250,7 @@ fn comes_of<R: Source>(alloc: Global, source: &mut R, want: &Want<'_>) -> bool {
         reports: Vec::new(alloc),
         octets: Vec::new(alloc),
     };
-    let result = pass_over(
-        alloc,
-        source,
-        &mut ToWrite::new(&mut octets),
-        &mut reported,
-    );
+    let result = pass_over(alloc, source, &mut ToWrite::new(&mut octets), &mut reported);
     result == want.result
         && are_expireds(&octets, want.written)
         && are_reported(&reported, want.input, want.reports)
@@ -348,12 +343,7 @@ fn has_the_first(alloc: Global, octets: &[u8], n: usize) -> bool {
         reports: Vec::new(alloc),
         octets: Vec::new(alloc),
     };
-    let result = pass_over(
-        alloc,
-        &mut source,
-        &mut sink,
-        &mut reported,
-    );
+    let result = pass_over(alloc, &mut source, &mut sink, &mut reported);
     let (messages, good, before, reports, written) = if n < 33 {
         (0, 0, 0, [].as_slice(), 0)
     } else {
@@ -516,12 +506,7 @@ fn a_report_that_is_not_taken_ends_the_work(rt: HostRuntime) -> Result<(), Fail>
     let octets = joined(rt.alloc(), BETWEEN)?;
     let mut source = FromSlice::new(&octets);
     let mut sink: Room<128> = Room::new(128, None);
-    let result = pass_over(
-        rt.alloc(),
-        &mut source,
-        &mut sink,
-        &mut TakesNone,
-    );
+    let result = pass_over(rt.alloc(), &mut source, &mut sink, &mut TakesNone);
     let end = StreamEnd {
         counts: Counts {
             messages: 1,
@@ -541,12 +526,7 @@ fn a_million_refused_messages_are_enough(rt: HostRuntime) {
     let mut source = Nulls { at: false };
     let mut sink: Room<1> = Room::new(1, None);
     let mut count = Count { reports: 0 };
-    let result = pass_over(
-        rt.alloc(),
-        &mut source,
-        &mut sink,
-        &mut count,
-    );
+    let result = pass_over(rt.alloc(), &mut source, &mut sink, &mut count);
     let end = StreamEnd {
         counts: Counts {
             messages: 1_000_000,

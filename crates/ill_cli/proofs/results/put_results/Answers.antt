@@ -4,7 +4,7 @@ use Rattle.ill_normal.specs.Calls.{putting}
 use Rattle.ill_cli.proofs.results.put_results.Goals as goal
 
 pub returns : goal.returns
-returns g c goes_on =
-    let verdict = c.verdict_of.ensures ∙ ap (λ counts. verdict_of_counts c.args.reports.work.job counts) c.in_ok-counts.ensures.read.0 in
-    let output = putting (g.W.Sink.contents c.args.sink.now) (g.W.Sink.contents c.run_job-end.new.sink) (g.W.Sink.is_broken c.run_job-end.new.sink) in
-    (c.run_job-end.result, output, verdict, c.in_ok-counts.ensures.read.1, c.run_job-end.ensures.reads)
+returns g c =
+    let verdict = c.verdict_of.ensures ∙ ap (λ counts. verdict_of_counts c.args.writer.job.work.job counts) c.in_ok-counts.ensures.read.0 in
+    let output = putting (g.W.Sink.contents c.args.sink.now) (g.W.Sink.contents c.read_input-end.new.sink) (g.W.Sink.is_broken c.read_input-end.new.sink) in
+    (c.read_input-end.result, output, verdict, c.in_ok-counts.ensures.read.1, c.read_input-end.ensures.reads)

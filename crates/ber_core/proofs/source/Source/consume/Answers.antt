@@ -13,7 +13,7 @@ pub taken-preserved : goal.taken-preserved
 taken-preserved g c =
     let one : length c.take.new.buffer ≡ 1 = search rules in
     record {
-  taken = drops_more (g.Self.Source.left c.args.self.now) (g.Self.Source.left c.taken.self) (g.Self.Source.left c.take.new.self) c.take.new.buffer c.taken.counter c.in_ok-take.field-0 c.args.count
-      c.taken.invariant.taken c.requires.left c.taken-test.true (omega (arith, c.in_ok-take.ensures.count, one)) one c.in_ok-take.ensures.octets.0 c.in_ok-take.ensures.octets.1;
-  stays = λ h. c.in_ok-take.ensures.stays (c.taken.invariant.stays h);
-}
+      taken = drops_more (g.Self.Source.left c.args.self.now) (g.Self.Source.left c.taken.self) (g.Self.Source.left c.take.new.self) c.take.new.buffer c.taken.counter c.in_ok-take.field-0 c.args.count
+          c.taken.invariant.taken c.requires.left c.taken-test.true (omega (arith, c.in_ok-take.ensures.count, one)) one c.in_ok-take.ensures.octets.0 c.in_ok-take.ensures.octets.1;
+      stays = λ h. c.in_ok-take.ensures.stays (c.taken.invariant.stays h);
+    }
