@@ -9,9 +9,7 @@ use crate::refused::KeepRefused;
 use crate::report_lines::PrintReports;
 use crate::tally::Tally;
 use ber_core::{Sink, Source};
-use ill_commands::{
-    JobOptions, LineOptions, LinesFault, RunFault, Verdict, run_job, run_lines_as, verdict_of,
-};
+use ill_commands::{JobOptions, LineOptions, RunFault, Verdict, run_job, run_lines_as, verdict_of};
 use ill_dump::{DumpOptions, run_dump};
 use ill_files::{MissingMessage, ProgramError};
 use std::alloc::Global;
@@ -91,8 +89,7 @@ pub(crate) fn put_lines<S: Source, W: Sink>(
     match run_lines_as(alloc, work.profile, work.job, source, sink) {
         Ok(true) => Ok(Verdict::Good),
         Ok(false) => Ok(Verdict::NotGood),
-        Err(LinesFault::OutOfMemory) => Err(ProgramError::out_of_memory()),
-        Err(LinesFault::ReadFault) => Err(ProgramError::from(RunFault::ReadFault)),
-        Err(LinesFault::WriteFault) => Err(ProgramError::Flush),
+        Err(RunFault::WriteFault(_)) => Err(ProgramError::Flush),
+        Err(fault) => Err(ProgramError::from(fault)),
     }
 }
