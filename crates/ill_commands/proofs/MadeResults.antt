@@ -4,11 +4,11 @@ use Rattle.std.specs.Io.KnownBytes.{Appends, Consumes, IsAtEnd}
 use Rattle.std.proofs.KnownBytes.{Appends-nil, Appends-trans}
 use Rattle.std.proofs.lemmas.List.{map-append, take-append-drop}
 use Rattle.std.proofs.Math.Seq.{take-append-add}
+use Rattle.ill_inputs.specs.declared.run_fault.RunFault.{RunFault}
 use Rattle.ill_normal.specs.Calls.{putting}
 use Rattle.ill_commands.specs.Lines.{Answer, AreAnswers, EndsWithin, LinesDone, all_results_good, has_line_end, lines, result_lines}
 use Rattle.ill_commands.specs.code.After.{Answers, HasWritten, IsAfter, StandsAfter}
 use Rattle.ill_commands.specs.declared.lines.job.LineOptions.{LineOptions}
-use Rattle.ill_commands.specs.declared.lines.job.LinesFault.{LinesFault}
 use Rattle.ill_commands.specs.declared.lines.reader.LineReader.{LineReader}
 use Rattle.ill_inputs.proofs.PartEnds.{last_part}
 use Rattle.ill_commands.proofs.LineEnds.{answer, more_good, more_made, none_of, push_are, result_of_line, texts}
@@ -55,45 +55,50 @@ module _ (work : LineOptions) (s octets put : List ℕ) (now : LineReader) where
   made_of_fed (Ok t) h k = made_all h
   made_of_fed (Err e) h k = made_some k.0 k.1
 
--- what was ready is written
-pub has_written : (work : LineOptions) (s put : List ℕ) (first held held' : Option (List ℕ)) (old new : LineReader) → StandsAfter work s put old → Appends first held put → Appends held held' old.ready.items
-    → new.ready.items ≡ [] → new.part.items ≡ old.part.items → new.is_good ≡ old.is_good → HasWritten work s first held' new
-has_written work s put first held held' old new h a b ready part good =
-    let all = put ++ old.ready.items in (
-      all,
-      Appends-trans first held held' put old.ready.items a b,
-      record {
-        answers = h.answers;
-        rest = h.rest;
-        of = h.of;
-        unended = h.unended;
-        is_kept = part ∙ h.is_kept;
-        are = h.are;
-        is_made = ap (λ l. all ++ l) ready ∙ append-nil all ∙ h.is_made;
-        is_good = good ∙ h.is_good;
-      },
-      ready,
+-- what was ready is written, and counted
+pub has_written : (work : LineOptions) (s put : List ℕ) (first held held' : Option (List ℕ)) (old new : LineReader) (n n' : ℕ) → StandsAfter work s put old → Appends first held put → Appends held held' old.ready.items
+    → new.ready.items ≡ [] → new.part.items ≡ old.part.items → new.is_good ≡ old.is_good → n ≡ length put → n' ≡ n + length old.ready.items → (h : HasWritten work s first held' new) × (n' ≡ length h.0)
+has_written work s put first held held' old new n n' h a b ready part good before now =
+    let all = put ++ old.ready.items in
+    let count : n' ≡ length (put ++ old.ready.items) = omega (arith, before, now, length-append put old.ready.items) in (
+      (
+        all,
+        Appends-trans first held held' put old.ready.items a b,
+        record {
+          answers = h.answers;
+          rest = h.rest;
+          of = h.of;
+          unended = h.unended;
+          is_kept = part ∙ h.is_kept;
+          are = h.are;
+          is_made = ap (λ l. all ++ l) ready ∙ append-nil all ∙ h.is_made;
+          is_good = good ∙ h.is_good;
+        },
+        ready,
+      ),
+      count,
     )
 
 module _ (work : LineOptions) (s rest : List ℕ) (good x y : Bool) (first held : Option (List ℕ)) where
-  pub ends_memory : (put : List ℕ) → Made work s rest put good → Appends first held put → EndsWithin work s x (putting first held y) LinesFault.OutOfMemory
+  pub ends_memory : (put : List ℕ) → Made work s rest put good → Appends first held put → EndsWithin work s x (putting first held y) RunFault.OutOfMemory
   ends_memory put m a = record { answers = m.answers; rest = rest; of = m.of; are = m.are; ends = subst (Appends first held) m.is_made a }
 
-  pub ends_read : (put : List ℕ) → Made work s rest put good → Appends first held put → has_line_end rest ≡ false → IsTrue x → EndsWithin work s x (putting first held y) LinesFault.ReadFault
+  pub ends_read : (put : List ℕ) → Made work s rest put good → Appends first held put → has_line_end rest ≡ false → IsTrue x → EndsWithin work s x (putting first held y) RunFault.ReadFault
   ends_read put m a none broke = record { answers = m.answers; rest = rest; of = m.of; are = m.are; ends = (broke, none, subst (Appends first held) m.is_made a) }
 
-  pub ends_write : (put ready : List ℕ) (held' : Option (List ℕ)) (n : ℕ) → Made work s rest (put ++ ready) good → Appends first held put → n < length ready → Appends held held' (take n ready) → IsTrue y
-      → EndsWithin work s x (putting first held' y) LinesFault.WriteFault
-  ends_write put ready held' n m a lt b broke =
+  pub ends_write : (put ready : List ℕ) (held' : Option (List ℕ)) (written n : ℕ) → Made work s rest (put ++ ready) good → Appends first held put → written ≡ length put → n < length ready
+      → Appends held held' (take n ready) → IsTrue y → EndsWithin work s x (putting first held' y) (RunFault.WriteFault (written + n))
+  ends_write put ready held' written n m a count lt b broke =
       let all : result_lines m.answers ≡ put ++ ready = sym m.is_made in
-      let less : length put + n < length (result_lines m.answers) = omega (arith, lt, ap length all, length-append put ready) in
-      let front : put ++ take n ready ≡ take (length put + n) (result_lines m.answers) = sym (ap (take (length put + n)) all ∙ take-append-add put ready n) in
+      let less : written + n < length (result_lines m.answers) = omega (arith, lt, count, ap length all, length-append put ready) in
+      let front : put ++ take n ready ≡ take (written + n) (result_lines m.answers) =
+      sym (ap (λ k. take (k + n) (result_lines m.answers)) count ∙ ap (take (length put + n)) all ∙ take-append-add put ready n) in
       record {
         answers = m.answers;
         rest = rest;
         of = m.of;
         are = m.are;
-        ends = (broke, (length put + n, less, subst (Appends first held') front (Appends-trans first held held' put (take n ready) a b)));
+        ends = (broke, less, subst (Appends first held') front (Appends-trans first held held' put (take n ready) a b));
       }
 
 -- ---- the end of the input
@@ -135,12 +140,16 @@ lines_done work s put good left left' first held m taken end a = record {
 }
 
 -- before the first octet
-pub at_start : (work : LineOptions) (first : Option (List ℕ)) (now : LineReader) → now.part.items ≡ [] → now.ready.items ≡ [] → now.is_good ≡ all_results_good [] → HasWritten work [] first first now
+pub at_start : (work : LineOptions) (first : Option (List ℕ)) (now : LineReader) → now.part.items ≡ [] → now.ready.items ≡ [] → now.is_good ≡ all_results_good []
+    → (h : HasWritten work [] first first now) × (0 ≡ length h.0)
 at_start work first now part ready good = (
-  [],
-  Appends-nil first,
-  record { answers = []; rest = []; of = λ more. refl; unended = refl; is_kept = part; are = tt; is_made = ready; is_good = good },
-  ready,
+  (
+    [],
+    Appends-nil first,
+    record { answers = []; rest = []; of = λ more. refl; unended = refl; is_kept = part; are = tt; is_made = ready; is_good = good },
+    ready,
+  ),
+  refl,
 )
 
 pub is_zero : (n : ℕ) → (n == 0) ≡ true → n ≡ 0

@@ -22,7 +22,6 @@ use Rattle.ill_normal.specs.CheckWords.{check_words}
 use Rattle.ill_commands.specs.Words.{hex_words, refusal_words}
 use Rattle.ill_commands.specs.declared.lines.job.LineJob.{LineJob}
 use Rattle.ill_commands.specs.declared.lines.job.LineOptions.{LineOptions}
-use Rattle.ill_commands.specs.declared.lines.job.LinesFault.{LinesFault}
 
 -- each line is ended by a line feed; the last may be ended by the end of the input
 abbrev pub lines : List ℕ → List (List ℕ)
@@ -92,20 +91,21 @@ pub record LinesDone (work : LineOptions) (left left' held held' : Option (List 
   pub is_verdict : good ≡ all_results_good answers
 
 -- what was written of the results of the first lines, where the call ended early; `rest` is what was taken after them
-abbrev pub Ends : Bool → Putting → List Answer → List ℕ → LinesFault → Type 0
-Ends source_broken sink answers rest LinesFault.OutOfMemory = Appends sink.held sink.held' (result_lines answers)
-Ends source_broken sink answers rest LinesFault.ReadFault =
+abbrev pub Ends : Bool → Putting → List Answer → List ℕ → RunFault → Type 0
+Ends source_broken sink answers rest RunFault.OutOfMemory = Appends sink.held sink.held' (result_lines answers)
+Ends source_broken sink answers rest RunFault.ReadFault =
     IsTrue source_broken × (has_line_end rest ≡ false) × Appends sink.held sink.held' (result_lines answers)
-Ends source_broken sink answers rest LinesFault.WriteFault =
-    IsTrue sink.broken × ((n : ℕ) × (n < length (result_lines answers)) × Appends sink.held sink.held' (take n (result_lines answers)))
+Ends source_broken sink answers rest (RunFault.WriteFault n) =
+    IsTrue sink.broken × (n < length (result_lines answers)) × Appends sink.held sink.held' (take n (result_lines answers))
+Ends source_broken sink answers rest _ = ⊥
 
 -- these octets were taken, and the call ended early
-pub record EndsWithin (work : LineOptions) (octets : List ℕ) (source_broken : Bool) (sink : Putting) (fault : LinesFault) : Type 0 where
+pub record EndsWithin (work : LineOptions) (octets : List ℕ) (source_broken : Bool) (sink : Putting) (fault : RunFault) : Type 0 where
   pub answers : List Answer
   pub rest : List ℕ
   pub of : lines octets ≡ map (λ a. a.text) answers ++ lines rest
   pub are : AreAnswers work answers
   pub ends : Ends source_broken sink answers rest fault
 
-abbrev pub LinesFail : LineOptions → Taking → Putting → LinesFault → Type 0
+abbrev pub LinesFail : LineOptions → Taking → Putting → RunFault → Type 0
 LinesFail work source sink fault = (octets : List ℕ) × Consumes source.left source.left' octets × EndsWithin work octets source.broken sink fault

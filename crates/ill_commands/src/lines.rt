@@ -10,5 +10,5 @@ mod result;
 mod run;
 mod words;
 
-pub use job::{LineJob, LineOptions, LinesFault};
+pub use job::{LineJob, LineOptions};
 pub use run::{run_lines, run_lines_as};

@@ -14,13 +14,14 @@ use Rattle.ill_text.specs.Shown.{Place, entry_lines, is_empty, item_lines, item_
 use Rattle.ill_text.specs.Shown.{entry_text}
 use Rattle.ill_grammar.specs.Marks.{IsEntry, is_at_end, is_there, octets_in}
 use Rattle.ill_tables.specs.Names.{row_name, row_node}
-use Rattle.ill_text.specs.code.FieldPaths.{head_line, place_at}
+use Rattle.ill_text.specs.code.FieldPaths.{head_line, place_at, place_of}
 use Rattle.ill_text.specs.Shown.{shown_text_in}
 use Rattle.ber_leaf.specs.Profile.{Profile}
 use Rattle.ill_schema.specs.Apdu.{Apdu, root}
 use Rattle.ill_text.specs.code.Sending.{Adds, Sending}
 use Rattle.ill_text.specs.code.FieldPaths.{is_nothing, path_of}
 use Rattle.ill_text.specs.declared.field_path.FieldPath.{FieldPath, Start, Row, Item, the_lemmas}
+use Rattle.ill_text.specs.declared.field_path.FieldPlace.{FieldPlace}
 use Rattle.ill_text.proofs.Sent.{adds_then, adds_as}
 use Rattle.ill_grammar.proofs.MarkedValues.{no_entry, no_item, mark_step}
 
@@ -264,13 +265,16 @@ line_quoted p o e =
 
 -- ---- where a part and an item are
 
-pub part_place : (path : Bor FieldPath) (name : Bor (List ℕ)) (node inner : NodeId) (i : ℕ) → name.now ≡ row_name node i → inner ≡ row_node node i → place_at (Row path name) name.now inner ≡ part (place_at path.now [] node) i
-part_place path name node inner i n k =
-    ap (λ x. let p : Place = record { path = x; name = name.now; node = inner } in p) (path_of-Row path name)
-    ∙ ap₂ (λ (x : List ℕ) (y : NodeId). let p : Place = record { path = within (path_of path.now) x; name = x; node = y } in p) n k
+pub part_place : (p : FieldPlace) (name : Bor (List ℕ)) (inner : NodeId) (i : ℕ) → name.now ≡ row_name p.node i
+    → inner ≡ row_node p.node i → place_at (Row p.path name) name.now inner ≡ part (place_of p) i
+part_place p name inner i n k =
+    ap (λ x. let q : Place = record { path = x; name = name.now; node = inner } in q) (path_of-Row p.path name)
+    ∙ ap₂ (λ (x : List ℕ) (y : NodeId). let q : Place = record { path = within (path_of p.path.now) x; name = x; node = y } in q) n k
 
-pub item_place : (path : Bor FieldPath) (name : List ℕ) (node inner : NodeId) (i : ℕ) → inner ≡ row_node node 0 → place_at (Item path i) name inner ≡ item_of (place_at path.now name node) i
-item_place path name node inner i k = ap₂ (λ (x : List ℕ) (y : NodeId). let p : Place = record { path = x; name = name; node = y } in p) (path_of-Item path i) k
+pub item_place : (p : FieldPlace) (inner : NodeId) (i : ℕ) → inner ≡ row_node p.node 0
+    → place_at (Item p.path i) p.name.now inner ≡ item_of (place_of p) i
+item_place p inner i k =
+    ap₂ (λ (x : List ℕ) (y : NodeId). let q : Place = record { path = x; name = p.name.now; node = y } in q) (path_of-Item p.path i) k
 
 -- the text of a message: its first line, and the lines of its body
 pub body_lines : (profile : Profile) (i row : ℕ) (node : NodeId) (a : Apdu) (p : Place) → node ≡ root profile → row ≡ a.number - 1

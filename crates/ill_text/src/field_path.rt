@@ -6,6 +6,7 @@ ghost use Rattle.ill_text.specs.code.FieldPaths.{is_nothing, path_of};
 
 use crate::text_sink::TextSink;
 use ber_core::Sink;
+use ill_schema::NodeId;
 use itoa::Buffer;
 
 /// The rows and items round a value, the innermost last.
@@ -16,6 +17,14 @@ pub enum FieldPath<'a> {
     Row(&'a FieldPath<'a>, &'a str),
     /// The index of an item of a list.
     Item(&'a FieldPath<'a>, usize),
+}
+
+/// The place of a value: its path, the name of its row and its node.
+#[derive(Clone, Copy)]
+pub struct FieldPlace<'a> {
+    pub path: &'a FieldPath<'a>,
+    pub name: &'a str,
+    pub node: NodeId,
 }
 
 /// Puts the path, and returns whether it has any octet.

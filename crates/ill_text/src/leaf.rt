@@ -17,7 +17,7 @@ ghost use Rattle.ill_grammar.specs.Marks.{leading_octets, is_octet, octets_in};
 ghost use Rattle.ill_text.specs.code.Sending.{Adds, sending};
 ghost use Rattle.ill_text.specs.code.FieldPaths.{path_of, place_at};
 
-use crate::field_path::{FieldPath, put_line, put_path};
+use crate::field_path::{FieldPath, FieldPlace, put_line, put_path};
 use crate::text_sink::TextSink;
 use ber_core::Sink;
 use ill_grammar::{is_octet, is_set, leading_octets, number_in};
@@ -27,21 +27,20 @@ use ill_schema::{
 };
 use itoa::Buffer;
 
-/// Puts the line of a leaf whose octets the marks begin with, in a row with this name, and returns how many octets it has.
+/// Puts the line of a leaf whose octets the marks begin with, at this place, and returns how many octets it has.
 #[inline(always)]
 pub fn put_leaf<W: Sink>(
     leaf: LeafType,
     marks: &[Mark],
-    path: &FieldPath<'_>,
-    name: &str,
+    place: &FieldPlace<'_>,
     out: &mut TextSink,
     sink: &mut W,
 ) -> usize
     ensures exact { result ≡ leading_octets marks.now }
     ensures within { result ≤ length marks.now }
     ensures adds { (p : Named) → IsContentIn p (leaf_is leaf) (octets_in (take result marks.now))
-        → Adds (line (path_of path.now)
-        (leaf_text name.now (value (leaf_is leaf) (octets_in (take result marks.now)))))
+        → Adds (line (path_of place.now.path.now)
+        (leaf_text place.now.name.now (value (leaf_is leaf) (octets_in (take result marks.now)))))
         (sending (W.contents sink.old) (W.is_broken sink.old) out.old)
         (sending (W.contents sink.new) (W.is_broken sink.new) out.new) }
     ensures stays { IsTrue (W.is_broken sink.old) → IsTrue (W.is_broken sink.new) }
@@ -49,29 +48,23 @@ pub fn put_leaf<W: Sink>(
     match leaf {
         LeafType::Boolean => {
             let count = leading_octets(marks);
-            put_line(path, flag_text(is_set(&marks[..count])), out, sink);
+            put_line(place.path, flag_text(is_set(&marks[..count])), out, sink);
             count
         }
-        LeafType::Integer => put_whole(path, name, marks, out, sink),
-        LeafType::Enumerated => put_whole(path, name, marks, out, sink),
-        LeafType::General => put_quoted(path, "general \"", marks, out, sink),
-        LeafType::Visible => put_quoted(path, "visible \"", marks, out, sink),
-        LeafType::Printable => put_quoted(path, "\"", marks, out, sink),
-        LeafType::Date => put_plain(path, marks, out, sink),
-        LeafType::Time => put_plain(path, marks, out, sink),
+        LeafType::Integer => put_whole(place, marks, out, sink),
+        LeafType::Enumerated => put_whole(place, marks, out, sink),
+        LeafType::General => put_quoted(place.path, "general \"", marks, out, sink),
+        LeafType::Visible => put_quoted(place.path, "visible \"", marks, out, sink),
+        LeafType::Printable => put_quoted(place.path, "\"", marks, out, sink),
+        LeafType::Date => put_plain(place.path, marks, out, sink),
+        LeafType::Time => put_plain(place.path, marks, out, sink),
     }
 }
 
 /// Puts the line of the default of a row that is absent, if it has one.
-pub fn put_default<W: Sink>(
-    part: PartId,
-    path: &FieldPath<'_>,
-    name: &str,
-    out: &mut TextSink,
-    sink: &mut W,
-)
+pub fn put_default<W: Sink>(part: PartId, place: &FieldPlace<'_>, out: &mut TextSink, sink: &mut W)
     ensures adds { (e : Option Content) (node : NodeId) → IsAbsent part e
-        → Adds (entry_text (place_at path.now name.now node) e)
+        → Adds (entry_text (place_at place.now.path.now place.now.name.now node) e)
         (sending (W.contents sink.old) (W.is_broken sink.old) out.old)
         (sending (W.contents sink.new) (W.is_broken sink.new) out.new) }
     ensures stays { IsTrue (W.is_broken sink.old) → IsTrue (W.is_broken sink.new) }
@@ -82,27 +75,26 @@ pub fn put_default<W: Sink>(
     let Presence::Default(number) = row.presence else {
         return;
     };
-    put_value_of(row.node, number, path, name, out, sink);
+    put_value_of(row.node, number, place, out, sink);
 }
 
 /// Puts the line of the value that the number of a default stands for.
 fn put_value_of<W: Sink>(
     node: NodeId,
     number: i64,
-    path: &FieldPath<'_>,
-    name: &str,
+    place: &FieldPlace<'_>,
     out: &mut TextSink,
     sink: &mut W,
 )
-    ensures adds { Adds (line (path_of path.now)
-        (leaf_text name.now (default_value (kind_of node) number)))
+    ensures adds { Adds (line (path_of place.now.path.now)
+        (leaf_text place.now.name.now (default_value (kind_of node) number)))
         (sending (W.contents sink.old) (W.is_broken sink.old) out.old)
         (sending (W.contents sink.new) (W.is_broken sink.new) out.new) }
     ensures stays { IsTrue (W.is_broken sink.old) → IsTrue (W.is_broken sink.new) }
 {
     match kind(node) {
-        Kind::Leaf(LeafKind::Boolean) => put_line(path, flag_text(number == 1), out, sink),
-        _ => put_number(path, name, number, out, sink),
+        Kind::Leaf(LeafKind::Boolean) => put_line(place.path, flag_text(number == 1), out, sink),
+        _ => put_number(place, number, out, sink),
     }
 }
 
@@ -114,8 +106,7 @@ fn flag_text(is_true: bool) -> &'static [u8]
 
 /// Puts a line with the number that the marks begin with, and returns how many octets it has.
 fn put_whole<W: Sink>(
-    path: &FieldPath<'_>,
-    name: &str,
+    place: &FieldPlace<'_>,
     marks: &[Mark],
     out: &mut TextSink,
     sink: &mut W,
@@ -124,36 +115,30 @@ fn put_whole<W: Sink>(
     ensures within { result ≤ length marks.now }
     ensures adds { 0 < length (octets_in (take result marks.now))
         → length (octets_in (take result marks.now)) ≤ 8
-        → Adds (line (path_of path.now)
-        (leaf_text name.now (whole (integer_of (octets_in (take result marks.now))))))
+        → Adds (line (path_of place.now.path.now)
+        (leaf_text place.now.name.now (whole (integer_of (octets_in (take result marks.now))))))
         (sending (W.contents sink.old) (W.is_broken sink.old) out.old)
         (sending (W.contents sink.new) (W.is_broken sink.new) out.new) }
     ensures stays { IsTrue (W.is_broken sink.old) → IsTrue (W.is_broken sink.new) }
 {
     let count = leading_octets(marks);
-    put_number(path, name, number_in(&marks[..count]), out, sink);
+    put_number(place, number_in(&marks[..count]), out, sink);
     count
 }
 
 /// Puts a line with a number, and its name in the row, if it has one.
-fn put_number<W: Sink>(
-    path: &FieldPath<'_>,
-    name: &str,
-    number: i64,
-    out: &mut TextSink,
-    sink: &mut W,
-)
-    ensures adds { Adds (line (path_of path.now)
-        (signed_decimal number ++ in_brackets (number_name name.now number)))
+fn put_number<W: Sink>(place: &FieldPlace<'_>, number: i64, out: &mut TextSink, sink: &mut W)
+    ensures adds { Adds (line (path_of place.now.path.now)
+        (signed_decimal number ++ in_brackets (number_name place.now.name.now number)))
         (sending (W.contents sink.old) (W.is_broken sink.old) out.old)
         (sending (W.contents sink.new) (W.is_broken sink.new) out.new) }
     ensures stays { IsTrue (W.is_broken sink.old) → IsTrue (W.is_broken sink.new) }
 {
     let mut buffer = Buffer::new();
-    let _ = put_path(path, out, sink);
+    let _ = put_path(place.path, out, sink);
     out.put(sink, b" = ");
     out.put(sink, buffer.format(number).as_bytes());
-    put_name(name, number, out, sink);
+    put_name(place.name, number, out, sink);
     out.put(sink, b"\n");
 }
 

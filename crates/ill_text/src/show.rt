@@ -6,14 +6,14 @@ ghost use Rattle.ill_grammar.specs.declared.outline.Mark.{Mark};
 ghost use Rattle.ill_text.specs.Shown.{entry_text};
 ghost use Rattle.ill_grammar.specs.Marks.{IsEntry, is_there};
 ghost use Rattle.ill_text.specs.code.Sending.{Adds, sending};
-ghost use Rattle.ill_text.specs.code.FieldPaths.{path_of, place_at};
+ghost use Rattle.ill_text.specs.code.FieldPaths.{path_of, place_of};
 ghost use Rattle.ill_text.specs.Shown.{Place, item_of, leaf_text, line, lines_of, part};
 ghost use Rattle.ill_tables.specs.declared.profile.Profile.{Profile as Named};
 ghost use Rattle.ill_grammar.specs.code.MarkedOctets.{SaysOctets};
 ghost use Rattle.ber_leaf.specs.Leaf.{value};
 ghost use Rattle.ill_grammar.specs.LeafTypes.{IsContentIn, leaf_is};
 
-use crate::field_path::{FieldPath, put_line};
+use crate::field_path::{FieldPath, FieldPlace, put_line};
 use crate::foreign::put_foreign;
 use crate::leaf::{put_default, put_leaf};
 use crate::module_leaf::{put_bits, put_module_leaf};
@@ -21,22 +21,20 @@ use crate::text_sink::TextSink;
 use ber_core::Sink;
 use ill_grammar::{absent_row, after_leading_mark, has_default, is_at_end, leading_mark};
 use ill_read::{LeafType, Mark};
-use ill_schema::{NodeId, PartId, row_name, row_node};
+use ill_schema::{PartId, row_name, row_node};
 
-/// Puts the lines of the value that the marks begin with, of this node in a row with this name, and returns the marks after it.
+/// Puts the lines of the value that the marks begin with, at this place, and returns the marks after it.
 #[cycle(show)]
 #[inline(always)]
 pub fn put_value<'m, W: Sink>(
     marks: &'m [Mark],
-    path: &FieldPath<'_>,
-    name: &str,
-    node: NodeId,
+    place: &FieldPlace<'_>,
     out: &mut TextSink,
     sink: &mut W,
 ) -> &'m [Mark]
     ensures adds { (c : Content) (ms rest : List Mark) → IsMarked c ms → marks.now ≡ ms ++ rest
         → (result.now ≡ rest)
-        × Adds (lines_of (place_at path.now name.now node) c)
+        × Adds (lines_of (place_of place.now) c)
         (sending (W.contents sink.old) (W.is_broken sink.old) out.old)
         (sending (W.contents sink.new) (W.is_broken sink.new) out.new) }
     ensures shorter { 0 < length marks.now → length result.now < length marks.now }
@@ -48,17 +46,17 @@ pub fn put_value<'m, W: Sink>(
     };
     let rest = after_leading_mark(marks);
     match first {
-        Mark::Leaf(leaf) => put_marked_leaf(leaf, rest, path, name, out, sink),
+        Mark::Leaf(leaf) => put_marked_leaf(leaf, rest, place, out, sink),
         Mark::ModuleLeaf(_) | Mark::BitString | Mark::Foreign => {
-            put_module_line(first, rest, path, out, sink)
+            put_module_line(first, rest, place.path, out, sink)
         }
         Mark::Absent(part) => {
-            put_default(part, path, name, out, sink);
+            put_default(part, place, out, sink);
             rest
         }
-        Mark::Alternative(row) => put_alternative(rest, path, node, row, out, sink),
-        Mark::Sequence => put_entries(rest, path, name, node, out, sink),
-        Mark::List => put_items(rest, path, name, node, out, sink),
+        Mark::Alternative(row) => put_alternative(rest, place, row, out, sink),
+        Mark::Sequence => put_entries(rest, place, out, sink),
+        Mark::List => put_items(rest, place, out, sink),
         Mark::Octet(_) => rest,
         Mark::End => rest,
     }
@@ -69,21 +67,21 @@ pub fn put_value<'m, W: Sink>(
 fn put_marked_leaf<'m, W: Sink>(
     leaf: LeafType,
     marks: &'m [Mark],
-    path: &FieldPath<'_>,
-    name: &str,
+    place: &FieldPlace<'_>,
     out: &mut TextSink,
     sink: &mut W,
 ) -> &'m [Mark]
     ensures adds { (p : Named) (octets : List ℕ) (rest : List Mark)
         → IsContentIn p (leaf_is leaf) octets
         → marks.now ≡ map Mark.Octet octets ++ (Mark.End ∷ rest) → (result.now ≡ rest)
-        × Adds (line (path_of path.now) (leaf_text name.now (value (leaf_is leaf) octets)))
+        × Adds (line (path_of place.now.path.now)
+        (leaf_text place.now.name.now (value (leaf_is leaf) octets)))
         (sending (W.contents sink.old) (W.is_broken sink.old) out.old)
         (sending (W.contents sink.new) (W.is_broken sink.new) out.new) }
     ensures shorter { length result.now ≤ length marks.now }
     ensures stays { IsTrue (W.is_broken sink.old) → IsTrue (W.is_broken sink.new) }
 {
-    let count = put_leaf(leaf, marks, path, name, out, sink);
+    let count = put_leaf(leaf, marks, place, out, sink);
     &marks[(count + 1).min(marks.len())..]
 }
 
@@ -119,22 +117,21 @@ fn put_module_line<'m, W: Sink>(
 #[inline(never)]
 fn put_alternative<'m, W: Sink>(
     marks: &'m [Mark],
-    path: &FieldPath<'_>,
-    node: NodeId,
+    place: &FieldPlace<'_>,
     row: u8,
     out: &mut TextSink,
     sink: &mut W,
 ) -> &'m [Mark]
     ensures adds { (c : Content) (ms rest : List Mark) → IsMarked c ms → marks.now ≡ ms ++ rest
         → (result.now ≡ rest)
-        × Adds (lines_of (part (place_at path.now [] node) row) c)
+        × Adds (lines_of (part (place_of place.now) row) c)
         (sending (W.contents sink.old) (W.is_broken sink.old) out.old)
         (sending (W.contents sink.new) (W.is_broken sink.new) out.new) }
     ensures shorter { 0 < length marks.now → length result.now < length marks.now }
     ensures no_longer { length result.now ≤ length marks.now }
     ensures stays { IsTrue (W.is_broken sink.old) → IsTrue (W.is_broken sink.new) }
 {
-    put_part(marks, path, node, row as usize, out, sink)
+    put_part(marks, place, row as usize, out, sink)
 }
 
 /// Puts the lines of the value in a row.
@@ -142,39 +139,41 @@ fn put_alternative<'m, W: Sink>(
 #[inline(always)]
 fn put_part<'m, W: Sink>(
     marks: &'m [Mark],
-    path: &FieldPath<'_>,
-    node: NodeId,
+    place: &FieldPlace<'_>,
     i: usize,
     out: &mut TextSink,
     sink: &mut W,
 ) -> &'m [Mark]
     ensures adds { (c : Content) (ms rest : List Mark) → IsMarked c ms → marks.now ≡ ms ++ rest
         → (result.now ≡ rest)
-        × Adds (lines_of (part (place_at path.now [] node) i) c)
+        × Adds (lines_of (part (place_of place.now) i) c)
         (sending (W.contents sink.old) (W.is_broken sink.old) out.old)
         (sending (W.contents sink.new) (W.is_broken sink.new) out.new) }
     ensures shorter { 0 < length marks.now → length result.now < length marks.now }
     ensures no_longer { length result.now ≤ length marks.now }
     ensures stays { IsTrue (W.is_broken sink.old) → IsTrue (W.is_broken sink.new) }
 {
-    let name = row_name(node, i);
-    let inside = FieldPath::Row(&*path, name);
-    put_value(marks, &inside, name, row_node(node, i), out, sink)
+    let name = row_name(place.node, i);
+    let inside = FieldPlace {
+        path: &FieldPath::Row(place.path, name),
+        name,
+        node: row_node(place.node, i),
+    };
+    put_value(marks, &inside, out, sink)
 }
 
 /// Puts the lines of a row's entry, and returns the marks after it, and whether there was a value.
 #[cycle(show)]
 fn put_entry<'m, W: Sink>(
     marks: &'m [Mark],
-    path: &FieldPath<'_>,
-    node: NodeId,
+    place: &FieldPlace<'_>,
     i: usize,
     out: &mut TextSink,
     sink: &mut W,
 ) -> (&'m [Mark], bool)
     ensures adds { (e : Option Content) (ms rest : List Mark) → IsEntry e ms
         → marks.now ≡ ms ++ rest → (result.0.now ≡ rest) × (result.1 ≡ is_there e)
-        × Adds (entry_text (part (place_at path.now [] node) i) e)
+        × Adds (entry_text (part (place_of place.now) i) e)
         (sending (W.contents sink.old) (W.is_broken sink.old) out.old)
         (sending (W.contents sink.new) (W.is_broken sink.new) out.new) }
     ensures shorter { 0 < length marks.now → length result.0.now < length marks.now }
@@ -183,7 +182,7 @@ fn put_entry<'m, W: Sink>(
     if is_absent(marks) {
         return (after_leading_mark(marks), false);
     }
-    (put_part(marks, path, node, i, out, sink), true)
+    (put_part(marks, place, i, out, sink), true)
 }
 
 /// Tells whether a row that has no default is absent.
@@ -202,15 +201,13 @@ fn is_absent(marks: &[Mark]) -> bool
 #[inline(never)]
 fn put_entries<'m, W: Sink>(
     marks: &'m [Mark],
-    path: &FieldPath<'_>,
-    name: &str,
-    node: NodeId,
+    place: &FieldPlace<'_>,
     out: &mut TextSink,
     sink: &mut W,
 ) -> &'m [Mark]
     ensures adds { (es : Entries) (ms rest : List Mark) → AreEntries es ms
         → marks.now ≡ ms ++ (Mark.End ∷ rest) → (result.now ≡ rest)
-        × Adds (lines_of (place_at path.now name.now node) (sequence es))
+        × Adds (lines_of (place_of place.now) (sequence es))
         (sending (W.contents sink.old) (W.is_broken sink.old) out.old)
         (sending (W.contents sink.new) (W.is_broken sink.new) out.new) }
     ensures shorter { length result.now ≤ length marks.now }
@@ -220,7 +217,7 @@ fn put_entries<'m, W: Sink>(
     let mut i = 0;
     let mut some = false;
     'rows: while !is_at_end(left) {
-        let (rest, there) = put_entry(left, path, node, i, out, sink);
+        let (rest, there) = put_entry(left, place, i, out, sink);
         left = rest;
         i += 1;
         some = some || there;
@@ -228,7 +225,7 @@ fn put_entries<'m, W: Sink>(
     if some {
         return after_leading_mark(left);
     }
-    put_line(path, b"{}", out, sink);
+    put_line(place.path, b"{}", out, sink);
     after_leading_mark(left)
 }
 
@@ -237,15 +234,13 @@ fn put_entries<'m, W: Sink>(
 #[inline(never)]
 fn put_items<'m, W: Sink>(
     marks: &'m [Mark],
-    path: &FieldPath<'_>,
-    name: &str,
-    node: NodeId,
+    place: &FieldPlace<'_>,
     out: &mut TextSink,
     sink: &mut W,
 ) -> &'m [Mark]
     ensures adds { (is : Items) (ms rest : List Mark) → AreItems is ms
         → marks.now ≡ ms ++ (Mark.End ∷ rest) → (result.now ≡ rest)
-        × Adds (lines_of (place_at path.now name.now node) (list is))
+        × Adds (lines_of (place_of place.now) (list is))
         (sending (W.contents sink.old) (W.is_broken sink.old) out.old)
         (sending (W.contents sink.new) (W.is_broken sink.new) out.new) }
     ensures shorter { length result.now ≤ length marks.now }
@@ -254,13 +249,13 @@ fn put_items<'m, W: Sink>(
     let mut left = marks;
     let mut i = 0;
     'items: while !is_at_end(left) {
-        left = put_item(left, i, path, name, node, out, sink);
+        left = put_item(left, place, i, out, sink);
         i += 1;
     }
     if i > 0 {
         return after_leading_mark(left);
     }
-    put_line(path, b"[]", out, sink);
+    put_line(place.path, b"[]", out, sink);
     after_leading_mark(left)
 }
 
@@ -268,22 +263,24 @@ fn put_items<'m, W: Sink>(
 #[cycle(show)]
 fn put_item<'m, W: Sink>(
     marks: &'m [Mark],
+    place: &FieldPlace<'_>,
     i: usize,
-    path: &FieldPath<'_>,
-    name: &str,
-    node: NodeId,
     out: &mut TextSink,
     sink: &mut W,
 ) -> &'m [Mark]
     ensures adds { (c : Content) (ms rest : List Mark) → IsMarked c ms → marks.now ≡ ms ++ rest
         → (result.now ≡ rest)
-        × Adds (lines_of (item_of (place_at path.now name.now node) i) c)
+        × Adds (lines_of (item_of (place_of place.now) i) c)
         (sending (W.contents sink.old) (W.is_broken sink.old) out.old)
         (sending (W.contents sink.new) (W.is_broken sink.new) out.new) }
     ensures shorter { 0 < length marks.now → length result.now < length marks.now }
     ensures no_longer { length result.now ≤ length marks.now }
     ensures stays { IsTrue (W.is_broken sink.old) → IsTrue (W.is_broken sink.new) }
 {
-    let inside = FieldPath::Item(&*path, i);
-    put_value(marks, &inside, name, row_node(node, 0), out, sink)
+    let inside = FieldPlace {
+        path: &FieldPath::Item(place.path, i),
+        name: place.name,
+        node: row_node(place.node, 0),
+    };
+    put_value(marks, &inside, out, sink)
 }

@@ -10,7 +10,7 @@ ghost use Rattle.ill_text.specs.TextOf.{IsTextOf};
 ghost use Rattle.ill_text.specs.code.Sending.{Adds, sending};
 ghost use Rattle.ill_text.specs.code.FieldPaths.{head_line};
 
-use crate::field_path::FieldPath;
+use crate::field_path::{FieldPath, FieldPlace};
 use crate::show::put_value;
 use crate::text_sink::TextSink;
 use ber_core::{Sink, VecSink};
@@ -42,7 +42,7 @@ impl Text {
     /// # Examples
     ///
     /// ```
-    /// let read = reader.read_as::<R, L>(Profile::Module, &mut source, outline, normal)?;
+    /// let read = reader.read(Profile::Module, &mut source, memory)?;
     /// let text = Text::new_as(Profile::Module, 1, read.outline).octets(alloc)?;
     /// ```
     pub fn new_as(profile: Profile, number: u32, outline: Outline) -> Text
@@ -151,15 +151,12 @@ fn put_marks<W: Sink>(
         Some(row) => {
             let root = root_as(profile);
             put_head(number, row_name(root, row as usize), out, sink);
-            let node = row_node(root, row as usize);
-            let _ = put_value(
-                after_leading_mark(marks),
-                &FieldPath::Start,
-                "",
-                node,
-                out,
-                sink,
-            );
+            let place = FieldPlace {
+                path: &FieldPath::Start,
+                name: "",
+                node: row_node(root, row as usize),
+            };
+            let _ = put_value(after_leading_mark(marks), &place, out, sink);
         }
         None => {}
     }

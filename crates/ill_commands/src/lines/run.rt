@@ -1,15 +1,16 @@
 //! The lines of an input, from a source to a sink.
-ghost use Rattle.std.specs.Prelude.{◌≡◌, ◌++◌, ◌<◌, ℕ, Bool, List, [], Option, take, length, IfOk, IfErr, OnOk, IsTrue};
+ghost use Rattle.std.specs.Prelude.{◌≡◌, ◌+◌, ◌^◌, ◌<◌, ◌≤◌, ℕ, Bool, List, [], Option, take, length, IfOk, IfErr, OnOk, IsTrue};
 ghost use Rattle.std.specs.Io.KnownBytes.{Appends, Consumes, IsAtEnd};
+ghost use Rattle.ill_inputs.specs.declared.run_fault.RunFault.{RunFault};
 ghost use Rattle.ill_normal.specs.Calls.{putting, taking};
 ghost use Rattle.ill_tables.specs.declared.profile.Profile.{Profile as Named};
-ghost use Rattle.ill_commands.specs.declared.lines.job.LinesFault.{LinesFault};
 ghost use Rattle.ill_commands.specs.Lines.{EndsWithin, LinesDone, LinesFail, line_options};
 ghost use Rattle.ill_commands.specs.code.After.{HasWritten};
 
-use crate::lines::job::{LineJob, LineOptions, LinesFault};
+use crate::lines::job::{LineJob, LineOptions};
 use crate::lines::reader::LineReader;
 use ber_core::{Broken, Sink, Source, put_all};
+use ill_normal::RunFault;
 use ill_schema::Profile;
 use std::alloc::{AllocError, Global};
 
@@ -28,13 +29,14 @@ const READ_LEN: usize = 16_384;
 ///
 /// # Errors
 ///
-/// The reason why the input was not read to its end, or not all results were written.
+/// `OutOfMemory`: the results of the lines before were written. `ReadFault`: those of all lines that the source gave whole were written.
+/// `WriteFault(n)`: exactly the first n octets of the results were written. There is no other.
 pub fn run_lines<R: Source, W: Sink>(
     alloc: Global,
     job: LineJob,
     source: &mut R,
     sink: &mut W,
-) -> Result<bool, LinesFault>
+) -> Result<bool, RunFault>
     ensures done { IfOk result (LinesDone (line_options Named.Two job) (R.left source.old)
         (R.left source.new) (W.contents sink.old) (W.contents sink.new)) }
     ensures fails { IfErr result (LinesFail (line_options Named.Two job)
@@ -63,7 +65,7 @@ pub fn run_lines_as<R: Source, W: Sink>(
     job: LineJob,
     source: &mut R,
     sink: &mut W,
-) -> Result<bool, LinesFault>
+) -> Result<bool, RunFault>
     ensures done { IfOk result (LinesDone (line_options profile job) (R.left source.old)
         (R.left source.new) (W.contents sink.old) (W.contents sink.new)) }
     ensures fails { IfErr result (LinesFail (line_options profile job)
@@ -81,7 +83,7 @@ fn run_with<R: Source, W: Sink>(
     work: LineOptions,
     source: &mut R,
     sink: &mut W,
-) -> Result<bool, LinesFault>
+) -> Result<bool, RunFault>
     ensures done { IfOk result (LinesDone work (R.left source.old) (R.left source.new)
         (W.contents sink.old) (W.contents sink.new)) }
     ensures fails { IfErr result
@@ -92,55 +94,35 @@ fn run_with<R: Source, W: Sink>(
 {
     let mut lines = LineReader::new(alloc);
     let mut buffer = [0; READ_LEN];
-    for _ in 0..u64::MAX {
+    let mut written = 0;
+    for turn in 0..u64::MAX {
         let count = match source.take(&mut buffer) {
-            Ok(0) => return finish(alloc, work, &mut lines, sink),
+            Ok(0) => return finish(alloc, work, &mut lines, written, sink),
             Ok(count) => count,
-            Err(Broken) => return Err(LinesFault::ReadFault),
+            Err(Broken) => return Err(RunFault::ReadFault),
         };
-        feed_and_put(alloc, work, &buffer[..count], &mut lines, sink)?;
+        let fed = lines.feed(alloc, work, &buffer[..count]);
+        written = put_ready(&mut lines, written, sink)?;
+        fed?;
     }
     // After 2^64 calls no more is asked for.
-    Err(LinesFault::OutOfMemory)
+    Err(RunFault::OutOfMemory)
 }
 
-/// Reads octets, and writes the results of the lines that end in them.
-fn feed_and_put<W: Sink>(
-    alloc: Global,
-    work: LineOptions,
-    octets: &[u8],
-    lines: &mut LineReader,
-    sink: &mut W,
-) -> Result<(), LinesFault>
-    ensures done { (s : List ℕ) (first : Option (List ℕ))
-        → HasWritten work s first (W.contents sink.old) lines.old
-        → OnOk result (HasWritten work (s ++ octets.now) first (W.contents sink.new) lines.new) }
-    ensures fails { (s : List ℕ) (first : Option (List ℕ)) (x : Bool)
-        → HasWritten work s first (W.contents sink.old) lines.old
-        → IfErr result (EndsWithin work (s ++ octets.now) x
-        (putting first (W.contents sink.new) (W.is_broken sink.new))) }
-    ensures stays { IsTrue (W.is_broken sink.old) → IsTrue (W.is_broken sink.new) }
-{
-    let fed = lines.feed(alloc, work, octets);
-    put_ready(lines, sink)?;
-    match fed {
-        Ok(()) => Ok(()),
-        Err(AllocError) => Err(LinesFault::OutOfMemory),
-    }
-}
-
-/// Answers the last line, where it has no end, and writes its result.
+/// Answers the last line, where it has no end, and writes its result, after `written` octets of others.
 fn finish<W: Sink>(
     alloc: Global,
     work: LineOptions,
     lines: &mut LineReader,
+    written: u128,
     sink: &mut W,
-) -> Result<bool, LinesFault>
+) -> Result<bool, RunFault>
+    requires fits { written + 2 ^ 64 < 2 ^ 128 }
     ensures done { (s : List ℕ) (first left left' : Option (List ℕ)) → Consumes left left' s
         → IsAtEnd left' → HasWritten work s first (W.contents sink.old) lines.old
         → IfOk result (LinesDone work left left' first (W.contents sink.new)) }
     ensures fails { (s : List ℕ) (first : Option (List ℕ)) (x : Bool)
-        → HasWritten work s first (W.contents sink.old) lines.old
+        → (h : HasWritten work s first (W.contents sink.old) lines.old) → written ≡ length h.0
         → IfErr result (EndsWithin work s x (putting first (W.contents sink.new)
         (W.is_broken sink.new))) }
     ensures stays { IsTrue (W.is_broken sink.old) → IsTrue (W.is_broken sink.new) }
@@ -149,26 +131,32 @@ fn finish<W: Sink>(
         return Ok(lines.is_good);
     }
     lines.end_line(alloc, work)?;
-    put_ready(lines, sink)?;
+    put_ready(lines, written, sink)?;
     Ok(lines.is_good)
 }
 
-/// Writes the results that are there.
-fn put_ready<W: Sink>(lines: &mut LineReader, sink: &mut W) -> Result<(), LinesFault>
+/// Writes the results that are there, after `written` octets of others, and returns the number of all that are written then.
+fn put_ready<W: Sink>(lines: &mut LineReader, written: u128, sink: &mut W) -> Result<u128, RunFault>
+    requires fits { written + 2 ^ 64 < 2 ^ 128 }
     ensures all { OnOk result (Appends (W.contents sink.old) (W.contents sink.new)
         lines.old.ready.items) }
     ensures ready { OnOk result (lines.new.ready.items ≡ []) }
-    ensures some { IfErr result (λ fault. (fault ≡ LinesFault.WriteFault)
-        × IsTrue (W.is_broken sink.new)
+    ensures count { IfOk result (λ n. n ≡ written + length lines.old.ready.items) }
+    ensures bound { IfOk result (λ n. n ≤ written + 2 ^ 64) }
+    ensures some { IfErr result (λ fault. IsTrue (W.is_broken sink.new)
         × ((n : ℕ) × (n < length lines.old.ready.items)
+        × (fault ≡ RunFault.WriteFault (written + n))
         × Appends (W.contents sink.old) (W.contents sink.new) (take n lines.old.ready.items))) }
     ensures part { lines.new.part.items ≡ lines.old.part.items }
     ensures good { lines.new.is_good ≡ lines.old.is_good }
     ensures stays { IsTrue (W.is_broken sink.old) → IsTrue (W.is_broken sink.new) }
 {
-    if put_all(sink, &lines.ready).is_err() {
-        return Err(LinesFault::WriteFault);
+    match put_all(sink, &lines.ready) {
+        Ok(()) => {
+            let count = lines.ready.len();
+            lines.ready.clear();
+            Ok(written + count as u128)
+        }
+        Err(count) => Err(RunFault::WriteFault(written + count as u128)),
     }
-    lines.ready.clear();
-    Ok(())
 }

@@ -4,6 +4,7 @@ use Rattle.ill_tables.specs.declared.node.NodeId.{NodeId}
 use Rattle.ill_text.specs.Shown.{Place, within}
 use Rattle.ill_text.specs.declared.field_path.FieldPath.{FieldPath, fold-FieldPath}
 use Rattle.ill_text.specs.declared.field_path.FieldPath.TheOpen.{FieldPath-F}
+use Rattle.ill_text.specs.declared.field_path.FieldPlace.{FieldPlace}
 
 abbrev pub path_step : FieldPath-F (List ℕ) → List ℕ
 path_step FieldPath-F.Start = []
@@ -20,6 +21,10 @@ is_nothing (octet ∷ path) = false
 -- a value of this type is there, in a row of this name
 abbrev pub place_at : FieldPath → List ℕ → NodeId → Place
 place_at path name node = record { path = path_of path; name = name; node = node }
+
+-- the same of what code hands on
+abbrev pub place_of : FieldPlace → Place
+place_of place = place_at place.path.now place.name.now place.node
 
 -- the first line of message i, with this name
 abbrev pub head_line : ℕ → List ℕ → List ℕ

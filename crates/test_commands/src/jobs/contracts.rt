@@ -13,8 +13,8 @@ ghost use Rattle.ill_normal.specs.declared.messages.OnRefusal.{OnRefusal as Mode
 
 use ber_core::{Pieces, Room, Sink, Source};
 use ill_commands::{
-    Job, JobOptions, LineJob, LinesFault, ReportRefusals, RunFault, StreamEnd, Verdict, run_as,
-    run_job, run_lines_as, run_same_as, run_with,
+    Job, JobOptions, LineJob, ReportRefusals, RunFault, StreamEnd, Verdict, run_as, run_job,
+    run_lines_as, run_same_as, run_with,
 };
 use ill_json::{LineHead, json_line, json_line_as};
 use ill_normal::{NoReports, Refusal, Side};
@@ -186,10 +186,10 @@ fn lines_fail_where_something_is_broken(
     alloc: Global,
 ) {
     match run_lines_as(alloc, profile, job, source, sink) {
-        Err(LinesFault::ReadFault) => {
+        Err(RunFault::ReadFault) => {
             prove!(source.broken());
         }
-        Err(LinesFault::WriteFault) => {
+        Err(RunFault::WriteFault(_)) => {
             prove!(sink.broken());
         }
         _ => {}
@@ -205,7 +205,7 @@ fn lines_have_one_output(
     other: &mut Pieces,
     other_sink: &mut Room<64>,
     alloc: Global,
-) -> (Result<bool, LinesFault>, Result<bool, LinesFault>)
+) -> (Result<bool, RunFault>, Result<bool, RunFault>)
     requires source { source.old.octets ≡ other.old.octets }
     requires sink { sink.old.octets ≡ other_sink.old.octets }
     ensures good { (g h : Bool) → result.0 ≡ Ok g → result.1 ≡ Ok h → g ≡ h }

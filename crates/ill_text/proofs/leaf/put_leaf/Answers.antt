@@ -10,12 +10,16 @@ use Rattle.ill_text.proofs.leaf.put_leaf.Goals as goal
 
 pub returns-in-Integer-clause-adds : goal.returns-in-Integer-clause-adds
 returns-in-Integer-clause-adds g c p h =
+    let place = c.args.place.now in
     let o = octets_in (take c.put_whole.result c.args.marks.now) in
     let few = few_octets p o (subst (λ l. IsContentIn p (leaf_is l) o) c.in-Integer.is h) in
-    adds_as _ _ _ _ (ap (λ l. line (path_of c.args.path.now) (leaf_text c.args.name.now (value (leaf_is l) o))) (sym c.in-Integer.is)) (c.put_whole.ensures.adds few.0 few.1)
+    adds_as _ _ _ _ (ap (λ l. line (path_of place.path.now) (leaf_text place.name.now (value (leaf_is l) o))) (sym c.in-Integer.is))
+    (c.put_whole.ensures.adds few.0 few.1)
 
 pub returns-in-Enumerated-clause-adds : goal.returns-in-Enumerated-clause-adds
 returns-in-Enumerated-clause-adds g c p h =
+    let place = c.args.place.now in
     let o = octets_in (take c.put_whole-in-Enumerated.result c.args.marks.now) in
     let few = few_enumerated p o (subst (λ l. IsContentIn p (leaf_is l) o) c.in-Enumerated.is h) in
-    adds_as _ _ _ _ (ap (λ l. line (path_of c.args.path.now) (leaf_text c.args.name.now (value (leaf_is l) o))) (sym c.in-Enumerated.is)) (c.put_whole-in-Enumerated.ensures.adds few.0 few.1)
+    adds_as _ _ _ _ (ap (λ l. line (path_of place.path.now) (leaf_text place.name.now (value (leaf_is l) o))) (sym c.in-Enumerated.is))
+    (c.put_whole-in-Enumerated.ensures.adds few.0 few.1)

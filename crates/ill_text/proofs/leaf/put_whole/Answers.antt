@@ -8,5 +8,8 @@ use Rattle.ill_text.proofs.leaf.put_whole.Goals as goal
 
 pub returns-clause-adds : goal.returns-clause-adds
 returns-clause-adds g c some few =
+    let place = c.args.place.now in
     let fits : FitsSigned w64 c.number_in.result = search rules in
-    adds_as _ _ _ _ (ap (λ (z : ℤ). line (path_of c.args.path.now) (leaf_text c.args.name.now (whole z))) (to_z-of_z w64 c.number_in.result fits ∙ c.number_in.ensures some few)) c.put_number.ensures.adds
+    adds_as _ _ _ _ (ap (λ (z : ℤ). line (path_of place.path.now) (leaf_text place.name.now (whole z)))
+    (to_z-of_z w64 c.number_in.result fits ∙ c.number_in.ensures some few))
+    c.put_number.ensures.adds

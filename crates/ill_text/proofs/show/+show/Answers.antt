@@ -1,10 +1,10 @@
-use Rattle.std.proofs.Common.{inl, inr, ◌≡◌, ◌∙◌, refl, ap, sym, true, false, not, ◌∷◌, [], Some, drop, arith, rules, Bool}
+use Rattle.std.proofs.Common.{inl, inr, ◌≡◌, ◌∙◌, refl, ap, sym, true, false, not, ◌∷◌, Some, drop, arith, rules, Bool}
 use Rattle.ill_grammar.specs.declared.outline.Mark.TheVariants as mark
 use Rattle.ill_text.specs.Shown.{lines_of, part}
 use Rattle.ill_grammar.specs.code.MarkedOctets.{is_of_module}
 use Rattle.ill_text.specs.Shown.{entry_text}
 use Rattle.ill_grammar.specs.Marks.{is_there}
-use Rattle.ill_text.specs.code.FieldPaths.{place_at}
+use Rattle.ill_text.specs.code.FieldPaths.{place_of}
 use Rattle.ill_grammar.proofs.MarkedValues.{alternative_first, entry_absent, entry_there, leaf_first, list_first, module_first, no_mark, none_begins, not_false, not_some, not_true, nothing_begins, absent_first, sequence_first, some_left, starts}
 use Rattle.ill_text.proofs.Lines.{entries_ended, entries_more, entries_none, item_place, items_end, items_line, items_more, items_none, items_some, part_place, sequence_none, sequence_some}
 use Rattle.ill_text.proofs.Sent.{adds_as, adds_nothing}
@@ -53,25 +53,28 @@ put_items-items-preserved g t c =
 pub put_part-returns-clause-adds : goal.put_part-returns-clause-adds
 put_part-returns-clause-adds g t c x ms rest h e =
     let done = c.put_value.ensures.adds x ms rest h e in
-    (done.0, adds_as _ _ _ _ (ap (λ p. lines_of p x) (part_place c.args.path c.row_name-name.result c.args.node c.row_node.result c.args.i c.row_name-name.ensures c.row_node.ensures)) done.1)
+    let name = c.row_name-name in
+    let at = part_place c.args.place.now name.result c.row_node.result c.args.i name.ensures c.row_node.ensures in
+    (done.0, adds_as _ _ _ _ (ap (λ p. lines_of p x) at) done.1)
 
 pub put_item-returns-clause-adds : goal.put_item-returns-clause-adds
 put_item-returns-clause-adds g t c x ms rest h e =
     let done = c.put_value.ensures.adds x ms rest h e in
-    (done.0, adds_as _ _ _ _ (ap (λ p. lines_of p x) (item_place c.args.path c.args.name.now c.args.node c.row_node.result c.args.i c.row_node.ensures)) done.1)
+    (done.0, adds_as _ _ _ _ (ap (λ p. lines_of p x) (item_place c.args.place.now c.row_node.result c.args.i c.row_node.ensures)) done.1)
 
 pub put_entry-returns-then-is_absent-clause-adds : goal.put_entry-returns-then-is_absent-clause-adds
 put_entry-returns-then-is_absent-clause-adds g t c e ms rest h q =
     let yes : c.is_absent.result ≡ true = search rules in
     let a = entry_absent e ms rest c.args.marks.now h q (not_true (is_there e) _ (c.is_absent.ensures e ms rest h q) yes) in
-    (c.after_leading_mark.ensures ∙ a.1, sym (ap is_there a.0), adds_as _ _ _ _ (ap (entry_text (part (place_at c.args.path.now [] c.args.node) c.args.i)) (sym a.0)) (adds_nothing _))
+    let no_text = ap (entry_text (part (place_of c.args.place.now) c.args.i)) (sym a.0) in
+    (c.after_leading_mark.ensures ∙ a.1, sym (ap is_there a.0), adds_as _ _ _ _ no_text (adds_nothing _))
 
 pub put_entry-returns-clause-adds : goal.put_entry-returns-clause-adds
 put_entry-returns-clause-adds g t c e ms rest h q =
     let no : c.is_absent.result ≡ false = search rules in
     let v = entry_there e ms h (not_false (is_there e) _ (c.is_absent.ensures e ms rest h q) no) in
     let done = c.put_part.ensures.adds v.0 ms rest v.2 q in
-    (done.0, sym (ap is_there v.1), adds_as _ _ _ _ (ap (entry_text (part (place_at c.args.path.now [] c.args.node) c.args.i)) (sym v.1)) done.1)
+    (done.0, sym (ap is_there v.1), adds_as _ _ _ _ (ap (entry_text (part (place_of c.args.place.now) c.args.i)) (sym v.1)) done.1)
 
 pub put_entries-returns-then-some-2-clause-adds : goal.put_entries-returns-then-some-2-clause-adds
 put_entries-returns-then-some-2-clause-adds g t c es ms rest h e =
@@ -118,7 +121,7 @@ put_value-returns-in-Leaf-clause-adds g t c x ms rest h q =
     let all = starts c.args.marks.now c.in-Some.first (sym c.leading_mark.ensures ∙ c.in-Some.is) ∙ ap (λ m. m ∷ tail) c.in-Leaf.is in
     let f = leaf_first x ms rest tail c.in-Leaf.leaf h (sym all ∙ q) in
     let done = c.put_marked_leaf.ensures.adds f.1 f.0 rest f.2 (c.after_leading_mark-rest.ensures ∙ f.4) in
-    (done.0, adds_as _ _ _ _ (ap (lines_of (place_at c.args.path.now c.args.name.now c.args.node)) (sym f.3)) done.1)
+    (done.0, adds_as _ _ _ _ (ap (lines_of (place_of c.args.place.now)) (sym f.3)) done.1)
 
 pub put_value-returns-in-ModuleLeaf-clause-adds : goal.put_value-returns-in-ModuleLeaf-clause-adds
 put_value-returns-in-ModuleLeaf-clause-adds g t c x ms rest h q =
@@ -126,14 +129,14 @@ put_value-returns-in-ModuleLeaf-clause-adds g t c x ms rest h q =
     let all = starts c.args.marks.now c.in-Some.first (sym c.leading_mark.ensures ∙ c.in-Some.is) in
     let is : is_of_module c.in-Some.first ≡ true = elim c.in-ModuleLeaf.is [ inl y ↦ ap is_of_module y.1 | inr y ↦ elim y [ inl z ↦ ap is_of_module z | inr z ↦ ap is_of_module z ] ] in
     let f = module_first x ms rest tail c.in-Some.first is h (sym all ∙ q) in
-    c.put_module_line.ensures.adds x f.0 rest (place_at c.args.path.now c.args.name.now c.args.node) refl f.1 (c.after_leading_mark-rest.ensures ∙ f.2)
+    c.put_module_line.ensures.adds x f.0 rest (place_of c.args.place.now) refl f.1 (c.after_leading_mark-rest.ensures ∙ f.2)
 
 pub put_value-returns-in-Absent-clause-adds : goal.put_value-returns-in-Absent-clause-adds
 put_value-returns-in-Absent-clause-adds g t c x ms rest h q =
     let tail = drop 1 c.args.marks.now in
     let all = starts c.args.marks.now c.in-Some.first (sym c.leading_mark.ensures ∙ c.in-Some.is) ∙ ap (λ m. m ∷ tail) c.in-Absent.is in
     let f = absent_first x ms rest tail c.in-Absent.part h (sym all ∙ q) in
-    (c.after_leading_mark-rest.ensures ∙ f.1, c.put_default.ensures.adds (Some x) c.args.node f.0)
+    (c.after_leading_mark-rest.ensures ∙ f.1, c.put_default.ensures.adds (Some x) c.args.place.now.node f.0)
 
 pub put_value-returns-in-Alternative-clause-adds : goal.put_value-returns-in-Alternative-clause-adds
 put_value-returns-in-Alternative-clause-adds g t c x ms rest h q =
@@ -141,7 +144,7 @@ put_value-returns-in-Alternative-clause-adds g t c x ms rest h q =
     let all = starts c.args.marks.now c.in-Some.first (sym c.leading_mark.ensures ∙ c.in-Some.is) ∙ ap (λ m. m ∷ tail) c.in-Alternative.is in
     let f = alternative_first x ms rest tail c.in-Alternative.row h (sym all ∙ q) in
     let done = c.put_alternative.ensures.adds f.0 f.1 rest f.3 (c.after_leading_mark-rest.ensures ∙ f.4) in
-    (done.0, adds_as _ _ _ _ (ap (lines_of (place_at c.args.path.now c.args.name.now c.args.node)) (sym f.2)) done.1)
+    (done.0, adds_as _ _ _ _ (ap (lines_of (place_of c.args.place.now)) (sym f.2)) done.1)
 
 pub put_value-returns-in-Sequence-clause-adds : goal.put_value-returns-in-Sequence-clause-adds
 put_value-returns-in-Sequence-clause-adds g t c x ms rest h q =
@@ -149,7 +152,7 @@ put_value-returns-in-Sequence-clause-adds g t c x ms rest h q =
     let all = starts c.args.marks.now c.in-Some.first (sym c.leading_mark.ensures ∙ c.in-Some.is) ∙ ap (λ m. m ∷ tail) c.in-Sequence.is in
     let f = sequence_first x ms rest tail h (sym all ∙ q) in
     let done = c.put_entries.ensures.adds f.0 f.1 rest f.3 (c.after_leading_mark-rest.ensures ∙ f.4) in
-    (done.0, adds_as _ _ _ _ (ap (lines_of (place_at c.args.path.now c.args.name.now c.args.node)) (sym f.2)) done.1)
+    (done.0, adds_as _ _ _ _ (ap (lines_of (place_of c.args.place.now)) (sym f.2)) done.1)
 
 pub put_value-returns-in-List-clause-adds : goal.put_value-returns-in-List-clause-adds
 put_value-returns-in-List-clause-adds g t c x ms rest h q =
@@ -157,7 +160,7 @@ put_value-returns-in-List-clause-adds g t c x ms rest h q =
     let all = starts c.args.marks.now c.in-Some.first (sym c.leading_mark.ensures ∙ c.in-Some.is) ∙ ap (λ m. m ∷ tail) c.in-List.is in
     let f = list_first x ms rest tail h (sym all ∙ q) in
     let done = c.put_items.ensures.adds f.0 f.1 rest f.3 (c.after_leading_mark-rest.ensures ∙ f.4) in
-    (done.0, adds_as _ _ _ _ (ap (lines_of (place_at c.args.path.now c.args.name.now c.args.node)) (sym f.2)) done.1)
+    (done.0, adds_as _ _ _ _ (ap (lines_of (place_of c.args.place.now)) (sym f.2)) done.1)
 
 pub put_value-returns-in-Octet-clause-adds : goal.put_value-returns-in-Octet-clause-adds
 put_value-returns-in-Octet-clause-adds g t c x ms rest h q =

@@ -4,7 +4,7 @@ use Rattle.ill_grammar.specs.Outline.{AreEntries, AreItems}
 use Rattle.ill_grammar.specs.declared.outline.Mark.{Mark}
 use Rattle.ill_grammar.specs.declared.outline.Mark.TheVariants as mark
 use Rattle.ill_text.specs.code.Sending.{sending}
-use Rattle.ill_text.specs.code.FieldPaths.{place_at}
+use Rattle.ill_text.specs.code.FieldPaths.{place_of}
 use Rattle.ill_text.proofs.Lines.{EntriesReached, ItemsReached}
 use Rattle.ill_text.proofs.show.+show.Given as goal
 
@@ -32,7 +32,7 @@ decreases-put_items g l = 4 * length l.marks.now + 3
 abbrev pub invariant-put_entries-rows : goal.invariant-put_entries-rows
 invariant-put_entries-rows g l = record {
   reached : (es : Entries) (ms rest : List Mark) → AreEntries es ms → l.fn.marks ≡ ms ++ (mark.End ∷ rest)
-      → EntriesReached (place_at l.fn.path l.fn.name l.fn.node) es rest l.left l.i l.some (sending (g.W.Sink.contents l.fn.sink) (g.W.Sink.is_broken l.fn.sink) l.fn.out)
+      → EntriesReached (place_of l.fn.place) es rest l.left l.i l.some (sending (g.W.Sink.contents l.fn.sink) (g.W.Sink.is_broken l.fn.sink) l.fn.out)
       (sending (g.W.Sink.contents l.sink) (g.W.Sink.is_broken l.sink) l.out);
   shorter : l.i + length l.left ≤ length l.fn.marks;
   stays : IsTrue (g.W.Sink.is_broken l.fn.sink) → IsTrue (g.W.Sink.is_broken l.sink);
@@ -44,7 +44,7 @@ decreases-put_entries-rows g l = length l.left
 abbrev pub invariant-put_items-items : goal.invariant-put_items-items
 invariant-put_items-items g l = record {
   reached : (is : Items) (ms rest : List Mark) → AreItems is ms → l.fn.marks ≡ ms ++ (mark.End ∷ rest)
-      → ItemsReached (place_at l.fn.path l.fn.name l.fn.node) is rest l.left l.i (sending (g.W.Sink.contents l.fn.sink) (g.W.Sink.is_broken l.fn.sink) l.fn.out)
+      → ItemsReached (place_of l.fn.place) is rest l.left l.i (sending (g.W.Sink.contents l.fn.sink) (g.W.Sink.is_broken l.fn.sink) l.fn.out)
       (sending (g.W.Sink.contents l.sink) (g.W.Sink.is_broken l.sink) l.out);
   shorter : l.i + length l.left ≤ length l.fn.marks;
   stays : IsTrue (g.W.Sink.is_broken l.fn.sink) → IsTrue (g.W.Sink.is_broken l.sink);

@@ -16,13 +16,13 @@ returns-then-is_empty-clause-done g c s first left left' taken end h =
     (subst (λ l. Made c.args.work s [] l now.is_good) (ap (λ l. h.0 ++ l) h.3 ∙ append-nil h.0) made) taken end h.1
 
 pub returns-in_err-end_line-clause-fails : goal.returns-in_err-end_line-clause-fails
-returns-in_err-end_line-clause-fails g c s first x h =
+returns-in_err-end_line-clause-fails g c s first x h count =
     let p = err_from_is_err_and c.from_residual.result c.from_residual.ensures.1 in
     let now = c.args.lines.now in
     rw (p.1, p.2) (ends_memory c.args.work s h.2.rest now.is_good x _ first (g.W.Sink.contents c.args.sink.now) h.0 (made_written c.args.work s first (g.W.Sink.contents c.args.sink.now) now h) h.1)
 
 pub returns-in_err-put_ready-clause-fails : goal.returns-in_err-put_ready-clause-fails
-returns-in_err-put_ready-clause-fails g c s first x h =
+returns-in_err-put_ready-clause-fails g c s first x h count =
     let p = err_from_is_err_and c.from_residual-in_err-put_ready.result c.from_residual-in_err-put_ready.ensures.1 in
     let now = c.args.lines.now in
     let last = c.end_line.new.self in
@@ -30,8 +30,8 @@ returns-in_err-put_ready-clause-fails g c s first x h =
     let some : 0 < length now.part.items = omega (arith, len, now.part.ok) in
     let made = made_last c.args.work s h.0 now last h.2 some c.in_ok-end_line.ensures.answers in
     let broke = c.in_err-put_ready.ensures.some in
-    rw (p.1, p.2, broke.0) (ends_write c.args.work s [] last.is_good x _ first (g.W.Sink.contents c.args.sink.now) h.0 last.ready.items
-    (g.W.Sink.contents c.put_ready.new.sink) broke.2.0 made h.1 broke.2.1 broke.2.2 broke.1)
+    rw (p.1, p.2, broke.1.2) (ends_write c.args.work s [] last.is_good x _ first (g.W.Sink.contents c.args.sink.now) h.0 last.ready.items
+    (g.W.Sink.contents c.put_ready.new.sink) c.args.written broke.1.0 made h.1 count broke.1.1 broke.1.3 broke.0)
 
 pub returns-clause-done : goal.returns-clause-done
 returns-clause-done g c s first left left' taken end h =

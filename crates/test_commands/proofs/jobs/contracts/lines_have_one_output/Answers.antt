@@ -7,7 +7,6 @@ use Rattle.ill_inputs.specs.declared.run_fault.RunFault.{RunFault}
 use Rattle.ill_commands.specs.Lines.{Answer, AreAnswers, IsResult, LinesDone, all_results_good, is_good_message, line_options, lines, message_words, result_lines}
 use Rattle.ill_commands.specs.Words.{refusal_words}
 use Rattle.ill_commands.specs.declared.lines.job.LineOptions.{LineOptions}
-use Rattle.ill_commands.specs.declared.lines.job.LinesFault.{LinesFault}
 use Rattle.test_commands.proofs.jobs.contracts.lines_have_one_output.Goals as goal
 
 one_result : (work : LineOptions) (o : Result (List ℕ) RunFault) (r q : List ℕ) (g h : Bool) → IsResult work o r g → IsResult work o q h → (r ≡ q) × (g ≡ h)
@@ -43,7 +42,7 @@ both work s s' t t' held held' new new' g h e k d f =
     let same = one_output work d.answers f.answers d.are f.are (sym d.of ∙ ap lines (sym one ∙ e ∙ other) ∙ f.of) in
     (d.is_verdict ∙ same.1 ∙ sym f.is_verdict, d.written ∙ ap₂ (λ a b. a ++ b) k same.0 ∙ sym f.written)
 
-done : (work : LineOptions) (left left' held held' : Option (List ℕ)) (r : Result Bool LinesFault) (g : Bool) → r ≡ Ok g → IfOk r (LinesDone work left left' held held') → LinesDone work left left' held held' g
+done : (work : LineOptions) (left left' held held' : Option (List ℕ)) (r : Result Bool RunFault) (g : Bool) → r ≡ Ok g → IfOk r (LinesDone work left left' held held') → LinesDone work left left' held held' g
 done work left left' held held' r g p d = subst (λ x. IfOk x (LinesDone work left left' held held')) p d
 
 pub returns-clause-good : goal.returns-clause-good
