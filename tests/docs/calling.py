@@ -27,7 +27,7 @@ Most callers need `ill_normal` alone: it reads messages and gives their normal f
 - `read_message` and `normalise` return `None` at the end of the input. An input that ends within a message is `Truncated`.
 - A refusal counts its offset from the first octet of the message, not of the input.
 - Nothing is written for a refused message. If writing fails, the sink has as many octets as the error says.
-- A call that takes a `Profile` reads in it; any other reads profile 2. Where there are both, the name of the one that takes it ends in `_as`. `decode`, `read_message`, `Decoder` and the structs of `ill_apdu` have profile 2 alone.
+- A call that takes a `Profile` reads in it; any other reads profile 2. `decode`, `read_message`, `Decoder` and the structs of `ill_apdu` have profile 2 alone.
 
 ## A caller
 
