@@ -3,7 +3,8 @@ ghost use Rattle.std.specs.Prelude.{◌≡◌, Bool, IfOk};
 ghost use Rattle.ill_normal.specs.Calls.{putting, taking};
 ghost use Rattle.ill_inputs.specs.Inputs.{verdict_if};
 ghost use Rattle.ill_commands.specs.Lines.{LinesDone};
-ghost use Rattle.ill_cli.specs.code.Puts.{AreElementsPut, IsJobPut};
+ghost use Rattle.ill_cli.specs.code.Puts.{AreElementsPut, IsDumpEnd, IsJobEnd, IsJobPut};
+ghost use Rattle.ill_cli.specs.code.Tallied.{AddsCounts};
 
 use crate::report_lines::PrintReports;
 use crate::tally::Tally;
@@ -25,8 +26,11 @@ pub(crate) fn put_messages<R: Eprint + AllocGlobal, S: Source, W: Sink, P, Q>(
 where
     P: Write + Drop,
     Q: Write + Drop,
-    ensures { IfOk result (λ verdict. IsJobPut work.entry
+    ensures put { IfOk result (λ verdict. IsJobPut work.entry
         (taking (S.left source.old) (S.left source.new) (S.is_broken source.new)) verdict) }
+    ensures counted { AddsCounts (IsJobEnd work.entry
+        (taking (S.left source.old) (S.left source.new) (S.is_broken source.new)))
+        tally.old.summary tally.new }
 {
     let end = run_job(reports.rt.alloc(), work, source, sink, &mut reports);
     let last = reports.kept.end(tally);
@@ -45,8 +49,11 @@ pub(crate) fn put_elements<R: Eprint + AllocGlobal, S: Source, W: Sink, P, Q>(
 where
     P: Write + Drop,
     Q: Write + Drop,
-    ensures { IfOk result (λ verdict. AreElementsPut dump.entry
+    ensures put { IfOk result (λ verdict. AreElementsPut dump.entry
         (taking (S.left source.old) (S.left source.new) (S.is_broken source.new)) verdict) }
+    ensures counted { AddsCounts (IsDumpEnd dump.entry
+        (taking (S.left source.old) (S.left source.new) (S.is_broken source.new)))
+        tally.old.summary tally.new }
 {
     let end = run_dump(reports.rt.alloc(), dump, source, sink, &mut reports);
     let last = reports.kept.end(tally);

@@ -1,4 +1,5 @@
 //! The file that gets the octets of refused messages.
+ghost use Rattle.std.specs.Prelude.{◌≡◌};
 ghost use Rattle.ill_cli.specs.Ends.{IsClosedStatus};
 
 use crate::tally::Tally;
@@ -166,7 +167,9 @@ impl<'o, P: Write + Drop, Q: Write + Drop> KeepRefused<'o, P, Q> {
     }
 
     /// Adds its counts to those of the command.
-    pub fn add_to(&self, tally: &mut Tally<'_>) {
+    pub fn add_to(&self, tally: &mut Tally<'_>)
+        ensures { tally.new.summary ≡ tally.old.summary }
+    {
         tally.not_kept = tally.not_kept.saturating_add(self.not_kept);
         tally.is_refused_lost = tally.is_refused_lost | self.is_lost;
     }

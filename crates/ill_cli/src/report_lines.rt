@@ -1,4 +1,6 @@
 //! Lines for refused messages, where the work goes on after them.
+ghost use Rattle.std.specs.Prelude.{◌≡◌};
+
 use crate::limit::RefusalLimit;
 use crate::refused::KeepRefused;
 use crate::tally::Tally;
@@ -53,7 +55,9 @@ impl<'a, P: Write + Drop, Q: Write + Drop> KeepReports<'a, P, Q> {
     }
 
     /// Adds its counts to those of the command, and returns the refused message with which the work ended, if there is one.
-    pub fn end(self, tally: &mut Tally<'_>) -> Option<RefusalReport> {
+    pub fn end(self, tally: &mut Tally<'_>) -> Option<RefusalReport>
+        ensures { tally.new.summary ≡ tally.old.summary }
+    {
         self.kept.add_to(tally);
         tally.limit = self.limit;
         self.last

@@ -88,7 +88,7 @@ part_unfinished p b hand n k le lt none a m accepted =
     let short : take k (take n hand) ≡ take k hand = take-take k n hand (omega (arith, lt)) in
     let rest = drop k (take n hand) in
     let joined : (b ++ take k hand) ++ rest ≡ b ++ take n hand =
-        append_assoc b (take k hand) rest ∙ ap (λ z. b ++ z) (ap (λ z. z ++ rest) (sym short) ∙ take-append-drop k (take n hand)) in
+    append_assoc b (take k hand) rest ∙ ap (λ z. b ++ z) (ap (λ z. z ++ rest) (sym short) ∙ take-append-drop k (take n hand)) in
     let le_m : m ≤ length (b ++ take k hand) = accepted.0 in
     let same : take m (b ++ take k hand) ≡ take m (b ++ take n hand) = sym (take-append-le m (b ++ take k hand) rest le_m) ∙ ap (take m) joined in
     let size_n = length-append b (take n hand) in

@@ -195,11 +195,7 @@ pub fn read_normal<R: Source>(
 /// # Errors
 ///
 /// Those of [`decode`](crate::decode), in the profile.
-pub fn decode_normal(
-    alloc: Global,
-    profile: Profile,
-    octets: &[u8],
-) -> Result<NormalForm, Failure>
+pub fn decode_normal(alloc: Global, profile: Profile, octets: &[u8]) -> Result<NormalForm, Failure>
     ensures { NormalAnswersIn (profile_of profile) octets.now result }
 {
     NormalReader::new(alloc).decode(profile, octets, Vec::new(alloc))

@@ -42,7 +42,6 @@ pub fn read_message<R: Source>(
     }
 }
 
-
 /// Reads a message with a reader that nothing was fed, in its profile. Where its draft has it, returns how many octets it had.
 #[inline(always)]
 pub(crate) fn read_draft<D: Draft, R: Source, K: Recorder>(

@@ -23,17 +23,25 @@ IsRead mode None = Unit {0}
 IsRead OnRefusal.GoOn (Some (RunFault.Refused message refusal)) = Unit {0}
 IsRead mode (Some fault) = ⊥
 
+-- the end of the work on the messages of an input: of a job, of one whose results are lines of JSON, and on their elements
+abbrev pub IsJobEnd : JobOptions → Taking → StreamEnd → Type 0
+IsJobEnd work source end = (output : Putting) × RunsJob work source output (reporting None None) end
+
+abbrev pub IsResultsEnd : JobOptions → Taking → StreamEnd → Type 0
+IsResultsEnd work source end = (output : Putting) × RunsResults work source output (reporting None None) end
+
+abbrev pub IsDumpEnd : DumpOptions → Taking → StreamEnd → Type 0
+IsDumpEnd dump source end = (output : Putting) × RunsDump dump source output (reporting None None) end
+
 -- a job was done with the messages of an input
 abbrev pub IsJobPut : JobOptions → Taking → Verdict → Type 0
 IsJobPut work source verdict =
-    (end : StreamEnd) × (output : Putting) × (verdict ≡ verdict_of_counts work.job end.counts) × IsRead work.on_refusal end.fault
-    × RunsJob work source output (reporting None None) end
+    (end : StreamEnd) × IsJobEnd work source end × (verdict ≡ verdict_of_counts work.job end.counts) × IsRead work.on_refusal end.fault
 
 -- a job was done whose results are lines of JSON, of refused messages, too
 abbrev pub AreLinesPut : JobOptions → Taking → Verdict → Type 0
 AreLinesPut work source verdict =
-    (end : StreamEnd) × (output : Putting) × (verdict ≡ verdict_of_counts work.job end.counts) × IsRead work.on_refusal end.fault
-    × RunsResults work source output (reporting None None) end
+    (end : StreamEnd) × IsResultsEnd work source end × (verdict ≡ verdict_of_counts work.job end.counts) × IsRead work.on_refusal end.fault
 
 -- with the first refused message the work may end, and that is not good
 abbrev pub AreResultsPut : JobOptions → Taking → Verdict → Type 0
@@ -46,8 +54,7 @@ AreMessagesPut false work source verdict = IsJobPut work source verdict
 -- the elements of the messages were written
 abbrev pub AreElementsPut : DumpOptions → Taking → Verdict → Type 0
 AreElementsPut dump source verdict =
-    (end : StreamEnd) × (output : Putting) × (verdict ≡ verdict_if (end.counts.refused == 0)) × IsRead dump.on_refusal end.fault
-    × RunsDump dump source output (reporting None None) end
+    (end : StreamEnd) × IsDumpEnd dump source end × (verdict ≡ verdict_if (end.counts.refused == 0)) × IsRead dump.on_refusal end.fault
 
 -- what was asked for was done with an input
 abbrev pub IsPut : InputAction → Taking → Verdict → Type 0

@@ -10,6 +10,8 @@ use Rattle.ill_inputs.specs.declared.run_fault.RunFault.{RunFault}
 use Rattle.ill_normal.specs.declared.counts.Counts.{Counts}
 use Rattle.ill_normal.specs.declared.report.RefusalReport.{RefusalReport}
 use Rattle.ill_cli.specs.Counts.{left_after, place_of_report, with_counts, with_left, with_report, with_unopened, without_file}
+use Rattle.ill_normal.specs.declared.messages.StreamEnd.{StreamEnd}
+use Rattle.ill_cli.specs.declared.summary.Summary.{Summary}
 use Rattle.ill_cli.specs.declared.tally.Tally.{Tally}
 
 -- the file that can't be opened has this name; one that begins with NUL stands for a word that is no UTF-8 text
@@ -56,3 +58,8 @@ abbrev pub after_input : Counts → Option RunFault → Option RefusalReport →
 after_input counts None last t = record t { summary = with_counts t.summary counts }
 after_input counts (Some RunFault.NotReported) (Some last) t = stopped_at counts last t
 after_input counts (Some fault) last t = left_by counts fault t
+
+-- the counts of the work on an input were added, whatever its end was, to numbers that were these
+abbrev pub AddsCounts : (StreamEnd → Type 0) → Summary → Tally → Type 0
+AddsCounts IsEnd summary new =
+    (end : StreamEnd) × (last : Option RefusalReport) × (t : Tally) × IsEnd end × (t.summary ≡ summary) × (new ≡ after_input end.counts end.fault last t)

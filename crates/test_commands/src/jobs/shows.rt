@@ -1,5 +1,5 @@
 //! Texts of `show_text`.
-use ber_core::{Pieces};
+use ber_core::Pieces;
 use ill_normal::decode;
 use ill_read::{Outline, read_outline};
 use ill_schema::Profile;
@@ -122,7 +122,7 @@ fn each_message_has_its_text(rt: HostRuntime) -> Result<(), Fail> {
 /// The text of the message that comes in pieces of one octet.
 fn text_in(alloc: Global, profile: Profile, octets: &[u8]) -> Result<Vec<u8>, Fail> {
     let mut source = Pieces::new(octets, 1, None);
-    match read_outline(alloc, profile, &mut source)) {
+    match read_outline(alloc, profile, &mut source) {
         Ok(Some(read)) => Ok(Text::new_as(profile, 1, read.outline).octets(alloc)?),
         _ => Err(Fail::from("not read")),
     }

@@ -1,9 +1,7 @@
 //! Calls in the module profile. Nothing is written where there is no memory. `tests/memory/allocations.sh` makes these calls, too, in a program of its own.
 use super::Row;
 use ber_core::{Pieces, Room};
-use ill_commands::{
-    Job, LineJob, LinesFault, RunFault, Verdict, run_as, run_lines_as, run_same_as,
-};
+use ill_commands::{Job, LineJob, RunFault, Verdict, run_as, run_lines_as, run_same_as};
 use ill_normal::{
     Failure, NormalFailure, ReadFailure, StreamCause, check_one_as, is_normal_as, normalise_as,
     normalise_stream_as, same_message_as,
@@ -159,7 +157,7 @@ fn run_lines(alloc: Global) -> Outcome {
     match done {
         Ok(all) => Outcome::right(all && sink.octets().len() == 65),
         Err(fault) => {
-            Outcome::out_of_memory(fault == LinesFault::OutOfMemory && sink.octets().is_empty())
+            Outcome::out_of_memory(fault == RunFault::OutOfMemory && sink.octets().is_empty())
         }
     }
 }

@@ -55,7 +55,10 @@ fn slices_have_the_normal_form_of_their_message(
     ensures normal { (x : Refusal) (n : NormalForm) → result.0 ≡ Err (Failure.Refused x)
         → result.1 ≡ Ok n → ⊥ }
 {
-    (decode(alloc, octets), decode_normal(alloc, Profile::Two, octets))
+    (
+        decode(alloc, octets),
+        decode_normal(alloc, Profile::Two, octets),
+    )
 }
 
 /// Two slices are the same exactly where they spell one APDU, and exactly where the normal forms of what they spell are equal.

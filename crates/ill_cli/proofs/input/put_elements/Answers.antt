@@ -4,16 +4,16 @@ use Rattle.ill_normal.specs.Calls.{putting}
 use Rattle.ill_cli.proofs.Puts.{none_refused, some_refused}
 use Rattle.ill_cli.proofs.input.put_elements.Goals as goal
 
-pub returns-in-None : goal.returns-in-None
-returns-in-None g c =
+pub returns-in-None-clause-put : goal.returns-in-None-clause-put
+returns-in-None-clause-put g c =
     let same = ap (λ counts. verdict_if (counts.refused == 0)) c.in_ok-counts.ensures.read.0 in
     let verdict = none_refused c.in_ok-counts.counts.refused c.if-counts-eq0.true ∙ same in
     let output = putting (g.W.Sink.contents c.args.sink.now) (g.W.Sink.contents c.run_dump-end.new.sink) (g.W.Sink.is_broken c.run_dump-end.new.sink) in
-    (c.run_dump-end.result, output, verdict, c.in_ok-counts.ensures.read.1, c.run_dump-end.ensures.reads)
+    (c.run_dump-end.result, (output, c.run_dump-end.ensures.reads), verdict, c.in_ok-counts.ensures.read.1)
 
-pub returns-in-None-2 : goal.returns-in-None-2
-returns-in-None-2 g c =
+pub returns-in-None-2-clause-put : goal.returns-in-None-2-clause-put
+returns-in-None-2-clause-put g c =
     let same = ap (λ counts. verdict_if (counts.refused == 0)) c.in_ok-counts.ensures.read.0 in
     let verdict = some_refused c.in_ok-counts.counts.refused c.if-counts-eq0.false ∙ same in
     let output = putting (g.W.Sink.contents c.args.sink.now) (g.W.Sink.contents c.run_dump-end.new.sink) (g.W.Sink.is_broken c.run_dump-end.new.sink) in
-    (c.run_dump-end.result, output, verdict, c.in_ok-counts.ensures.read.1, c.run_dump-end.ensures.reads)
+    (c.run_dump-end.result, (output, c.run_dump-end.ensures.reads), verdict, c.in_ok-counts.ensures.read.1)

@@ -37,9 +37,11 @@ returns-in-Err-consume-clause-front g c =
     let n = c.read_buffered-seen.result in
     let within : n ≤ length (take c.min-most.result hand) = c.read_buffered-seen.ensures.count in
     let size = length-take c.min-most.result hand in
-    let le : k ≤ length hand = omega (arith, within, size, fewer.1) in
-    (take k hand, drops_shown (g.R.Source.left c.args.source.now) (g.R.Source.left c.consume.new.self) hand k c.buffered-hand.ensures.front le fewer.2,
-    omega (arith, length-take-le k hand le, fewer.1, within, size, c.min-most.ensures))
+    let le : k ≤ length hand = omega (arith, within, size, fewer.1) in (
+      take k hand,
+      drops_shown (g.R.Source.left c.args.source.now) (g.R.Source.left c.consume.new.self) hand k c.buffered-hand.ensures.front le fewer.2,
+      omega (arith, length-take-le k hand le, fewer.1, within, size, c.min-most.ensures),
+    )
 
 pub returns-in-Err-consume-clause-unfinished : goal.returns-in-Err-consume-clause-unfinished
 returns-in-Err-consume-clause-unfinished g c is p b h exact =
