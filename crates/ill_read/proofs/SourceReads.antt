@@ -9,7 +9,7 @@ use Rattle.ill_schema.specs.Profiles.{profile_of}
 use Rattle.ill_tables.specs.declared.profile.Profile.TheVariants.{Two}
 use Rattle.std.proofs.Common.{◌≡◌, ◌≢◌, ◌⊎◌, ℕ, ◌+◌, ◌<◌, ◌≤◌, List, [], ◌∷◌, ◌++◌, length, length-append, Option, Some, None, Result, Ok, Err, IsTrue, refl, sym, ap, subst, ◌∙◌, inl, inr, arith, append-nil, append_assoc, take, drop}
 use Rattle.std.specs.Prelude.{Bool, true, false, IfErr, IfNone, IfOk, IfSome}
-use Rattle.std.specs.Io.KnownBytes.{Appends, Consumes, IsAtEnd, Keeps}
+use Rattle.std.specs.Io.KnownBytes.{Appends, Consumes, IsAtEnd}
 use Rattle.std.proofs.lemmas.Bool.{cases_lt}
 use Rattle.std.proofs.lemmas.List.{length-take-le, nil_from_length, take_all, take-append-drop, take-append-le, take-take}
 use Rattle.ber_tree.specs.Octets.{are_octets}
@@ -97,12 +97,6 @@ part_unfinished p b hand n k le lt none a m accepted =
     let len_k = length-take-le k hand (omega (arith, le, lt)) in
     let far : length (b ++ take n hand) ≤ m = none a m (omega (arith, le_m, size_n, size_k, len_n, len_k, lt), subst (SpellsApdu (profile_of p) a) same accepted.1) in
     absurd (omega (arith, far, le_m, size_n, size_k, len_n, len_k, lt))
-
--- what is left stays
-pub kept_nothing : (left after : Option (List ℕ)) → Keeps left after → Consumes left after []
-kept_nothing None after keeps = tt
-kept_nothing (Some s) None keeps = absurd keeps
-kept_nothing (Some s) (Some t) keeps = sym keeps
 
 -- nothing is read where memory or the source failed
 pub reads_nothing : {T : Type 0} (p : Named) (left after : Option (List ℕ)) (broken broken' : Bool) (Is : T → List ℕ → Type 0) (e : ReadFailure) → IsReadFault e → TakesFront left after

@@ -297,6 +297,12 @@ fn sources_give_what_they_show<R: Source>(source: &mut R, alloc: Global) -> Opti
     Some(shown)
 }
 
+/// Nothing is seen of sources that have no call of their own to show it.
+fn unseen_sources_show_nothing<R: Read>(reader: &FromRead<R>, pieces: &Pieces<'_>) {
+    prove!(reader.buffered().is_empty());
+    prove!(pieces.buffered().is_empty());
+}
+
 /// A slice shows all that is left, and can be taken as it is shown.
 fn slices_give_what_they_show(source: &mut FromSlice<'_>) {
     let len = source.buffered().len();

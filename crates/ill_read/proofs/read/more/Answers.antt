@@ -1,11 +1,12 @@
 use Rattle.std.proofs.Common.{◌≡◌, ◌≤◌, [], ◌++◌, append-nil, length, take, refl, sym, ap, subst, arith}
+use Rattle.std.proofs.KnownBytes.{Consumes-kept, Consumes-nil}
 use Rattle.std.proofs.lemmas.List.{length-take, length-take-le, take-take}
 use Rattle.ber_core.proofs.Shown.{drops_shown}
 use Rattle.ill_schema.specs.Profiles.{profile_of}
 use Rattle.ill_read.specs.Answers.{IsUnfinishedIn}
 use Rattle.ill_read.specs.code.Filling.{HasLooked, NoneEndsWithin}
 use Rattle.ill_read.proofs.LookedOctets.{looked_nothing}
-use Rattle.ill_read.proofs.SourceReads.{kept_nothing, part_unfinished}
+use Rattle.ill_read.proofs.SourceReads.{part_unfinished}
 use Rattle.ill_read.proofs.read.more.Goals as goal
 
 pub returns-in-Ok-clause-taken : goal.returns-in-Ok-clause-taken
@@ -76,4 +77,4 @@ pub returns-in-Err-take_octets-clause-unfinished : goal.returns-in-Err-take_octe
 returns-in-Err-take_octets-clause-unfinished g c is p b h exact =
     let x = looked_nothing p g.D.Draft.holds g.D.Draft.has c.read_buffered-seen.new.self b _ c.read_buffered-seen.result (omega (arith, c.if-seen-gt0.false)) (c.read_buffered-seen.ensures.looked p b h exact) in
     let none = c.in-Err-take_octets.ensures.unfinished refl p b x.fed in
-    ([], kept_nothing (g.R.Source.left c.args.source.now) (g.R.Source.left c.take_octets.new.source) (c.in-Err-take_octets.ensures.untaken refl), subst (IsUnfinishedIn (profile_of p)) (sym (append-nil b)) none)
+    ([], Consumes-kept _ _ (g.R.Source.left c.take_octets.new.source) [] (Consumes-nil (g.R.Source.left c.args.source.now)) (c.in-Err-take_octets.ensures.untaken refl), subst (IsUnfinishedIn (profile_of p)) (sym (append-nil b)) none)
