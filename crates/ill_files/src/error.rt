@@ -5,7 +5,7 @@ ghost use Rattle.ill_files.specs.Status.{is_output_lost, is_read_fault, keeps_ou
 use crate::count::Count;
 use crate::names::{FileName, FileNameRef};
 use crate::open_obstacle::OpenObstacle;
-use crate::replacement::ReplaceFault;
+use crate::replacement::ReplaceObstacle;
 use clap::Error as LineError;
 use clap::error::ErrorKind;
 use ill_args::LineFault;
@@ -48,7 +48,7 @@ pub enum ProgramError {
     CannotOpen(FileName, OpenObstacle),
     /// No new file can be written or given this name, for this reason. The file with this name is as it was.
     #[error("cannot replace {0}: {1}")]
-    CannotReplace(FileName, ReplaceFault),
+    CannotReplace(FileName, ReplaceObstacle),
     /// The output was to be written to a new file beside the file with this name, but all names for it are taken. Nothing was written.
     #[error("cannot write {0}: all names from {0}.part to {0}.part99 are taken")]
     NamesAreTaken(FileName),
@@ -91,9 +91,9 @@ impl ProgramError {
     }
 
     /// The file with this name can't be replaced, for this reason.
-    pub fn cannot_replace(alloc: Global, name: &str, fault: ReplaceFault) -> ProgramError {
+    pub fn cannot_replace(alloc: Global, name: &str, obstacle: ReplaceObstacle) -> ProgramError {
         match FileName::of(alloc, name) {
-            Ok(name) => ProgramError::CannotReplace(name, fault),
+            Ok(name) => ProgramError::CannotReplace(name, obstacle),
             Err(_) => ProgramError::out_of_memory(),
         }
     }

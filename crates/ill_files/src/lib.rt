@@ -39,7 +39,7 @@ pub use output::{
     open_standard_output,
 };
 pub use progress::{ProgressLine, ProgressReader};
-pub use replacement::{ReplaceFault, ReplaceObstacle};
+pub use replacement::ReplaceObstacle;
 pub use same_file::{FileId, are_one_target, is_standard_output};
 pub use streams::open_closed_streams;
 pub use words::{printable_error, words_of};

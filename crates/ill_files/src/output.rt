@@ -5,9 +5,7 @@ use crate::error::{ProgramError, RunLine, is_output_lost, keeps_output};
 use crate::host::Host;
 use crate::names::FileNameRef;
 use crate::open_obstacle::OpenObstacle;
-use crate::replacement::{
-    self, ReplaceFault, ReplaceMode, ReplaceObstacle, Replacement, sync_folder,
-};
+use crate::replacement::{self, ReplaceMode, ReplaceObstacle, Replacement, sync_folder};
 use crate::same_file::{FileId, is_standard_output};
 use ill_inputs::{RunFault, Verdict};
 use std::alloc::Global;
@@ -259,8 +257,8 @@ pub fn open_output<'n, 'r, R: Print + Eprint + Host + AllocGlobal>(
 ) -> Result<OutputDestination<'n>, ProgramError> {
     if is_standard_output(name) {
         if whole {
-            let fault = ReplaceFault::NoRegularFile;
-            return Err(ProgramError::cannot_replace(rt.alloc(), name, fault));
+            let obstacle = ReplaceObstacle::NoRegularFile;
+            return Err(ProgramError::cannot_replace(rt.alloc(), name, obstacle));
         }
         open_standard_output(rt, output)?;
         return Ok(OutputDestination { name, part: None });
@@ -274,11 +272,7 @@ pub fn open_output<'n, 'r, R: Print + Eprint + Host + AllocGlobal>(
             })
         }
         ReplaceMode::Direct(obstacle) if whole => {
-            let fault = match obstacle {
-                Some(obstacle) => ReplaceFault::Direct(obstacle),
-                None => ReplaceFault::NoRegularFile,
-            };
-            Err(ProgramError::cannot_replace(rt.alloc(), name, fault))
+            Err(ProgramError::cannot_replace(rt.alloc(), name, obstacle))
         }
         ReplaceMode::Direct(obstacle) => {
             open_directly(rt, output, name, obstacle)?;
@@ -308,7 +302,7 @@ fn open_directly<'r, R: Print + Eprint + Host + AllocGlobal>(
     rt: &'r R,
     output: &OutputOf<'r, R>,
     name: &str,
-    obstacle: Option<ReplaceObstacle>,
+    obstacle: ReplaceObstacle,
 ) -> Result<(), ProgramError> {
     let alloc = rt.alloc();
     let file = match fs::create(rt, name) {
@@ -319,7 +313,7 @@ fn open_directly<'r, R: Print + Eprint + Host + AllocGlobal>(
         }
     };
     output.open(alloc, OutputKind::File(file))?;
-    if let Some(obstacle) = obstacle {
+    if obstacle != ReplaceObstacle::NoRegularFile {
         let name = FileNameRef(name.as_bytes());
         // A line that can't be written changes nothing of the output.
         let _ = eprintln!(rt; "illcanon: {name} is written directly: {obstacle}");
@@ -369,8 +363,8 @@ fn take_name<'r, R: Print + Host + AllocGlobal>(
     let renamed = match is_still_named(rt, output, part) {
         // Another file has this name by now, which is not ours to remove.
         Ok(false) => {
-            let fault = ReplaceFault::NewNameTaken;
-            return Err(ProgramError::cannot_replace(rt.alloc(), name, fault));
+            let obstacle = ReplaceObstacle::NewNameTaken;
+            return Err(ProgramError::cannot_replace(rt.alloc(), name, obstacle));
         }
         Ok(true) => fs::rename(rt, part, name),
         Err(error) => Err(error),
@@ -382,8 +376,8 @@ fn take_name<'r, R: Print + Host + AllocGlobal>(
         }
         Err(error) => {
             let _ = fs::remove_file(rt, part);
-            let fault = ReplaceFault::System(error.kind());
-            Err(ProgramError::cannot_replace(rt.alloc(), name, fault))
+            let obstacle = ReplaceObstacle::System(error.kind());
+            Err(ProgramError::cannot_replace(rt.alloc(), name, obstacle))
         }
     }
 }

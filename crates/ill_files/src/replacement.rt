@@ -33,11 +33,11 @@ pub struct Replacement<F> {
 pub enum ReplaceMode<F> {
     /// To a new file beside it, which takes its name at the end.
     Beside(Replacement<F>),
-    /// Directly. A regular file that is there can't be replaced for this reason; None where there is no regular file.
-    Direct(Option<ReplaceObstacle>),
+    /// Directly, since it can't be replaced for this reason.
+    Direct(ReplaceObstacle),
 }
 
-/// The reason why a regular file is written directly, and not replaced.
+/// The reason why a file can't be replaced. It stays as it was, unless it is written directly.
 #[derive(Clone, Copy, Debug, PartialEq, Eq)]
 pub enum ReplaceObstacle {
     /// Its name is a link to it.
@@ -48,40 +48,26 @@ pub enum ReplaceObstacle {
     Folder,
     /// A new file can't be given its owner, group and mode.
     Owner,
+    /// It is a device, a pipe or a folder.
+    NoRegularFile,
+    /// Another file has the name of the new one by now.
+    NewNameTaken,
+    /// A call of the system failed so.
+    System(ErrorKind),
 }
 
 impl fmt::Display for ReplaceObstacle {
     fn fmt<W: fmt::Write>(&self, f: &mut fmt::Formatter<W>) -> fmt::Result {
-        f.write_str(match self {
+        let why = match self {
             ReplaceObstacle::Link => "it is a link",
             ReplaceObstacle::Names => "it has several names",
             ReplaceObstacle::Folder => "no new file can be made beside it",
             ReplaceObstacle::Owner => "its owner and mode can't be given to a new file",
-        })
-    }
-}
-
-/// The reason why a file can't be replaced. It stays as it was.
-#[derive(Clone, Copy, Debug, PartialEq, Eq)]
-pub enum ReplaceFault {
-    /// A call of the system failed so.
-    System(ErrorKind),
-    /// It could be written directly, and is to be replaced as a whole.
-    Direct(ReplaceObstacle),
-    /// It is a device, a pipe or a folder, and is to be replaced as a whole.
-    NoRegularFile,
-    /// Another file has the name of the new one by now.
-    NewNameTaken,
-}
-
-impl fmt::Display for ReplaceFault {
-    fn fmt<W: fmt::Write>(&self, f: &mut fmt::Formatter<W>) -> fmt::Result {
-        match self {
-            ReplaceFault::System(kind) => write!(f, "{kind}"),
-            ReplaceFault::Direct(obstacle) => write!(f, "{obstacle}"),
-            ReplaceFault::NoRegularFile => f.write_str("it is no regular file"),
-            ReplaceFault::NewNameTaken => f.write_str("another file has the name of the new one"),
-        }
+            ReplaceObstacle::NoRegularFile => "it is no regular file",
+            ReplaceObstacle::NewNameTaken => "another file has the name of the new one",
+            ReplaceObstacle::System(kind) => return write!(f, "{kind}"),
+        };
+        f.write_str(why)
     }
 }
 
@@ -92,8 +78,8 @@ enum ExistingFile {
     Absent,
     /// A regular file with no other name.
     File(Metadata),
-    /// A file that can't be replaced: a regular file or a link to no file, for this reason, or a device, a pipe, a folder.
-    Other(Option<ReplaceObstacle>),
+    /// A file that can't be replaced, for this reason, or a link to no file.
+    Other(ReplaceObstacle),
 }
 
 /// Creates a new file beside the one with this name, with its owner, group and mode, or says why the file with this name has to
@@ -113,12 +99,12 @@ pub fn begin<R: Host + AllocGlobal>(
             Ok(new) => Ok(ReplaceMode::Beside(new)),
             // The call that makes the file itself says what is wrong with its name.
             Err(kind) if allows_no_new_file(kind) || is_of_name(kind) => {
-                Ok(ReplaceMode::Direct(Some(ReplaceObstacle::Folder)))
+                Ok(ReplaceMode::Direct(ReplaceObstacle::Folder))
             }
             Err(kind) => Err(ProgramError::cannot_replace(
                 rt.alloc(),
                 name,
-                ReplaceFault::System(kind),
+                ReplaceObstacle::System(kind),
             )),
         },
         ExistingFile::File(old) => begin_beside(rt, name, &old),
@@ -165,11 +151,11 @@ fn begin_beside<R: Host + AllocGlobal>(
     let new = match create_beside(rt, name, old.mode() & 0o700)? {
         Ok(new) => new,
         Err(kind) if allows_no_new_file(kind) => {
-            return Ok(ReplaceMode::Direct(Some(ReplaceObstacle::Folder)));
+            return Ok(ReplaceMode::Direct(ReplaceObstacle::Folder));
         }
         Err(kind) => {
-            let fault = ReplaceFault::System(kind);
-            return Err(ProgramError::cannot_replace(alloc, name, fault));
+            let obstacle = ReplaceObstacle::System(kind);
+            return Err(ProgramError::cannot_replace(alloc, name, obstacle));
         }
     };
     let taken_over = copy_owner_and_mode(rt, &new, old);
@@ -180,11 +166,11 @@ fn begin_beside<R: Host + AllocGlobal>(
     match taken_over {
         Ok(_) => Err(ProgramError::cannot_open(alloc, name, OpenObstacle::Denied)),
         Err(error) if keeps_owner(error.kind()) => {
-            Ok(ReplaceMode::Direct(Some(ReplaceObstacle::Owner)))
+            Ok(ReplaceMode::Direct(ReplaceObstacle::Owner))
         }
         Err(error) => {
-            let fault = ReplaceFault::System(error.kind());
-            Err(ProgramError::cannot_replace(alloc, name, fault))
+            let obstacle = ReplaceObstacle::System(error.kind());
+            Err(ProgramError::cannot_replace(alloc, name, obstacle))
         }
     }
 }
@@ -192,20 +178,20 @@ fn begin_beside<R: Host + AllocGlobal>(
 /// The target of a name. It is not opened, since what it stands for may change meanwhile, and to open a pipe may wait.
 fn existing_file<R: Files>(rt: &R, name: &str) -> ExistingFile {
     if name.is_empty() || name.ends_with('/') {
-        return ExistingFile::Other(None);
+        return ExistingFile::Other(ReplaceObstacle::NoRegularFile);
     }
     match fs::symlink_metadata(rt, name) {
         Ok(found) if found.is_file() && found.nlink() == 1 => ExistingFile::File(found),
-        Ok(found) if found.is_file() => ExistingFile::Other(Some(ReplaceObstacle::Names)),
+        Ok(found) if found.is_file() => ExistingFile::Other(ReplaceObstacle::Names),
         Ok(_) => match fs::metadata(rt, name) {
-            Ok(found) if found.is_file() => ExistingFile::Other(Some(ReplaceObstacle::Link)),
+            Ok(found) if found.is_file() => ExistingFile::Other(ReplaceObstacle::Link),
             Err(error) if error.kind() == ErrorKind::NotFound => {
-                ExistingFile::Other(Some(ReplaceObstacle::Link))
+                ExistingFile::Other(ReplaceObstacle::Link)
             }
-            _ => ExistingFile::Other(None),
+            _ => ExistingFile::Other(ReplaceObstacle::NoRegularFile),
         },
         Err(error) if error.kind() == ErrorKind::NotFound => ExistingFile::Absent,
-        Err(_) => ExistingFile::Other(None),
+        Err(_) => ExistingFile::Other(ReplaceObstacle::NoRegularFile),
     }
 }
 
