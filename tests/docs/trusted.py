@@ -208,13 +208,24 @@ def contract_at(lines, start):
     return " ".join(text)
 
 
+def clauses_of(contract, wanted):
+    """The clauses of a contract that have these names, and what it requires."""
+    parts = re.split(r"\b(ensures|requires)\b\s*(\w*)\s*(?={)", contract)[1:]
+    clauses = [*zip(parts[::3], parts[1::3], parts[2::3])]
+    missing = {*wanted} - {name for kind, name, _ in clauses if kind == "ensures"}
+    if missing:
+        sys.exit(f"trusted.py: no clause {', '.join(sorted(missing))} in {contract.strip()[:80]}")
+    return " ".join(text for kind, name, text in clauses if kind == "requires" or name in wanted)
+
+
 def names_in(block):
     """The names that the first line of an `impl` or a trait has, without the trait that is implemented."""
     return {*re.findall(r"\w+", block.partition(" for ")[2] or block)}
 
 
-def contracts_of(crate, wanted=None):
-    """The definitions that contracts cite: of what a library passes on, or of the functions of these names (`name`, or `Type::name`)."""
+def contracts_of(crate, wanted=None, clauses=None):
+    """The definitions that contracts cite: of what a library passes on, or of the functions of these names (`name`, or `Type::name`), in all
+    clauses, or in those of these names."""
     names, missing = exported(crate), {*(wanted or ())}
     for path, lines in rust_of(crate):
         uses = uses_of(lines, ghost=True)
@@ -227,7 +238,7 @@ def contracts_of(crate, wanted=None):
                 is_wanted = bool(found & {*wanted})
                 missing -= found
             if is_wanted:
-                yield from words_in(contract, uses)
+                yield from words_in(clauses_of(contract, clauses) if clauses else contract, uses)
         if wanted is None:
             for block, text in ghosts_of(lines):
                 if names & names_in(block):
@@ -246,10 +257,11 @@ def size(found):
     return len(found), sum(lines_of(module, names) for module, names in found.items())
 
 
-# The columns: a mark, what it is of, and the functions whose contracts say it (None for all that a library passes on). Those with a number are
-# the claims of README.md, which names the same functions; README.md or docs/PROVED.md names those of the others.
+# The columns: a mark, what it is of, and the functions whose contracts say it (None for all that a library passes on), with the clauses that say
+# it where these aren't all. Those with a number are the claims of README.md, which names the same functions; README.md or docs/PROVED.md names
+# those of the others.
 COLUMNS = [
-    ("1", "Equal normal forms", [("ill_normal", "normal_forms_are_equal_exactly_if_apdus_are"), ("ill_normal", "same_message")]),
+    ("1", "Equal normal forms", [("ill_normal", "normal_forms_are_equal_exactly_if_apdus_are"), ("ill_normal", "same_message", "same", "accepts")]),
     ("2", "What is accepted", [("ill_refusals", "one_outcome"), ("ill_read", "decode"), ("ill_read", "read_message")]),
     ("3", "However the input is cut", [("ill_read", "Decoder::feed"), ("ill_read", "read_message")]),
     ("4", "One cause at one offset", [("ill_refusals", "one_outcome"), ("ill_normal", "one_refusal_of_a_slice")]),
@@ -312,11 +324,18 @@ LAWS.update({(FEEDING, name): ("ill_read", "decoders_are_apart") for name in ("I
 PRODUCT = "ber_tree ber_core ber_framing ber_leaf ill_tables ill_schema ill_refusals ill_inputs ill_read ill_write ill_normal ill_text ill_json ill_commands ill_walk ill_dump ill_args ill_files ill_cli ill_c ill_parts ill_apdu".split()
 
 
+def said(crate, name, *clauses):
+    """A function, with its clauses, as the list names it."""
+    if not name:
+        return f"all of `{crate}`"
+    return f"`{crate}::{name}`" + (f" ({', '.join(f'`{clause}`' for clause in clauses)})" if clauses else "")
+
+
 def columns():
     """Each column of the list: its mark, what it is of, the functions whose contracts it follows, and what they reach."""
     for mark, title, functions in COLUMNS:
-        calls = ", ".join(f"`{crate}::{name}`" if name else f"all of `{crate}`" for crate, name in functions)
-        yield mark, title, calls, reached([seed for crate, name in functions for seed in contracts_of(crate, name and (name,))])
+        calls = ", ".join(said(*function) for function in functions)
+        yield mark, title, calls, reached([seed for crate, name, *clauses in functions for seed in contracts_of(crate, name and (name,), clauses)])
 
 
 def union(parts):
@@ -370,12 +389,12 @@ def readme_faults():
         yield f"README.md has other lines and files than {wanted}: {said}"
     table = texts[0].partition("\nClaim | ")[2].partition("\n\n")[0].split("\n")[2:]
     rows = [{call.rpartition("::")[2] for call in re.findall(r"`([\w:]+)`", row.split(" | ")[1])} for row in table]
-    wanted = [{name.rpartition("::")[2] for _, name in functions} for mark, _, functions in COLUMNS if mark.isdigit()]
+    wanted = [{name.rpartition("::")[2] for _, name, *_ in functions} for mark, _, functions in COLUMNS if mark.isdigit()]
     if rows != wanted:
         yield f"README.md names other functions for its claims than COLUMNS has: {rows}"
     words = {word for text in texts for word in re.findall(r"`([\w:]+)`", text)}
     for mark, _, functions in COLUMNS:
-        for crate, name in functions:
+        for crate, name, *_ in functions:
             if name and not any(f"::{word}".endswith((f"::{name}", "::" + name.removesuffix("_as"))) or word == name.rpartition("::")[2] for word in words):
                 yield f"neither README.md nor docs/PROVED.md names {crate}::{name}, of column {mark}"
             if not name and not re.search(rf"\b{crate}\b", texts[1]):

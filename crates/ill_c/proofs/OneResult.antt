@@ -5,8 +5,9 @@ use Rattle.ber_leaf.specs.Profile.{Profile}
 use Rattle.ill_schema.specs.Apdu.{Apdu, SpellsApdu, Accepts, normal_form_in}
 use Rattle.ill_schema.proofs.Streams.{accepts_once}
 use Rattle.ill_refusals.specs.Fault.{Fault}
+use Rattle.ill_read.proofs.Accepted.{refuses_whole}
 use Rattle.ill_read.specs.Answers.{RefusesWholeIn}
-use Rattle.ill_normal.proofs.Canonical.{refuses_once, refuses_whole, spells_once}
+use Rattle.ill_normal.proofs.Canonical.{refuses_once, spells_once}
 use Rattle.ill_c.specs.declared.refusal.IllcanonRefusal.{IllcanonRefusal}
 use Rattle.ill_c.specs.declared.status.Status.{Status}
 use Rattle.ill_c.specs.Calls.{IsMade, WritesIn, ChecksIn, ComparesIn, FindsIn, WritesFrontIn, DumpsIn, Frames, NamesCause, Puts}

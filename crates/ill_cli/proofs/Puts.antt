@@ -1,35 +1,25 @@
 -- What was done with an input, by the action on it.
-use Rattle.std.proofs.Common.{◌≡◌, ◌≢◌, ◌==◌, ℕ, Bool, true, false, refl, sym, ap, subst}
-use Rattle.ill_commands.specs.Lines.{LinesDone}
-use Rattle.ill_commands.proofs.MadeResults.{is_zero}
-use Rattle.ill_commands.specs.declared.lines.job.LineOptions.{LineOptions}
-use Rattle.ill_inputs.specs.Inputs.{verdict_if}
+use Rattle.std.proofs.Common.{◌≡◌, Bool, true, false, Result, sym, subst}
 use Rattle.ill_commands.specs.declared.job.JobOptions.{JobOptions}
+use Rattle.ill_files.specs.declared.error.ProgramError.{ProgramError}
 use Rattle.ill_inputs.specs.declared.verdict.Verdict.{Verdict}
-use Rattle.ill_normal.specs.Calls.{Putting, Taking}
+use Rattle.ill_normal.specs.Calls.{Taking}
 use Rattle.ill_cli.specs.Plans.{is_json_result}
 use Rattle.ill_cli.specs.code.Puts.{AreMessagesPut, AreResultsPut, IsJobPut, IsPut}
 use Rattle.ill_cli.specs.declared.plan.InputAction.{InputAction}
+use Rattle.ill_cli.specs.declared.summary.Summary.{Summary}
+use Rattle.ill_cli.specs.declared.tally.Tally.{Tally}
 
-pub put_by : (task other : InputAction) → task ≡ other → (source : Taking) (verdict : Verdict) → IsPut other source verdict → IsPut task source verdict
-put_by task other e source verdict h = subst (λ t. IsPut t source verdict) (sym e) h
+-- the work on an input that is this action's, after which the numbers before it were these
+pub put_by : (task other : InputAction) → task ≡ other → (source : Taking) (summary before : Summary) (new : Tally) (done : Result Verdict ProgramError)
+    → before ≡ summary → IsPut other source before new done → IsPut task source summary new done
+put_by task other e source summary before new done same h =
+    subst (λ t. IsPut t source summary new done) (sym e) (subst (λ s. IsPut other source s new done) same h)
 
-pub results_put : (work : JobOptions) (source : Taking) (verdict : Verdict) → is_json_result work.job ≡ true → AreResultsPut work source verdict → IsPut (InputAction.Messages work) source verdict
-results_put work source verdict e h = subst (λ b. AreMessagesPut b work source verdict) (sym e) h
+pub results_put : (work : JobOptions) (source : Taking) (summary : Summary) (new : Tally) (done : Result Verdict ProgramError)
+    → is_json_result work.job ≡ true → AreResultsPut work source summary new done → IsPut (InputAction.Messages work) source summary new done
+results_put work source summary new done e h = subst (λ b. AreMessagesPut b work source summary new done) (sym e) h
 
-pub job_put : (work : JobOptions) (source : Taking) (verdict : Verdict) → is_json_result work.job ≡ false → IsJobPut work source verdict → IsPut (InputAction.Messages work) source verdict
-job_put work source verdict e h = subst (λ b. AreMessagesPut b work source verdict) (sym e) h
-
-pub lines_put : (task : InputAction) (work : LineOptions) → task ≡ InputAction.Lines work → (source : Taking) (verdict : Verdict) (good : Bool) (output : Putting)
-    → verdict ≡ verdict_if good → LinesDone work source.left source.left' output.held output.held' good → IsPut task source verdict
-lines_put task work e source verdict good output is done = put_by task (InputAction.Lines work) e source verdict (good, output, is, done)
-
-pub none_refused : (n : ℕ) → n ≡ 0 → Verdict.Good ≡ verdict_if (n == 0)
-none_refused n e = ap (λ k. verdict_if (k == 0)) (sym e)
-
-pub some_refused : (n : ℕ) → n ≢ 0 → Verdict.NotGood ≡ verdict_if (n == 0)
-some_refused n h = go (n == 0) refl
-  where
-    go : (b : Bool) → (n == 0) ≡ b → Verdict.NotGood ≡ verdict_if b
-    go true e = absurd (h (is_zero n e))
-    go false e = refl
+pub job_put : (work : JobOptions) (source : Taking) (summary : Summary) (new : Tally) (done : Result Verdict ProgramError)
+    → is_json_result work.job ≡ false → IsJobPut work source summary new done → IsPut (InputAction.Messages work) source summary new done
+job_put work source summary new done e h = subst (λ b. AreMessagesPut b work source summary new done) (sym e) h

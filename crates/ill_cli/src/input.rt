@@ -1,17 +1,17 @@
 //! Results of a source, written to an output.
-ghost use Rattle.std.specs.Prelude.{◌≡◌, Bool, IfOk};
-ghost use Rattle.ill_normal.specs.Calls.{putting, taking};
-ghost use Rattle.ill_inputs.specs.Inputs.{verdict_if};
-ghost use Rattle.ill_commands.specs.Lines.{LinesDone};
-ghost use Rattle.ill_cli.specs.code.Puts.{AreElementsPut, IsDumpEnd, IsJobEnd, IsJobPut};
-ghost use Rattle.ill_cli.specs.code.Tallied.{AddsCounts};
+ghost use Rattle.std.specs.Prelude.{◌≡◌};
+ghost use Rattle.ill_normal.specs.Calls.{taking};
+ghost use Rattle.ill_cli.specs.code.Puts.{AreElementsPut, AreResultLinesPut, IsJobPut, dump_verdict, job_verdict, lines_verdict};
 
 use crate::report_lines::PrintReports;
 use crate::tally::Tally;
 use ber_core::{Sink, Source};
-use ill_commands::{JobOptions, LineOptions, RunFault, Verdict, run_job, run_lines_as, verdict_of};
+use ill_commands::{
+    Job, JobOptions, LineOptions, RunFault, Verdict, run_job, run_lines_as, verdict_of,
+};
 use ill_dump::{DumpOptions, run_dump};
 use ill_files::{MissingMessage, ProgramError};
+use ill_normal::Counts;
 use std::alloc::Global;
 use std::io::Write;
 
@@ -26,16 +26,26 @@ pub(crate) fn put_messages<R: Eprint + AllocGlobal, S: Source, W: Sink, P, Q>(
 where
     P: Write + Drop,
     Q: Write + Drop,
-    ensures put { IfOk result (λ verdict. IsJobPut work.entry
-        (taking (S.left source.old) (S.left source.new) (S.is_broken source.new)) verdict) }
-    ensures counted { AddsCounts (IsJobEnd work.entry
-        (taking (S.left source.old) (S.left source.new) (S.is_broken source.new)))
-        tally.old.summary tally.new }
+    ensures { IsJobPut work.entry
+        (taking (S.left source.old) (S.left source.new) (S.is_broken source.new))
+        tally.old.summary tally.new result }
 {
     let end = run_job(reports.rt.alloc(), work, source, sink, &mut reports);
     let last = reports.kept.end(tally);
-    let counts = tally.add_input(end, work.on_refusal, last)?;
-    Ok(verdict_of(work.job, counts))
+    job_verdict(work.job, tally.add_input(end, work.on_refusal, last))
+}
+
+/// The verdict of a job on an input that is counted so.
+pub(crate) fn job_verdict(
+    job: Job,
+    counted: Result<Counts, ProgramError>,
+) -> Result<Verdict, ProgramError>
+    ensures { result ≡ job_verdict job counted }
+{
+    match counted {
+        Ok(counts) => Ok(verdict_of(job, counts)),
+        Err(error) => Err(error),
+    }
 }
 
 /// Writes the elements of the messages of a source. A line is printed for each refused one that the work goes on after.
@@ -49,29 +59,30 @@ pub(crate) fn put_elements<R: Eprint + AllocGlobal, S: Source, W: Sink, P, Q>(
 where
     P: Write + Drop,
     Q: Write + Drop,
-    ensures put { IfOk result (λ verdict. AreElementsPut dump.entry
-        (taking (S.left source.old) (S.left source.new) (S.is_broken source.new)) verdict) }
-    ensures counted { AddsCounts (IsDumpEnd dump.entry
-        (taking (S.left source.old) (S.left source.new) (S.is_broken source.new)))
-        tally.old.summary tally.new }
+    ensures { AreElementsPut dump.entry
+        (taking (S.left source.old) (S.left source.new) (S.is_broken source.new))
+        tally.old.summary tally.new result }
 {
     let end = run_dump(reports.rt.alloc(), dump, source, sink, &mut reports);
     let last = reports.kept.end(tally);
-    let counts = tally.add_input(end, dump.on_refusal, last)?;
-    match missing_message(dump, counts.messages) {
-        Some(error) => Err(error),
-        None if counts.refused == 0 => Ok(Verdict::Good),
-        None => Ok(Verdict::NotGood),
-    }
+    dump_verdict(dump.only, tally.add_input(end, dump.on_refusal, last))
 }
 
-/// The error where the message that is asked for is not in an input; None where it is.
-fn missing_message(dump: DumpOptions<'_>, count: u32) -> Option<ProgramError> {
-    match dump.only {
-        Some(number) if count < number => {
-            Some(ProgramError::NoMessage(MissingMessage { number, count }))
+/// The verdict of a dump of an input that is counted so, where the message of the number `only` is asked for, or each.
+fn dump_verdict(
+    only: Option<u32>,
+    counted: Result<Counts, ProgramError>,
+) -> Result<Verdict, ProgramError>
+    ensures { result ≡ dump_verdict only counted }
+{
+    match (only, counted) {
+        (_, Err(error)) => Err(error),
+        (Some(number), Ok(counts)) if counts.messages < number => {
+            let count = counts.messages;
+            Err(ProgramError::NoMessage(MissingMessage { number, count }))
         }
-        _ => None,
+        (_, Ok(counts)) if counts.refused == 0 => Ok(Verdict::Good),
+        (_, Ok(_)) => Ok(Verdict::NotGood),
     }
 }
 
@@ -82,11 +93,17 @@ pub(crate) fn put_lines<S: Source, W: Sink>(
     source: &mut S,
     sink: &mut W,
 ) -> Result<Verdict, ProgramError>
-    ensures { IfOk result (λ verdict. (good : Bool) × (verdict ≡ verdict_if good)
-        × LinesDone work (S.left source.old) (S.left source.new)
-        (W.contents sink.old) (W.contents sink.new) good) }
+    ensures { AreResultLinesPut work
+        (taking (S.left source.old) (S.left source.new) (S.is_broken source.new)) result }
 {
-    match run_lines_as(alloc, work.profile, work.job, source, sink) {
+    lines_verdict(run_lines_as(alloc, work.profile, work.job, source, sink))
+}
+
+/// The verdict of work on lines that ended so.
+fn lines_verdict(answer: Result<bool, RunFault>) -> Result<Verdict, ProgramError>
+    ensures { result ≡ lines_verdict answer }
+{
+    match answer {
         Ok(true) => Ok(Verdict::Good),
         Ok(false) => Ok(Verdict::NotGood),
         Err(RunFault::WriteFault(_)) => Err(ProgramError::Flush),

@@ -1,22 +1,20 @@
 //! Results as lines of JSON, those of refused messages among them.
-ghost use Rattle.std.specs.Prelude.{◌≡◌, ℕ, IfOk};
+ghost use Rattle.std.specs.Prelude.{◌≡◌, IfOk};
 ghost use Rattle.ill_normal.specs.Calls.{taking};
 ghost use Rattle.ill_inputs.specs.declared.place.RefusalPlace.{RefusalPlace};
 ghost use Rattle.ill_commands.specs.Output.{is_counted_good};
 ghost use Rattle.ill_commands.specs.Refusals.{IsRefusedLine};
 ghost use Rattle.ill_commands.specs.code.Rendering.{needs_of};
-ghost use Rattle.ill_cli.specs.Counts.{with_not_read};
-ghost use Rattle.ill_cli.specs.code.Puts.{AreLinesPut, IsResultsEnd};
-ghost use Rattle.ill_cli.specs.code.Tallied.{AddsCounts};
+ghost use Rattle.ill_cli.specs.code.Puts.{AreLinesPut};
 ghost use Rattle.ill_cli.specs.code.Results.{BreaksResult, WritesResult};
 ghost use Rattle.ill_cli.specs.Plans.{is_json_result};
 
+use crate::input::job_verdict;
 use crate::report_lines::KeepReports;
 use crate::tally::Tally;
 use ber_core::{Sink, Source, put_all};
 use ill_commands::{
     Job, JobOptions, RefusalKind, RefusalReport, RefusedLine, Verdict, WriteJob, refused_json,
-    verdict_of,
 };
 use ill_dump::place_of_refusal;
 use ill_files::ProgramError;
@@ -155,11 +153,9 @@ pub(crate) fn put_results<S: Source, W: Sink, P, Q>(
 where
     P: Write + Drop,
     Q: Write + Drop,
-    ensures put { let work = writer.entry.job.work in IfOk result (λ verdict. AreLinesPut work
-        (taking (S.left source.old) (S.left source.new) (S.is_broken source.new)) verdict) }
-    ensures counted { (not_read : ℕ) × AddsCounts (IsResultsEnd writer.entry.job.work
-        (taking (S.left source.old) (S.left source.new) (S.is_broken source.new)))
-        (with_not_read tally.old.summary not_read) tally.new }
+    ensures { AreLinesPut writer.entry.job.work
+        (taking (S.left source.old) (S.left source.new) (S.is_broken source.new))
+        tally.old.summary tally.new result }
 {
     let work = writer.job.work;
     let reading = Reading {
@@ -170,6 +166,5 @@ where
     let end = read_input(reading, &mut writer, source, sink, &mut reports);
     let last = reports.end(tally);
     tally.summary.add_not_read(writer.not_read);
-    let counts = tally.add_input(end, work.on_refusal, last)?;
-    Ok(verdict_of(work.job, counts))
+    job_verdict(work.job, tally.add_input(end, work.on_refusal, last))
 }

@@ -1,7 +1,8 @@
 //! The work of a command on its inputs.
-ghost use Rattle.std.specs.Prelude.{IfOk};
+ghost use Rattle.std.specs.Prelude.{◌≡◌};
 ghost use Rattle.ill_normal.specs.Calls.{taking};
-ghost use Rattle.ill_cli.specs.code.Puts.{AreResultsPut, IsPut};
+ghost use Rattle.ill_cli.specs.Counts.{with_file};
+ghost use Rattle.ill_cli.specs.code.Puts.{AreResultsPut, IsPut, after_first};
 
 use crate::input::{put_elements, put_lines, put_messages};
 use crate::limit::RefusalLimit;
@@ -12,8 +13,8 @@ use crate::results::{WriteResults, has_json_result, put_results};
 use crate::tally::Tally;
 use ber_core::{Source, ToWrite};
 use ill_commands::{JobOptions, OnRefusal, Verdict};
-use ill_files::{Output, ProgramError, Shared, ToOutput};
-use std::io::{Read, Write};
+use ill_files::{Output, ProgramError, ToOutput};
+use std::io::Write;
 use std::rt::Files;
 
 /// The work of a command on its inputs: what is done with each, what is counted, and where the octets of refused messages go.
@@ -50,26 +51,17 @@ impl<'a, 'r, 'p, R: Print + Eprint + Files + AllocGlobal> Run<'a, 'r, 'p, R> {
     /// # Errors
     ///
     /// The reason why the input was not read to its end, or not all results were written.
-    pub fn put<'o, I: Read, J: Read, S: Write + Drop, F: Write + Drop>(
-        &mut self,
-        task: InputAction<'_>,
-        source: &mut Shared<'o, I, J, S, F>,
-        output: &'o Output<S, F>,
-    ) -> Result<Verdict, ProgramError> {
-        self.tally.add_file();
-        self.put_source(task, source, output)
-    }
-
-    /// Writes the results of a source, and counts its messages.
-    fn put_source<B: Source, S: Write + Drop, F: Write + Drop>(
+    pub fn put<B: Source, S: Write + Drop, F: Write + Drop>(
         &mut self,
         task: InputAction<'_>,
         source: &mut B,
         output: &Output<S, F>,
     ) -> Result<Verdict, ProgramError>
-        ensures { IfOk result (λ verdict. IsPut task.entry
-            (taking (B.left source.old) (B.left source.new) (B.is_broken source.new)) verdict) }
+        ensures { IsPut task.entry
+            (taking (B.left source.old) (B.left source.new) (B.is_broken source.new))
+            (with_file self.old.tally.summary) self.new.tally result }
     {
+        self.tally.add_file();
         match task {
             InputAction::Messages(work) if has_json_result(work.job) => {
                 self.put_json_lines(work, source, output)
@@ -115,14 +107,13 @@ impl<'a, 'r, 'p, R: Print + Eprint + Files + AllocGlobal> Run<'a, 'r, 'p, R> {
         source: &mut B,
         output: &Output<S, F>,
     ) -> Result<Verdict, ProgramError>
-        ensures { IfOk result (λ verdict. AreResultsPut work.entry
-            (taking (B.left source.old) (B.left source.new) (B.is_broken source.new)) verdict) }
+        ensures { AreResultsPut work.entry
+            (taking (B.left source.old) (B.left source.new) (B.is_broken source.new))
+            self.old.tally.summary self.new.tally result }
     {
-        let goes_on = work.on_refusal == OnRefusal::GoOn;
-        let limit = if goes_on {
-            self.tally.limit
-        } else {
-            RefusalLimit::new(Some(1))
+        let limit = match work.on_refusal {
+            OnRefusal::GoOn => self.tally.limit,
+            OnRefusal::Stop | OnRefusal::EndWith => RefusalLimit::new(Some(1)),
         };
         let each = JobOptions {
             on_refusal: OnRefusal::GoOn,
@@ -130,17 +121,24 @@ impl<'a, 'r, 'p, R: Print + Eprint + Files + AllocGlobal> Run<'a, 'r, 'p, R> {
         };
         let writer = WriteResults::new(self.rt.alloc(), each);
         let reports = KeepReports::new(self.refused.keeper(), limit);
-        match put_results(
-            writer,
-            source,
-            &mut sink_to(output),
-            reports,
-            &mut self.tally,
-        ) {
-            // The message with which the work ended has its line.
-            Err(ProgramError::RefusedEnough(_)) if !goes_on => Ok(Verdict::NotGood),
-            done => done,
+        let sink = &mut sink_to(output);
+        let done = put_results(writer, source, sink, reports, &mut self.tally);
+        after_first(work.on_refusal, done)
+    }
+}
+
+/// The verdict of work that ends with the first refused message, which has its line, or goes on after it.
+fn after_first(
+    on_refusal: OnRefusal,
+    done: Result<Verdict, ProgramError>,
+) -> Result<Verdict, ProgramError>
+    ensures { result ≡ after_first on_refusal done }
+{
+    match (on_refusal, done) {
+        (OnRefusal::Stop | OnRefusal::EndWith, Err(ProgramError::RefusedEnough(_))) => {
+            Ok(Verdict::NotGood)
         }
+        (_, done) => done,
     }
 }
 

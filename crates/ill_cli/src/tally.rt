@@ -1,10 +1,9 @@
 //! Counts that a command keeps while it works.
-ghost use Rattle.std.specs.Prelude.{◌≡◌, ◌||◌, Bool, None, IfOk};
+ghost use Rattle.std.specs.Prelude.{◌≡◌, ◌||◌, Bool, None};
 ghost use Rattle.ill_files.specs.Status.{keeps_refused as keeps, status_is};
 ghost use Rattle.ill_cli.specs.Counts.{with_file};
 ghost use Rattle.ill_cli.specs.Limit.{error_at, limit_at};
-ghost use Rattle.ill_cli.specs.code.Puts.{IsRead};
-ghost use Rattle.ill_cli.specs.code.Tallied.{AddsEnd, after_error, after_input, after_left, is_name_of, is_unopened, left_by, stopped_at};
+ghost use Rattle.ill_cli.specs.code.Tallied.{AddsEnd, answer_by, after_error, after_input, after_left, is_name_of, is_unopened, left_by, stopped_at};
 
 use crate::limit::RefusalLimit;
 use crate::summary::{LeftAt, Summary};
@@ -73,8 +72,7 @@ impl<'p> Tally<'p> {
         on_refusal: OnRefusal,
         last: Option<RefusalReport>,
     ) -> Result<Counts, ProgramError>
-        ensures read { IfOk result
-            (λ counts. (counts ≡ end.counts) × IsRead on_refusal end.fault) }
+        ensures answer { result ≡ answer_by self.old.limit on_refusal end.counts end.fault last }
         ensures counts { self.new ≡ after_input end.counts end.fault last self.old }
     {
         let Some(fault) = end.fault else {

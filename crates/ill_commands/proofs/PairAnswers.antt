@@ -9,13 +9,14 @@ use Rattle.ill_refusals.specs.Fault.{Fault, fault_of}
 use Rattle.ill_normal.specs.Compared.{RefusesSideIn}
 use Rattle.ill_inputs.specs.declared.side.Side.{Side}
 use Rattle.ill_inputs.proofs.TakenOctets.{front}
-use Rattle.ill_normal.proofs.Canonical.{spells_once, refuses_whole, refuses_once}
+use Rattle.ill_normal.proofs.Canonical.{spells_once, refuses_once}
 use Rattle.ill_inputs.specs.declared.verdict.Verdict.{Verdict}
 use Rattle.ill_inputs.specs.declared.run_fault.RunFault.{RunFault}
 use Rattle.ill_inputs.specs.Inputs.{NoHex, IsResourceFault}
 use Rattle.ill_inputs.specs.Hexadecimal.{hex_octets}
 use Rattle.ill_commands.specs.Compared.{ReadsSide, SideFails, AreCompared, NotCompared, side_octets, SaysSame, ComparesBoth, RefusesOne, RefusesTexts, IsRefusedSide, AnswersSide}
 use Rattle.ill_inputs.proofs.HexAnswers.{same_octets, same_ok, same_err, not_both, is_fault}
+use Rattle.ill_read.proofs.Accepted.{refuses_whole}
 
 -- what was read of a side is what is compared of it
 pub side_is : (hex : Bool) (s : List ℕ) (left' : Option (List ℕ)) (o : List ℕ) → ReadsSide hex (Some s) left' o → side_octets hex s ≡ Ok o

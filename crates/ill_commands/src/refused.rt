@@ -7,7 +7,7 @@ use crate::job::JobOptions;
 use crate::piece::file_of;
 use ber_core::FromSlice;
 use ill_json::{RefusalKind, RefusalPlace, RefusedHead, refused_line};
-use ill_normal::{NormalReader, Profile, ReadFailure, RefusalReport, apdu_name_as, check_one_in};
+use ill_normal::{Profile, ReadFailure, RefusalReport, apdu_name_as, read_normal};
 use ill_schema::{Cause, Refusal};
 use std::alloc::{AllocError, Global};
 
@@ -100,10 +100,8 @@ fn kind_in_two(alloc: Global, octets: &[u8], refusal: Refusal) -> Result<Refusal
     requires { is_limit refusal.cause ≡ false }
     ensures { IfOk result (HasKind Named.Two octets.now refusal) }
 {
-    let mut reader = NormalReader::new(alloc);
     let mut source = FromSlice::new(octets);
-    let buffer = Vec::new(alloc);
-    match check_one_in(alloc, Profile::Module, &mut reader, &mut source, buffer) {
+    match read_normal(alloc, Profile::Module, &mut source) {
         Ok(Some(_)) => Ok(RefusalKind::NotRead),
         Ok(None) => Ok(RefusalKind::Invalid),
         Err(ReadFailure::Refused(other)) if other.at > refusal.at => Ok(RefusalKind::NotRead),

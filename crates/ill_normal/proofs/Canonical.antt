@@ -12,17 +12,15 @@ use Rattle.ill_schema.proofs.Encodings.{normal_spells, normal_unique}
 use Rattle.ill_schema.proofs.OneMeaning.{one_message}
 use Rattle.ill_schema.proofs.Streams.{accepts_once}
 use Rattle.ill_refusals.specs.Fault.{Fault, fault, fault_of}
+use Rattle.ill_read.proofs.Accepted.{whole_accepted}
 use Rattle.ill_read.specs.declared.failure.Failure.{Failure}
-use Rattle.ill_read.specs.Answers.{DecodeAnswers, IfRefused, NormalAnswersIn, RefusesWhole, RefusesWholeIn}
+use Rattle.ill_read.specs.Answers.{IfRefused, NormalAnswersIn, RefusesWhole, RefusesWholeIn}
 
 short : (n : ℕ) → n ≤ 1_048_576 → n < 256 ^ 126
 short n h = let k : 1_048_576 < 256 ^ 126 = lit< tt in le_lt n 1_048_576 (256 ^ 126) h k
   where
     le_lt : (a b c : ℕ) → a ≤ b → b < c → a < c
     le_lt a b c h k = omega arith
-
-whole_accepted : (p : Profile) (a : Apdu) (s : List ℕ) → SpellsApdu p a s → Accepts p s a (length s)
-whole_accepted p a s spells = (omega arith, subst (SpellsApdu p a) (sym (take_all (length s) s (omega arith))) spells)
 
 pub one_normal : (q : Named) (a b : Apdu) (x y : List ℕ) → SpellsApdu (profile_of q) a x → SpellsApdu (profile_of q) b y → normal_form_in (profile_of q) a ≡ normal_form_in (profile_of q) b → a ≡ b
 one_normal q a b x y h k e =
@@ -57,25 +55,10 @@ own_normal q a b x h k =
     let p = profile_of q in
     ap (normal_form_in p) (spells_once b a (normal_form_in p a) k (spells_normal q a x h))
 
--- what is refused whole is no spelling
-pub refuses_whole : {p : Profile} (s : List ℕ) (f : Fault) (a : Apdu) → RefusesWholeIn p s f → SpellsApdu p a s → ⊥
-refuses_whole {p = p} s f a (inl only) h = only.2 a (length s) (whole_accepted p a s h)
-refuses_whole {p = p} s f a (inr (b, n, accepts, lt, e)) h =
-    let same = (accepts_once p s a b (length s) n (whole_accepted p a s h) accepts).1 in omega (arith, same, lt)
-
 -- what refuses a slice
-pub decode_refuses : (s : List ℕ) (e : Failure) → DecodeAnswers s (Err e) → IfRefused e (RefusesWhole s)
-decode_refuses s (Failure.Refused refusal) h = h
-decode_refuses s Failure.OutOfMemory h = tt
-
 pub normal_refuses : (p : Profile) (s : List ℕ) (e : Failure) → NormalAnswersIn p s (Err e) → IfRefused e (RefusesWholeIn p s)
 normal_refuses p s (Failure.Refused refusal) h = h
 normal_refuses p s Failure.OutOfMemory h = tt
-
--- a spelling is not refused, so there is no memory
-pub only_memory : {p : Profile} (e : Failure) (s : List ℕ) (a : Apdu) → IfRefused e (RefusesWholeIn p s) → SpellsApdu p a s → e ≡ Failure.OutOfMemory
-only_memory {p = p} (Failure.Refused refusal) s a h k = absurd (refuses_whole {p = p} s (fault_of refusal) a h k)
-only_memory {p = p} Failure.OutOfMemory s a h k = refl
 
 -- what compares normal forms compares APDUs
 pub compared_forms : (q : Named) (a b : Apdu) (x y s t : List ℕ) (P : Type 0) → SpellsApdu (profile_of q) a s → SpellsApdu (profile_of q) b t → x ≡ normal_form_in (profile_of q) a → y ≡ normal_form_in (profile_of q) b

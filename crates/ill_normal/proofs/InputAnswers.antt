@@ -7,6 +7,7 @@ use Rattle.ill_refusals.specs.Outcome.{OnlyRefuses}
 use Rattle.ber_leaf.specs.Profile.{Profile}
 use Rattle.ill_schema.proofs.Streams.{parts_accept, accepts_once, accepts_some}
 use Rattle.ill_inputs.proofs.TakenOctets.{front}
+use Rattle.ill_read.proofs.Accepted.{always, both}
 use Rattle.ill_read.specs.declared.failure.ReadFailure.{ReadFailure}
 use Rattle.ill_read.specs.Answers.{IfReadRefused, IsReadFault}
 use Rattle.ill_normal.specs.declared.failure.NormalFailure.{NormalFailure}
@@ -32,12 +33,6 @@ pub forwarded_refuses : {p : Profile} (old new held held' : Option (List ℕ)) (
 forwarded_refuses {p = p} None new held held' r w f = tt
 forwarded_refuses {p = p} (Some s) new held held' r w f = λ g some only. only.2 f.apdu (length f.octets) (accepted s new held held' r w f)
 
--- nothing was taken, and nothing is left: nothing was left
-pub at_end_before : (old new : Option (List ℕ)) → Consumes old new [] → IsAtEnd new → IsAtEnd old
-at_end_before None new h e = tt
-at_end_before (Some s) None h e = absurd h
-at_end_before (Some s) (Some t) h e = h ∙ e
-
 pub none_accepts : (p : Profile) (old : Option (List ℕ)) → IsAtEnd old → IfSome old (λ s. (a : Apdu) (n : ℕ) → Accepts p s a n → None ≡ Some (length (normal_form_in p a)))
 none_accepts p None e = tt
 none_accepts p (Some s) e = λ a n h. absurd (accepts_some p s a n e h)
@@ -45,14 +40,6 @@ none_accepts p (Some s) e = λ a n h. absurd (accepts_some p s a n e h)
 pub none_refuses : (p : Profile) (old : Option (List ℕ)) → IsAtEnd old → IfSome old (λ s. (f : Fault) → 0 < length s → OnlyRefuses p s f → ⊥)
 none_refuses p None e = tt
 none_refuses p (Some s) e = λ f some only. let l : length s ≡ 0 = ap length e in omega arith
-
-pub always : (old : Option (List ℕ)) (P : List ℕ → Type 0) → ((s : List ℕ) → P s) → IfSome old P
-always None P h = tt
-always (Some s) P h = h s
-
-pub both : (old : Option (List ℕ)) (P Q : List ℕ → Type 0) → ((s : List ℕ) → P s → Q s) → IfSome old P → IfSome old Q
-both None P Q h k = tt
-both (Some s) P Q h k = h s k
 
 pub fails_accepts : (p : Profile) (left left' held held' : Option (List ℕ)) (x y : Bool) (e : NormalFailure) → FailsIn p (taking left left' x) (putting held held' y) e
     → IfSome left (λ s. (a : Apdu) (n : ℕ) → Accepts p s a n → Answers {T = Option ℕ} (Err e) (Some (length (normal_form_in p a))))
@@ -67,13 +54,3 @@ fails_refuses p left left' held held' x y (NormalFailure.Refused refusal) h = bo
 fails_refuses p left left' held held' x y NormalFailure.OutOfMemory h = always left _ (λ s f some only. tt)
 fails_refuses p left left' held held' x y NormalFailure.ReadFault h = always left _ (λ s f some only. tt)
 fails_refuses p left left' held held' x y (NormalFailure.WriteFault w) h = always left _ (λ s f some only. tt)
-
-pub none_is_no_spelling : (p : Profile) (old new : Option (List ℕ)) (Q : Type 0) → Consumes old new [] → IsAtEnd new → IfSome old (λ s. (a : Apdu) (n : ℕ) → Accepts p s a n → Q)
-none_is_no_spelling p None new Q h e = tt
-none_is_no_spelling p (Some s) new Q h e = λ a n k. absurd (accepts_some p s a n (at_end_before (Some s) new h e) k)
-
-pub read_fails_accepts : (p : Profile) (left : Option (List ℕ)) (e : ReadFailure) → IfReadRefused e (λ f. IfSome left (λ s. (0 < length s) × OnlyRefuses p s f))
-    → IfSome left (λ s. (a : Apdu) (n : ℕ) → Accepts p s a n → IsReadFault e)
-read_fails_accepts p left (ReadFailure.Refused refusal) h = both left _ _ (λ s k a n accepts. k.1.2 a n accepts) h
-read_fails_accepts p left ReadFailure.OutOfMemory h = always left _ (λ s a n accepts. tt)
-read_fails_accepts p left ReadFailure.ReadFault h = always left _ (λ s a n accepts. tt)

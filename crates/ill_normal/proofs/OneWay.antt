@@ -15,9 +15,10 @@ use Rattle.ill_refusals.proofs.Prefixes.{refusal_stays}
 use Rattle.ill_refusals.specs.Outcome.{OnlyRefuses}
 use Rattle.ill_normal.specs.Messages.{Spelling, after, output_from}
 use Rattle.ill_normal.specs.declared.messages.MessagePlace.{MessagePlace}
-use Rattle.ill_normal.proofs.Canonical.{spells_once, refuses_whole}
+use Rattle.ill_normal.proofs.Canonical.{spells_once}
 use Rattle.ill_normal.specs.Items.{Item, good, bad, AreItems, good_ones, HasNoMore, IsRefusedFor}
 use Rattle.ill_normal.proofs.TakenElements.{spelling_framed, none_begins}
+use Rattle.ill_read.proofs.Accepted.{refuses_whole}
 
 module _ (text : MessagePlace → Spelling → List ℕ) (same : (p q : MessagePlace) (m : Spelling) → text p m ≡ text q m) where
   pub good_written : (p q : MessagePlace) (items : List Item) (n : ℕ) (octets : List ℕ) → AreWritten (WritesText text) p items n octets → octets ≡ output_from text q (good_ones items)

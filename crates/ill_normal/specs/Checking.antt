@@ -11,10 +11,3 @@ DescribesIn p x octets = (a : Apdu) × SpellsApdu p a octets × (x.apdu ≡ a.nu
 
 abbrev pub Describes : Checked → List ℕ → Type 0
 Describes x octets = DescribesIn profile_two x octets
-
--- these are the normal form of what the octets spell
-abbrev pub IsFormIn : Profile → List ℕ → List ℕ → Type 0
-IsFormIn p form octets = (a : Apdu) → SpellsApdu p a octets → form ≡ normal_form_in p a
-
-abbrev pub IsFormOf : List ℕ → List ℕ → Type 0
-IsFormOf form octets = IsFormIn profile_two form octets

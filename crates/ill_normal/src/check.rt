@@ -5,7 +5,7 @@ ghost use Rattle.ill_schema.specs.Apdu.{Apdu, Accepts, SpellsApdu, normal_form_i
 ghost use Rattle.ill_schema.specs.Profiles.{profile_of};
 ghost use Rattle.ill_tables.specs.declared.profile.Profile.{Profile as Named};
 ghost use Rattle.ill_read.specs.Answers.{AnswersSome, ReadsNext, ReadsNextIn};
-ghost use Rattle.ill_normal.specs.Checking.{Describes, DescribesIn, IsFormIn, IsFormOf};
+ghost use Rattle.ill_normal.specs.Checking.{Describes, DescribesIn};
 
 use ber_core::Source;
 use ill_read::{NormalReader, ReadFailure};
@@ -59,46 +59,17 @@ pub fn check_one_as<R: Source>(
         (λ s. (a : Apdu) (n : ℕ) → Accepts (profile_of profile) s a n → AnswersSome result) }
 {
     let mut reader = NormalReader::new(alloc);
-    let buffer = Vec::new(alloc);
-    let Some(found) = check_one_in(alloc, profile, &mut reader, source, buffer)? else {
-        return Ok(None);
-    };
-    Ok(Some(found.0))
-}
-
-/// Checks a message in the profile as [`check_one`] does, by a reader of one message after another, and returns its normal form besides, in the
-/// memory of `buffer`, whose octets are forgotten. What the reader read before makes no difference.
-///
-/// # Errors
-///
-/// Those of [`check_one`], in the profile.
-#[inline(always)]
-pub fn check_one_in<R: Source>(
-    alloc: Global,
-    profile: Profile,
-    reader: &mut NormalReader,
-    source: &mut R,
-    buffer: Vec<u8>,
-) -> Result<Option<(Checked, Vec<u8>)>, ReadFailure>
-    ensures next { ReadsNextIn (profile_of profile) (R.left source.old) (R.left source.new)
-        (R.is_broken source.old) (R.is_broken source.new)
-        (λ found octets. DescribesIn (profile_of profile) found.0 octets
-        × IsFormIn (profile_of profile) found.1.items octets) result }
-    // A spelling at the front is checked, unless memory or the source failed.
-    ensures accepts { IfSome (R.left source.old)
-        (λ s. (a : Apdu) (n : ℕ) → Accepts (profile_of profile) s a n → AnswersSome result) }
-{
     let mut recorded = Vec::new(alloc);
-    let Some(normal) = reader.read_recording(profile, source, buffer, &mut recorded)? else {
+    let read = reader.read_recording(profile, source, Vec::new(alloc), &mut recorded)?;
+    let Some(normal) = read else {
         return Ok(None);
     };
-    let checked = Checked {
+    Ok(Some(Checked {
         apdu: apdu_number(&normal.octets),
         octets: normal.input_len,
         normal: normal.octets.len() as u32,
         is_normal: recorded.as_slice() == normal.octets.as_slice(),
-    };
-    Ok(Some((checked, normal.octets)))
+    }))
 }
 
 /// The number of the APDU whose normal form this is: its first octet is [APPLICATION number], constructed.

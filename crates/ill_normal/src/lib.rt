@@ -47,7 +47,6 @@ pub use check::Checked;
 pub use check::apdu_number;
 pub use check::check_one;
 pub use check::check_one_as;
-pub use check::check_one_in;
 pub use check_words::apdu_name_or_empty;
 pub use check_words::put_check_words;
 pub use compare::is_normal;

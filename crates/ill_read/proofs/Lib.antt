@@ -23,3 +23,4 @@ pub mod ValueDrafts
 pub mod WrittenElements
 pub mod OctetDrafts
 pub mod Outlines
+pub mod Accepted

@@ -16,10 +16,10 @@ use Rattle.ill_refusals.proofs.FirstFault.{has_fault, is_judged}
 use Rattle.ill_refusals.specs.Fault.{Fault, fault, Refuses, fault_of}
 use Rattle.ill_refusals.specs.code.Judge.{faulty, judge}
 use Rattle.ill_grammar.proofs.PlaceNeeds.{bound_small}
-use Rattle.ill_read.specs.Answers.{IsRead, IsPartIn, IsRefused, IsRefusedIn, DecodeAnswers, NormalAnswersIn}
+use Rattle.ill_read.specs.Answers.{IsRead, IsPartIn, IsRefused, IsRefusedIn, NormalAnswersIn}
 use Rattle.ill_read.specs.Paths.{AreMessage, AreValues, HoldsAt}
 use Rattle.ill_grammar.specs.Standing.{Level, StandsBefore, StandsLast}
-use Rattle.ill_read.specs.code.ReaderCode.{EndsAs, HasClosed, HasRead, HasStopped, InState, IsFed, IsRunning, ended}
+use Rattle.ill_read.specs.code.ReaderCode.{DecodeAnswers, EndsAs, HasClosed, HasRead, HasStopped, InState, IsFed, IsRunning, ended}
 use Rattle.ill_read.specs.Feeding.{IsOpenAt, StatesAreApart, ended as message_ended}
 use Rattle.ill_refusals.specs.Outcome.{OnlyAccepts, OnlyRefuses}
 use Rattle.ill_refusals.specs.Place.{Open}

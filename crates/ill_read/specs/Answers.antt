@@ -101,11 +101,6 @@ abbrev pub RefusesWhole : List ℕ → Fault → Type 0
 RefusesWhole s f = RefusesWholeIn profile_two s f
 
 -- of octets that are to be one message
-abbrev pub DecodeAnswers : List ℕ → Result Message Failure → Type 0
-DecodeAnswers s (Ok m) = IsSpelled m s
-DecodeAnswers s (Err (Failure.Refused refusal)) = RefusesWhole s (fault_of refusal)
-DecodeAnswers s (Err Failure.OutOfMemory) = Unit {0}
-
 abbrev pub NormalAnswersIn : Profile → List ℕ → Result NormalForm Failure → Type 0
 NormalAnswersIn p s (Ok n) = IsNormalIn p n s
 NormalAnswersIn p s (Err (Failure.Refused refusal)) = RefusesWholeIn p s (fault_of refusal)

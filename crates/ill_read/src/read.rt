@@ -1,13 +1,16 @@
 //! Messages out of sources and slices.
-ghost use Rattle.std.specs.Prelude.{◌≡◌, ℕ, ◌<◌, ◌≤◌, List, [], ◌++◌, length, take, IfOk, IfErr, IsErr, IsErrOf, IsTrue};
+ghost use Rattle.std.specs.Prelude.{◌≡◌, ℕ, ◌<◌, ◌≤◌, List, [], ◌++◌, length, take, IfOk, IfErr, IfSome, IsErr, IsErrOf, IsTrue};
 ghost use Rattle.std.specs.Io.KnownBytes.{Appends, Consumes, Keeps};
 ghost use Rattle.ill_schema.specs.Profiles.{profile_of};
 ghost use Rattle.ill_tables.specs.declared.profile.Profile.{Profile as Named};
-ghost use Rattle.ill_read.specs.Answers.{DecodeAnswers, IsRead, IsReadFault, IsSpelled, IsUnfinishedIn, ReadsNext, ReadsNextIn, TakesFront, TakesNoMessageIn};
+ghost use Rattle.ber_leaf.specs.Profile.{profile_two};
+ghost use Rattle.ill_schema.specs.Apdu.{Accepts, Apdu, SpellsApdu};
+ghost use Rattle.ill_read.specs.Answers.{AnswersSome, IfRefused, IsRead, IsReadFault, IsSpelled, IsUnfinishedIn, ReadsNext, ReadsNextIn, RefusesWhole, TakesFront, TakesNoMessageIn};
 ghost use Rattle.ill_read.specs.code.Filling.{HasKept, HasPulled, HasTaken, NoneEndsWithin, TakesUnfinished};
 ghost use Rattle.ill_read.specs.Feeding.{IsOpenAt};
+ghost use Rattle.ill_read.specs.declared.failure.Failure.{Failure};
 ghost use Rattle.ill_read.specs.declared.failure.ReadFailure.{ReadFailure};
-ghost use Rattle.ill_read.specs.code.ReaderCode.{HasBegun, IsFed, IsReadOf};
+ghost use Rattle.ill_read.specs.code.ReaderCode.{DecodeAnswers, HasBegun, IsFed, IsReadOf};
 
 use crate::draft::Draft;
 use crate::failure::{Failure, ReadFailure};
@@ -31,6 +34,19 @@ pub fn read_message<R: Source>(
     alloc: Global,
     source: &mut R,
 ) -> Result<Option<Message>, ReadFailure>
+    ensures next { ReadsNext (R.left source.old) (R.left source.new) (R.is_broken source.old)
+        (R.is_broken source.new) IsSpelled result }
+    // What is read is a spelling, and what begins with one is read, unless memory or the source failed.
+    ensures spelled { IfOk result (λ found. IfSome found (λ message. (b : List ℕ)
+        × Consumes (R.left source.old) (R.left source.new) b × IsSpelled message b)) }
+    ensures accepts { IfSome (R.left source.old)
+        (λ s. (a : Apdu) (n : ℕ) → Accepts profile_two s a n → AnswersSome result) }
+{
+    read_value(alloc, source)
+}
+
+/// Reads a message into its value.
+fn read_value<R: Source>(alloc: Global, source: &mut R) -> Result<Option<Message>, ReadFailure>
     ensures { ReadsNext (R.left source.old) (R.left source.new) (R.is_broken source.old)
         (R.is_broken source.new) IsSpelled result }
 {
@@ -187,6 +203,17 @@ fn take_octets<D: Draft, R: Source>(
 ///
 /// The one fault of the octets, TrailingBytes at the end of a message that they only begin with, or out of memory.
 pub fn decode(alloc: Global, octets: &[u8]) -> Result<Message, Failure>
+    ensures spelled { IfOk result (λ message. IsSpelled message octets.now) }
+    ensures refused { IfErr result (λ e. IfRefused e (RefusesWhole octets.now)) }
+    // A spelling is decoded, unless memory runs out.
+    ensures accepts { (a : Apdu) → SpellsApdu profile_two a octets.now
+        → IfErr result (λ e. e ≡ Failure.OutOfMemory) }
+{
+    decode_value(alloc, octets)
+}
+
+/// Decodes a message into its value.
+fn decode_value(alloc: Global, octets: &[u8]) -> Result<Message, Failure>
     ensures { DecodeAnswers octets.now result }
 {
     match message_of_piece(alloc, octets) {

@@ -8,13 +8,14 @@ use Rattle.ill_schema.specs.declared.refusal.Refusal.{Refusal}
 use Rattle.ill_schema.proofs.Streams.{accepts_once, accepts_some, drop_front, parts_accept}
 use Rattle.ill_refusals.specs.Fault.{Fault, fault_of}
 use Rattle.ill_refusals.specs.Outcome.{OnlyRefuses}
+use Rattle.ill_read.proofs.Accepted.{refuses_whole}
 use Rattle.ill_read.specs.Answers.{ReadsNextIn}
 use Rattle.ill_read.specs.declared.failure.ReadFailure.{ReadFailure}
 use Rattle.ill_normal.specs.Compared.{RefusesSideIn}
 use Rattle.ill_normal.specs.Streamed.{PassesIn}
 use Rattle.ill_inputs.specs.declared.side.Side.{Side}
 use Rattle.ill_normal.specs.declared.failure.StreamFailure.{StreamFailure}
-use Rattle.ill_normal.proofs.Canonical.{refuses_once, refuses_whole}
+use Rattle.ill_normal.proofs.Canonical.{refuses_once}
 
 -- What is refused is not read.
 pub never_read : {T : Type 0} (p : Profile) (Is : T → List ℕ → Type 0) (s t : List ℕ) (broken broken' : Bool) (f : Fault) (r : Result (Option T) ReadFailure)

@@ -9,6 +9,9 @@ use Rattle.ill_files.specs.declared.names.FileName.{FileName}
 use Rattle.ill_inputs.specs.declared.run_fault.RunFault.{RunFault}
 use Rattle.ill_normal.specs.declared.counts.Counts.{Counts}
 use Rattle.ill_normal.specs.declared.report.RefusalReport.{RefusalReport}
+use Rattle.ill_normal.specs.declared.messages.OnRefusal.{OnRefusal}
+use Rattle.ill_cli.specs.Limit.{error_at}
+use Rattle.ill_cli.specs.declared.limit.RefusalLimit.{RefusalLimit}
 use Rattle.ill_cli.specs.Counts.{left_after, place_of_report, with_counts, with_left, with_report, with_unopened, without_file}
 use Rattle.ill_normal.specs.declared.messages.StreamEnd.{StreamEnd}
 use Rattle.ill_cli.specs.declared.summary.Summary.{Summary}
@@ -59,7 +62,20 @@ after_input counts None last t = record t { summary = with_counts t.summary coun
 after_input counts (Some RunFault.NotReported) (Some last) t = stopped_at counts last t
 after_input counts (Some fault) last t = left_by counts fault t
 
--- the counts of the work on an input were added, whatever its end was, to numbers that were these
-abbrev pub AddsCounts : (StreamEnd → Type 0) → Summary → Tally → Type 0
-AddsCounts IsEnd summary new =
-    (end : StreamEnd) × (last : Option RefusalReport) × (t : Tally) × IsEnd end × (t.summary ≡ summary) × (new ≡ after_input end.counts end.fault last t)
+-- the answer to the end of the work on an input: its counts where it was read as far as was asked, though the end of the last message may be
+-- unknown where refused ones are reported; or the error that says why it wasn't
+abbrev pub answer_by : RefusalLimit → OnRefusal → Counts → Option RunFault → Option RefusalReport → Result Counts ProgramError
+answer_by limit mode counts None last = Ok counts
+answer_by limit mode counts (Some RunFault.NotReported) (Some last) = Err (error_at limit)
+answer_by limit OnRefusal.GoOn counts (Some (RunFault.Refused message refusal)) last = Ok counts
+answer_by limit mode counts (Some fault) last = Err (ProgramError.Run (record { 0 = fault }))
+
+-- the work on an input ended so, its counts were added to these, and this is the answer
+pub record Tallies (IsEnd : StreamEnd → Type 0) (mode : OnRefusal) (summary : Summary) (new : Tally) (answer : Result Counts ProgramError) : Type 0 where
+  pub end : StreamEnd
+  pub last : Option RefusalReport
+  pub before : Tally
+  pub is_end : IsEnd end
+  pub same : before.summary ≡ summary
+  pub adds : new ≡ after_input end.counts end.fault last before
+  pub answers : answer ≡ answer_by before.limit mode end.counts end.fault last

@@ -13,7 +13,7 @@ use Rattle.ill_refusals.specs.Fault.{Fault, fault_of, cut_fault}
 use Rattle.ill_refusals.specs.Outcome.{OnlyAccepts, OnlyRefuses}
 use Rattle.ill_refusals.specs.Place.{Open, bound}
 use Rattle.ill_refusals.specs.code.Judge.{Judgement as Judged, faulty, judge}
-use Rattle.ill_read.specs.Answers.{IsPart, IsPartIn, IsRead, IsRefused, IsRefusedIn}
+use Rattle.ill_read.specs.Answers.{IsPart, IsPartIn, IsRead, IsRefused, IsRefusedIn, IsSpelled, RefusesWhole}
 use Rattle.ill_read.specs.Paths.{HoldsAt}
 use Rattle.ill_grammar.specs.Standing.{Level, StandsBefore, StandsLast}
 use Rattle.ill_read.specs.code.Judged.{IsJudgement}
@@ -123,3 +123,9 @@ abbrev pub read_result : ℕ → Result Bool Failure → Result (Option ℕ) Rea
 read_result at (Ok true) = Ok (Some at)
 read_result at (Ok false) = Ok None
 read_result at (Err failure) = Err (read_failure failure)
+
+-- of octets that are to be one message
+abbrev pub DecodeAnswers : List ℕ → Result Message Failure → Type 0
+DecodeAnswers s (Ok m) = IsSpelled m s
+DecodeAnswers s (Err (Failure.Refused refusal)) = RefusesWhole s (fault_of refusal)
+DecodeAnswers s (Err Failure.OutOfMemory) = Unit {0}

@@ -13,7 +13,7 @@ use ber_core::{FromSlice, Pieces, Room, Sink, Source};
 use ill_normal::{
     Checked, Failure, Message, MessageReader, NoReports, NormalFailure, NormalForm, NormalReader,
     OnRefusal, Profile, ReadFailure, Reading, Refusal, RunFault, Side, StreamEnd, StreamFailure,
-    Wants, WriteNormalForms, check_one, check_one_in, decode, decode_normal, is_normal, normalise,
+    Wants, WriteNormalForms, check_one, decode, decode_normal, is_normal, normalise,
     normalise_stream, read_input, read_message, read_normal, same_message,
 };
 use std::alloc::Global;
@@ -209,25 +209,6 @@ fn checks_describe_what_they_took(
         ]) }
 {
     check_one(alloc, source)
-}
-
-/// The message at the front is checked, and nothing that is in the buffer, or that the reader read before, comes into its normal form.
-fn checks_have_nothing_of_the_room(
-    reader: &mut NormalReader,
-    source: &mut Pieces,
-    buffer: Vec<u8>,
-    alloc: Global,
-) -> Result<Option<(Checked, Vec<u8>)>, ReadFailure>
-    ensures { (a : Apdu) (n : ℕ) → Accepts profile_two source.old.octets a n
-        → IfOk result (λ found. elim found as (λ _. Type 0) [
-          | Some x ↦ (x.0.apdu ≡ a.number) × (x.0.octets ≡ n)
-              × (x.0.normal ≡ length (normal_form a))
-              × (IsTrue x.0.is_normal ↔ (take n source.old.octets ≡ normal_form a))
-              × (x.1.items ≡ normal_form a)
-          | None ↦ ⊥
-        ]) }
-{
-    check_one_in(alloc, Profile::Two, reader, source, buffer)
 }
 
 /// Nothing is written before the whole message was read, and then as many octets as are reported.

@@ -2,8 +2,9 @@ use Rattle.ill_schema.specs.Profiles.{profile_of}
 use Rattle.std.proofs.Common.{◌∙◌}
 use Rattle.std.proofs.lemmas.Bool.Decides.{Decides-eqb}
 use Rattle.std.proofs.lemmas.Slice.Eq.{slice_eq-Decides}
-use Rattle.ill_normal.proofs.Canonical.{compared_forms, normal_refuses, only_memory}
+use Rattle.ill_normal.proofs.Canonical.{compared_forms, normal_refuses}
 use Rattle.ill_normal.proofs.compare.same_message_as.Goals as goal
+use Rattle.ill_read.proofs.Accepted.{only_memory}
 
 pub returns-in-Err-clause-accepts : goal.returns-in-Err-clause-accepts
 returns-in-Err-clause-accepts c = λ a b h k. only_memory _ _ a (normal_refuses (profile_of c.args.profile) _ _ c.in-Err.ensures) h

@@ -1,7 +1,8 @@
 use Rattle.ill_schema.specs.Profiles.{profile_of}
 use Rattle.std.proofs.lemmas.Result.{err_from_is_err_and}
-use Rattle.ill_normal.proofs.Canonical.{normal_refuses, only_memory}
+use Rattle.ill_normal.proofs.Canonical.{normal_refuses}
 use Rattle.ill_normal.proofs.digest.message_digest.Goals as goal
+use Rattle.ill_read.proofs.Accepted.{only_memory}
 
 pub returns-in_err-normal-clause-accepts : goal.returns-in_err-normal-clause-accepts
 returns-in_err-normal-clause-accepts c =

@@ -1,7 +1,8 @@
 use Rattle.ill_schema.specs.Profiles.{profile_of}
 use Rattle.std.proofs.lemmas.Result.{err_from_is_err_and}
-use Rattle.ill_normal.proofs.InputAnswers.{fails_accepts, fails_refuses, forwarded_accepts, forwarded_empty, forwarded_refuses, none_accepts, at_end_before}
+use Rattle.ill_normal.proofs.InputAnswers.{fails_accepts, fails_refuses, forwarded_accepts, forwarded_empty, forwarded_refuses, none_accepts}
 use Rattle.ill_normal.proofs.single.normalise_as.Goals as goal
+use Rattle.ill_read.proofs.Accepted.{at_end_before}
 
 pub returns-in_err-size-clause-accepts : goal.returns-in_err-size-clause-accepts
 returns-in_err-size-clause-accepts g c =

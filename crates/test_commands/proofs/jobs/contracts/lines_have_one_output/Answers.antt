@@ -1,5 +1,5 @@
 use Rattle.std.proofs.Common.{◌≡◌, ◌++◌, ℕ, Bool, List, [], ◌∷◌, codes, map, Option, Some, Result, Ok, Err, IfOk, refl, sym, ap, ap₂, subst, ◌∙◌, inl, inr, append-nil, ◌&&◌}
-use Rattle.ill_normal.proofs.Canonical.{refuses_once, refuses_whole, spells_once}
+use Rattle.ill_normal.proofs.Canonical.{refuses_once, spells_once}
 use Rattle.ill_schema.specs.Profiles.{profile_of}
 use Rattle.ill_normal.specs.Messages.{spelling}
 use Rattle.ill_inputs.specs.Hexadecimal.{hex_octets}
@@ -8,6 +8,7 @@ use Rattle.ill_commands.specs.Lines.{Answer, AreAnswers, IsResult, LinesDone, al
 use Rattle.ill_commands.specs.Words.{refusal_words}
 use Rattle.ill_commands.specs.declared.lines.job.LineOptions.{LineOptions}
 use Rattle.test_commands.proofs.jobs.contracts.lines_have_one_output.Goals as goal
+use Rattle.ill_read.proofs.Accepted.{refuses_whole}
 
 one_result : (work : LineOptions) (o : Result (List ℕ) RunFault) (r q : List ℕ) (g h : Bool) → IsResult work o r g → IsResult work o q h → (r ≡ q) × (g ≡ h)
 one_result work (Err fault) r q g h a b = (a.0 ∙ sym b.0, a.1 ∙ sym b.1)

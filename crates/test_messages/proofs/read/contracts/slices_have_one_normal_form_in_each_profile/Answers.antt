@@ -3,8 +3,9 @@ use Rattle.ill_schema.specs.Apdu.{normal_form_in}
 use Rattle.ill_schema.specs.Profiles.{profile_of}
 use Rattle.ill_refusals.specs.Fault.{fault_of}
 use Rattle.ill_refusals.proofs.Refusals.{same_refusal}
+use Rattle.ill_read.proofs.Accepted.{refuses_whole}
 use Rattle.ill_read.specs.Answers.{NormalAnswersIn}
-use Rattle.ill_normal.proofs.Canonical.{refuses_once, refuses_whole, spells_once}
+use Rattle.ill_normal.proofs.Canonical.{refuses_once, spells_once}
 use Rattle.test_messages.proofs.read.contracts.slices_have_one_normal_form_in_each_profile.Goals as goal
 
 pub returns-clause-form : goal.returns-clause-form
