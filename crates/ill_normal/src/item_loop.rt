@@ -119,56 +119,23 @@ impl ItemLoop {
             → IsTrue (R.is_broken source.new) }
         ensures sink_stays { IsTrue (W.is_broken sink.old) → IsTrue (W.is_broken sink.new) }
     {
-        let OnRefusal::GoOn = self.reading.on_refusal else {
-            return self.read_message(writer, source, sink);
-        };
-        match take_message(
-            writer.profile(),
-            writer.wants(),
-            &mut self.reader,
-            source,
-            &mut self.recorded,
-        ) {
-            Ok(NextMessage::Read) => self.write_accepted(writer, sink),
-            Ok(NextMessage::Refused { refusal, end }) => {
-                let report = RefusalReport::new(self.counts.next_place(), refusal, end);
-                self.write_refused(report, writer, sink, reports)
-            }
-            Ok(NextMessage::AtEnd) => Err(self.ended(None)),
-            Err(fault) => Err(self.ended(Some(fault))),
+        if let OnRefusal::GoOn = self.reading.on_refusal {
+            return match take_message(
+                writer.profile(),
+                writer.wants(),
+                &mut self.reader,
+                source,
+                &mut self.recorded,
+            ) {
+                Ok(NextMessage::Read) => self.write_accepted(writer, sink),
+                Ok(NextMessage::Refused { refusal, end }) => {
+                    let report = RefusalReport::new(self.counts.next_place(), refusal, end);
+                    self.write_refused(report, writer, sink, reports)
+                }
+                Ok(NextMessage::AtEnd) => Err(self.ended(None)),
+                Err(fault) => Err(self.ended(Some(fault))),
+            };
         }
-    }
-
-    /// Reads the next message, where the work ends with a refused one, and has it written.
-    #[inline(always)]
-    fn read_message<I: WriteItems, R: Source, W: Sink>(
-        &mut self,
-        writer: &mut I,
-        source: &mut R,
-        sink: &mut W,
-    ) -> Result<(), StreamEnd>
-        requires ready { I.is_ready writer.old }
-        requires few { self.old.counts.messages < 1_000_000 }
-        requires counted { IsCounted self.old.counts }
-        requires ends { self.old.reading.on_refusal ≢ Mode.GoOn }
-        ensures steps { (r : Option (List Report))
-            → Steps self.old.reading (profile_of (I.reads (I.options writer.old)))
-            (I.writes (I.options writer.old)) (I.fails (I.options writer.old))
-            (I.is_good (I.options writer.old))
-            (streams (R.left source.old) (R.is_broken source.old) (W.contents sink.old)
-            (W.is_broken sink.old) r)
-            (streams (R.left source.new) (R.is_broken source.new) (W.contents sink.new)
-            (W.is_broken sink.new) r)
-            self.old.counts self.new.counts result }
-        ensures counted { OnOk result (IsCounted self.new.counts) }
-        ensures one { OnOk result (self.new.counts.messages ≡ self.old.counts.messages + 1) }
-        ensures ready { OnOk result (I.is_ready writer.new) }
-        ensures options { I.options writer.new ≡ I.options writer.old }
-        ensures reading { self.new.reading ≡ self.old.reading }
-        ensures source_stays { IsTrue (R.is_broken source.old)
-            → IsTrue (R.is_broken source.new) }
-        ensures sink_stays { IsTrue (W.is_broken sink.old) → IsTrue (W.is_broken sink.new) }
-    {
         match self.reader.read(writer.profile(), writer.wants(), source) {
             Ok(Some(_)) => self.write_accepted(writer, sink),
             Ok(None) => Err(self.ended(None)),

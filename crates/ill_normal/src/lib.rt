@@ -26,107 +26,39 @@ mod skipping_laws;
 mod stream;
 mod write_items;
 
-pub use ber_core::Broken;
-pub use ber_core::Class;
-pub use ber_core::FromBuffer;
-pub use ber_core::FromRead;
-pub use ber_core::FromSlice;
-pub use ber_core::Pieces;
-pub use ber_core::Room;
-pub use ber_core::Sink;
-pub use ber_core::Source;
-pub use ber_core::ToWrite;
-pub use ber_leaf::DateText;
-pub use ber_leaf::GeneralText;
-pub use ber_leaf::IllString;
-pub use ber_leaf::LeafFault;
-pub use ber_leaf::PrintableText;
-pub use ber_leaf::TimeText;
-pub use ber_leaf::VisibleText;
-pub use check::Checked;
-pub use check::apdu_number;
-pub use check::check_one;
-pub use check::check_one_as;
-pub use check_words::apdu_name_or_empty;
-pub use check_words::put_check_words;
-pub use compare::is_normal;
-pub use compare::is_normal_as;
-pub use compare::same_message;
-pub use compare::same_message_as;
+pub use ber_core::{
+    Broken, Class, FromBuffer, FromRead, FromSlice, Pieces, Room, Sink, Source, ToWrite,
+};
+pub use ber_leaf::{
+    DateText, GeneralText, IllString, LeafFault, PrintableText, TimeText, VisibleText,
+};
+pub use check::{Checked, apdu_number, check_one, check_one_as};
+pub use check_words::{apdu_name_or_empty, put_check_words};
+pub use compare::{is_normal, is_normal_as, same_message, same_message_as};
 pub use counts::Counts;
-pub use digest::message_digest;
-pub use digest::normal_digest;
-pub use failure::NormalFailure;
-pub use failure::StreamCause;
-pub use failure::StreamFailure;
-pub use ill_inputs::MAX_HEX_TEXT;
-pub use ill_inputs::RunFault;
-pub use ill_inputs::Side;
-pub use ill_inputs::Verdict;
-pub use ill_inputs::end_of_input;
-pub use ill_inputs::read_at_most;
-pub use ill_inputs::read_hex;
-pub use ill_inputs::text_octets;
-pub use ill_read::Failure;
-pub use ill_read::NormalForm;
-pub use ill_read::NormalReader;
-pub use ill_read::ReadFailure;
-pub use ill_read::decode;
-pub use ill_read::decode_normal;
-pub use ill_read::read_message;
-pub use ill_read::read_normal;
-pub use ill_schema::Cause;
-pub use ill_schema::Kind;
-pub use ill_schema::LIMIT;
-pub use ill_schema::LeafKind;
-pub use ill_schema::Message;
-pub use ill_schema::Mode;
-pub use ill_schema::NodeId;
-pub use ill_schema::PartId;
-pub use ill_schema::Presence;
-pub use ill_schema::Profile;
-pub use ill_schema::Refusal;
-pub use ill_schema::Row;
-pub use ill_schema::Unfit;
-pub use ill_schema::Value;
-pub use ill_schema::apdu_name;
-pub use ill_schema::apdu_name_as;
-pub use ill_schema::apdu_node;
-pub use ill_schema::apdu_node_as;
-pub use ill_schema::kind;
-pub use ill_schema::kind_as;
-pub use ill_schema::part_name;
-pub use ill_schema::part_name_as;
-pub use ill_schema::row;
-pub use ill_schema::row_as;
-pub use ill_schema::rows;
-pub use ill_schema::rows_as;
-pub use laws::normal_form_is_accepted;
-pub use laws::normal_form_is_its_own;
-pub use laws::normal_forms_are_equal_exactly_if_apdus_are;
-pub use laws::one_prefix_is_accepted;
-pub use laws::one_refusal_of_a_slice;
-pub use message_reader::MessageReader;
-pub use message_reader::ReadMessage;
-pub use message_reader::Wants;
-pub use messages::MAX_MESSAGES;
-pub use messages::MessagePlace;
-pub use messages::OnRefusal;
-pub use messages::Reading;
-pub use messages::StreamEnd;
-pub use messages::read_input;
-pub use report::NoReports;
-pub use report::RefusalReport;
-pub use report::ReportRefusals;
-pub use single::normalise;
-pub use single::normalise_as;
-pub use skipping_laws::accepted_messages_are_written;
-pub use skipping_laws::one_reading_of_an_input;
-pub use skipping_laws::refusals_are_of_the_input;
-pub use skipping_laws::unknown_ends_are_last;
-pub use stream::WriteNormalForms;
-pub use stream::normalise_stream;
-pub use stream::normalise_stream_as;
-pub use write_items::PutError;
-pub use write_items::WriteItems;
-pub use write_items::Written;
+pub use digest::{message_digest, normal_digest};
+pub use failure::{NormalFailure, StreamCause, StreamFailure};
+pub use ill_inputs::{
+    MAX_HEX_TEXT, RunFault, Side, Verdict, end_of_input, read_at_most, read_hex, text_octets,
+};
+pub use ill_read::{
+    Failure, NormalForm, NormalReader, ReadFailure, decode, decode_normal, read_message,
+    read_normal,
+};
+pub use ill_schema::{
+    Cause, LIMIT, Message, NodeId, PartId, Profile, Refusal, Value, apdu_name, apdu_name_as,
+};
+pub use laws::{
+    normal_form_is_accepted, normal_form_is_its_own, normal_forms_are_equal_exactly_if_apdus_are,
+    one_prefix_is_accepted, one_refusal_of_a_slice,
+};
+pub use message_reader::{MessageReader, ReadMessage, Wants};
+pub use messages::{MAX_MESSAGES, MessagePlace, OnRefusal, Reading, StreamEnd, read_input};
+pub use report::{NoReports, RefusalReport, ReportRefusals};
+pub use single::{normalise, normalise_as};
+pub use skipping_laws::{
+    accepted_messages_are_written, one_reading_of_an_input, refusals_are_of_the_input,
+    unknown_ends_are_last,
+};
+pub use stream::{WriteNormalForms, normalise_stream, normalise_stream_as};
+pub use write_items::{PutError, WriteItems, Written};
