@@ -1,5 +1,5 @@
 -- The command line that the program has, as clap's contracts see it.
-use Rattle.std.specs.Prelude.{true, List, [], ◌∷◌, codes, Some}
+use Rattle.std.specs.Prelude.{true, List, [], ◌∷◌, ◌++◌, codes, Some}
 use Rattle.std.specs.Borrow.{Bor}
 use Rattle.clap.specs.Walk.{Rule, Text}
 use Rattle.clap.specs.Simple.{App, new_app, new_rule, with_rule, with_subcommand}
@@ -17,9 +17,13 @@ flag_rule name = record (new_rule name) { long = Some name; action = Some SetTru
 abbrev pub file_rule : Text → Rule
 file_rule id = record (new_rule id) { value_names = 1; required = true }
 
--- the option `--files-from LIST`
-abbrev pub list_rule : Rule
-list_rule = record (new_rule (codes "files-from")) { long = Some (codes "files-from"); value_names = 1 }
+-- the option `--NAME VALUE`
+abbrev pub value_rule : Text → Rule
+value_rule name = record (new_rule name) { long = Some name; value_names = 1 }
+
+-- the option `--NAME N`, where N is a number from 1 to 1,000,000
+abbrev pub number_rule : Text → Rule
+number_rule name = record (value_rule name) { parser = Some (Unsigned 1 1_000_000) }
 
 -- the flag `-H`, `--with-filename`
 abbrev pub filename_rule : Rule
@@ -31,19 +35,7 @@ files_rule = record (new_rule (codes "file")) { value_names = 1; action = Some A
 
 -- the option `-o OUT`, `--output OUT`
 abbrev pub output_rule : Rule
-output_rule = record (new_rule (codes "output")) { long = Some (codes "output"); short = Some 111; value_names = 1 }
-
--- the option `--refused FILE`
-abbrev pub refused_rule : Rule
-refused_rule = record (new_rule (codes "refused")) { long = Some (codes "refused"); value_names = 1 }
-
--- the option `--max-refused N`, where N is a number from 1 to 1,000,000
-abbrev pub max_refused_rule : Rule
-max_refused_rule = record (new_rule (codes "max-refused")) { long = Some (codes "max-refused"); value_names = 1; parser = Some (Unsigned 1 1_000_000) }
-
--- the option `--message N`, where N is a number from 1 to 1,000,000
-abbrev pub message_rule : Rule
-message_rule = record (new_rule (codes "message")) { long = Some (codes "message"); value_names = 1; parser = Some (Unsigned 1 1_000_000) }
+output_rule = record (value_rule (codes "output")) { short = Some 111 }
 
 -- names of profiles, with the places where they are in memory
 abbrev pub ProfileNames : Type 0
@@ -51,9 +43,7 @@ ProfileNames = Bor (List (Bor Text))
 
 -- the option `--profile NAME`, where NAME is one of these names; without it, profile 2
 abbrev pub profile_rule : ProfileNames → Rule
-profile_rule names = record (new_rule (codes "profile")) {
-  long = Some (codes "profile");
-  value_names = 1;
+profile_rule names = record (value_rule (codes "profile")) {
   defaults = profile_name Profile.Two ∷ [];
   parser = Some (Names names);
 }
@@ -67,26 +57,30 @@ abbrev pub topic : Text → App
 topic name = let a = new_app name in
     record a { top = record a.top { subcommand_required = true; arg_required_else_help = true } }
 
+-- `--files-from LIST`, and files
+abbrev pub inputs_rules : List Rule
+inputs_rules = value_rule (codes "files-from") ∷ files_rule ∷ []
+
+-- what is done with refused messages, where they can be written to a file
+abbrev pub refusal_rules : List Rule
+refusal_rules = flag_rule (codes "keep-going") ∷ value_rule (codes "refused") ∷ number_rule (codes "max-refused") ∷ flag_rule (codes "summary") ∷ []
+
 -- what the commands have besides `--hex` and `--profile`, in turn
 abbrev pub show_rules : List Rule
-show_rules =
-    list_rule ∷ files_rule ∷ filename_rule ∷ flag_rule (codes "keep-going") ∷ refused_rule ∷ max_refused_rule ∷ flag_rule (codes "summary") ∷ flag_rule (codes "json") ∷ []
+show_rules = inputs_rules ++ filename_rule ∷ refusal_rules ++ flag_rule (codes "json") ∷ []
 
 abbrev pub report_rules : List Rule
-report_rules =
-    flag_rule (codes "keep-going") ∷ refused_rule ∷ max_refused_rule ∷ flag_rule (codes "summary") ∷ flag_rule (codes "lines") ∷ list_rule ∷ files_rule ∷ filename_rule
-    ∷ flag_rule (codes "json") ∷ []
+report_rules = refusal_rules ++ flag_rule (codes "lines") ∷ inputs_rules ++ filename_rule ∷ flag_rule (codes "json") ∷ []
 
 abbrev pub dump_rules : List Rule
-dump_rules = list_rule ∷ files_rule ∷ filename_rule ∷ flag_rule (codes "keep-going") ∷ max_refused_rule ∷ message_rule ∷ flag_rule (codes "html") ∷ []
+dump_rules =
+    inputs_rules ++ filename_rule ∷ flag_rule (codes "keep-going") ∷ number_rule (codes "max-refused") ∷ number_rule (codes "message") ∷ flag_rule (codes "html") ∷ []
 
 abbrev pub same_rules : List Rule
 same_rules = file_rule (codes "first") ∷ file_rule (codes "second") ∷ []
 
 abbrev pub canonicalise_rules : List Rule
-canonicalise_rules =
-    flag_rule (codes "keep-going") ∷ refused_rule ∷ max_refused_rule ∷ flag_rule (codes "summary") ∷ flag_rule (codes "lines") ∷ flag_rule (codes "whole") ∷ output_rule ∷ list_rule
-    ∷ files_rule ∷ []
+canonicalise_rules = refusal_rules ++ flag_rule (codes "lines") ∷ flag_rule (codes "whole") ∷ output_rule ∷ inputs_rules
 
 abbrev pub rules_of : Verb → List Rule
 rules_of Verb.Show = show_rules

@@ -3,7 +3,7 @@ ghost use Rattle.std.specs.Prelude.{◌≡◌, false, map, IfOk};
 ghost use Rattle.clap.specs.Words.{app_of, rule_of};
 ghost use Rattle.clap.specs.Simple.{App, with_subcommand};
 ghost use Rattle.clap.specs.declared.builder.command.Command.TheViews.{out-Command as fields_of};
-ghost use Rattle.ill_args.specs.CommandLine.{bare_program, command_for, file_rule, filename_rule, files_rule, flag_rule, list_rule, max_refused_rule, message_rule, output_rule, profile_rule, program_of, refused_rule, rules_of, topic, with_commands, with_hex, with_rules};
+ghost use Rattle.ill_args.specs.CommandLine.{bare_program, command_for, file_rule, filename_rule, files_rule, flag_rule, number_rule, output_rule, profile_rule, program_of, rules_of, topic, value_rule, with_commands, with_hex, with_rules};
 ghost use Rattle.ill_args.specs.Orders.{verb_name};
 ghost use Rattle.ill_args.specs.code.Commands.{AreAllNames};
 ghost use Rattle.ill_args.specs.code.Arguments.{rule_for};
@@ -49,6 +49,11 @@ const MESSAGES: &str = "The messages; `-` is standard input";
 const WHOLE: &str =
     "Replaces OUT only if every message of every input was good, and otherwise leaves it as it was";
 
+const OUTPUT: &str =
+    "Writes the normal forms of the messages of each FILE to OUT; `-` is standard output";
+
+const LIST: &str = "Reads names of files from LIST, each ended by a NUL; `-` is standard input";
+
 const LINES: &str =
     "Each line of the input is a message in hexadecimal, and each line of the output its result";
 
@@ -80,14 +85,23 @@ fn file<'a>(alloc: Global, id: &'a str, name: &'a str, help: &'a str) -> Arg<'a>
         .help(help)
 }
 
-fn list<'a>(alloc: Global) -> Arg<'a>
-    ensures rule { rule_of result ≡ list_rule }
+/// The option `--NAME VALUE`.
+fn value<'a>(alloc: Global, name: &'a str, value: &'a str, help: &'a str) -> Arg<'a>
+    ensures rule { rule_of result ≡ value_rule name.entry.now }
     ensures local { result.global ≡ false }
 {
-    Arg::new(alloc, "files-from")
-        .long("files-from")
-        .value_name("LIST")
-        .help("Reads names of files from LIST, each ended by a NUL; `-` is standard input")
+    Arg::new(alloc, name)
+        .long(name)
+        .value_name(value)
+        .help(help)
+}
+
+/// The option `--NAME N`, where N is a number from 1 to 1,000,000.
+fn number<'a>(alloc: Global, name: &'a str, help: &'a str) -> Arg<'a>
+    ensures rule { rule_of result ≡ number_rule name.entry.now }
+    ensures local { result.global ≡ false }
+{
+    value(alloc, name, "N", help).value_parser(ValueParser::unsigned(1, 1_000_000))
 }
 
 /// The flag `-H`.
@@ -95,57 +109,14 @@ fn filename<'a>(alloc: Global) -> Arg<'a>
     ensures rule { rule_of result ≡ filename_rule }
     ensures local { result.global ≡ false }
 {
-    Arg::new(alloc, "with-filename")
-        .short('H')
-        .long("with-filename")
-        .action(ArgAction::SetTrue)
-        .help(WITH_FILENAME)
-}
-
-/// The option `--refused FILE`.
-fn refused<'a>(alloc: Global) -> Arg<'a>
-    ensures rule { rule_of result ≡ refused_rule }
-    ensures local { result.global ≡ false }
-{
-    Arg::new(alloc, "refused")
-        .long("refused")
-        .value_name("FILE")
-        .help(REFUSED)
-}
-
-/// The option `--max-refused N`.
-fn max_refused<'a>(alloc: Global) -> Arg<'a>
-    ensures rule { rule_of result ≡ max_refused_rule }
-    ensures local { result.global ≡ false }
-{
-    Arg::new(alloc, "max-refused")
-        .long("max-refused")
-        .value_name("N")
-        .value_parser(ValueParser::unsigned(1, 1_000_000))
-        .help(MAX_REFUSED)
+    flag(alloc, "with-filename", WITH_FILENAME).short('H')
 }
 
 fn output<'a>(alloc: Global) -> Arg<'a>
     ensures rule { rule_of result ≡ output_rule }
     ensures local { result.global ≡ false }
 {
-    Arg::new(alloc, "output")
-        .short('o')
-        .long("output")
-        .value_name("OUT")
-        .help("Writes the normal forms of the messages of each FILE to OUT; `-` is standard output")
-}
-
-/// The option `--message N`.
-fn message<'a>(alloc: Global) -> Arg<'a>
-    ensures rule { rule_of result ≡ message_rule }
-    ensures local { result.global ≡ false }
-{
-    Arg::new(alloc, "message")
-        .long("message")
-        .value_name("N")
-        .value_parser(ValueParser::unsigned(1, 1_000_000))
-        .help(MESSAGE)
+    value(alloc, "output", "OUT", OUTPUT).short('o')
 }
 
 /// The option `--profile NAME`, where NAME is one of these.
@@ -153,12 +124,9 @@ fn profile<'a>(alloc: Global, names: &'a [&'a str]) -> Arg<'a>
     ensures rule { rule_of result ≡ profile_rule names.entry }
     ensures local { result.global ≡ false }
 {
-    Arg::new(alloc, "profile")
-        .long("profile")
-        .value_name("NAME")
+    value(alloc, "profile", "NAME", PROFILE)
         .value_parser(names)
         .default_value("2")
-        .help(PROFILE)
 }
 
 fn files<'a>(alloc: Global, help: &'a str) -> Arg<'a>
@@ -180,27 +148,33 @@ enum Argument {
     File(&'static str, &'static str, &'static str),
     /// Any number of files.
     Files(&'static str),
-    List,
+    /// The option `--NAME VALUE`: its name, and that of the value in the usage.
+    Value(&'static str, &'static str, &'static str),
+    /// The option `--NAME N`.
+    Number(&'static str, &'static str),
     Filename,
-    Refused,
-    MaxRefused,
     Output,
-    Message,
 }
 
-use Argument::{File, Filename, Files, Flag, List, MaxRefused, Message, Output, Refused};
+use Argument::{File, Filename, Files, Flag, Number, Output, Value};
 
 const KEEP_GOING_FLAG: Argument = Flag("keep-going", KEEP_GOING);
 
+const REFUSED_FILE: Argument = Value("refused", "FILE", REFUSED);
+
+const MAX_REFUSED_NUMBER: Argument = Number("max-refused", MAX_REFUSED);
+
 const SUMMARY_FLAG: Argument = Flag("summary", SUMMARY);
 
+const FILES_FROM: Argument = Value("files-from", "LIST", LIST);
+
 static SHOW: [Argument; 8] = [
-    List,
+    FILES_FROM,
     Files(MESSAGES),
     Filename,
     KEEP_GOING_FLAG,
-    Refused,
-    MaxRefused,
+    REFUSED_FILE,
+    MAX_REFUSED_NUMBER,
     SUMMARY_FLAG,
     Flag("json", JSON),
 ];
@@ -208,23 +182,23 @@ static SHOW: [Argument; 8] = [
 /// The arguments of `check` and `digest`.
 static REPORT: [Argument; 9] = [
     KEEP_GOING_FLAG,
-    Refused,
-    MaxRefused,
+    REFUSED_FILE,
+    MAX_REFUSED_NUMBER,
     SUMMARY_FLAG,
     Flag("lines", LINES),
-    List,
+    FILES_FROM,
     Files(MESSAGES),
     Filename,
     Flag("json", RESULTS_AS_JSON),
 ];
 
 static DUMP: [Argument; 7] = [
-    List,
+    FILES_FROM,
     Files(MESSAGES),
     Filename,
     KEEP_GOING_FLAG,
-    MaxRefused,
-    Message,
+    MAX_REFUSED_NUMBER,
+    Number("message", MESSAGE),
     Flag("html", HTML),
 ];
 
@@ -235,13 +209,13 @@ static SAME: [Argument; 2] = [
 
 static CANONICALISE: [Argument; 9] = [
     KEEP_GOING_FLAG,
-    Refused,
-    MaxRefused,
+    REFUSED_FILE,
+    MAX_REFUSED_NUMBER,
     SUMMARY_FLAG,
     Flag("lines", LINES),
     Flag("whole", WHOLE),
     Output,
-    List,
+    FILES_FROM,
     Files("IN and OUT; or with `-o OUT` the messages; `-` is standard input or output"),
 ];
 
@@ -254,12 +228,10 @@ fn arg<'a>(alloc: Global, argument: Argument) -> Arg<'a>
         Flag(name, help) => flag(alloc, name, help),
         File(id, name, help) => file(alloc, id, name, help),
         Files(help) => files(alloc, help),
-        List => list(alloc),
+        Value(name, of, help) => value(alloc, name, of, help),
+        Number(name, help) => number(alloc, name, help),
         Filename => filename(alloc),
-        Refused => refused(alloc),
-        MaxRefused => max_refused(alloc),
         Output => output(alloc),
-        Message => message(alloc),
     }
 }
 
