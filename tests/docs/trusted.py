@@ -262,8 +262,8 @@ def size(found):
 # those of the others.
 COLUMNS = [
     ("1", "Equal normal forms", [("ill_normal", "normal_forms_are_equal_exactly_if_apdus_are"), ("ill_normal", "same_message", "same", "accepts")]),
-    ("2", "What is accepted", [("ill_refusals", "one_outcome"), ("ill_read", "decode"), ("ill_read", "read_message")]),
-    ("3", "However the input is cut", [("ill_read", "Decoder::feed"), ("ill_read", "read_message")]),
+    ("2", "What is accepted", [("ill_read", "decode", "spelled", "accepts"), ("ill_read", "read_message", "spelled", "accepts")]),
+    ("3", "However the input is cut", [("ill_read", "Decoder::feed"), ("ill_read", "read_message", "next")]),
     ("4", "One cause at one offset", [("ill_refusals", "one_outcome"), ("ill_normal", "one_refusal_of_a_slice")]),
     ("N", "Normal forms of streams", [("ill_normal", name) for name in ("normalise", "normalise_stream", "check_one", "is_normal")]),
     ("T", "APDUs as structs", [("ill_apdu", None), *(("ill_parts", name) for name in ("Part::to_value", "Part::read", "Typed::from_value", "Typed::one_view"))]),
@@ -292,7 +292,7 @@ COLUMNS = [
 
 TEXT = """# What must be believed
 
-The definitions between a theorem and its reader: those that a contract cites, those that these cite, and so on. `tests/docs/trusted.py` makes this list.
+The definitions between a theorem and its reader: those that a contract cites, those that these cite, and so on. Where clauses are named, only those state the claim. `tests/docs/trusted.py` makes this list.
 
 Mark | Claim | Functions whose contracts say it | Files | Lines
 ---|---|---|---|---
@@ -382,7 +382,7 @@ def readme_faults():
     # the claims in their order, and the other columns that README.md has numbers of
     found = {mark: found for mark, _, _, found in columns()}
     claims = [found[mark] for mark in found if mark.isdigit()]
-    bullet = re.search(r"^- The definitions that these contracts use\..*", texts[0], re.M)
+    bullet = re.search(r"^- The definitions that the clauses of these claims use\..*", texts[0], re.M)
     said = [(int(lines.replace(",", "")), int(files)) for lines, files in re.findall(r"([\d,]+) (?:lines )?in (\d+)\b", bullet[0] if bullet else "")]
     wanted = [(lines, files) for files, lines in map(size, [*claims, union(claims), *(found[mark] for mark in README_TOO)])]
     if said != wanted:
