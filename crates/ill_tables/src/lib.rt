@@ -8,8 +8,8 @@
 //! ```
 #![tactic(auto)]
 
+mod each_table;
 mod lookup;
-mod module_rows;
 mod names;
 mod node;
 mod node_rows;

@@ -2,40 +2,30 @@
 ghost use Rattle.std.specs.Prelude.{◌≡◌, map, MatchOption, Some, None};
 ghost use Rattle.ill_tables.specs.Numbers.{number_names, number_name};
 
-const TRANSACTION_TYPES: [&str; 3] = ["simple", "chained", "partitioned"];
-
-const SERVICE_TYPES: [&str; 5] = [
-    "loan",
-    "copy-non-returnable",
-    "locations",
-    "estimate",
-    "responder-specific",
-];
-
-const PLACES_ON_HOLD: [&str; 3] = ["yes", "no", "according-to-responder-policy"];
-
-const ITEM_TYPES: [&str; 3] = ["monograph", "serial", "other"];
-
-const TRANSACTION_RESULTS: [&str; 7] = [
-    "conditional",
-    "retry",
-    "unfilled",
-    "locations-provided",
-    "will-supply",
-    "hold-placed",
-    "estimate",
-];
-
 /// The names of 1, 2 and so on in a row.
 fn number_names(row: &str) -> &'static [&'static str]
     ensures { map (λ name. name.now) result.now ≡ number_names row.now }
 {
     match row {
-        "transaction-type" => &TRANSACTION_TYPES,
-        "ill-service-type" => &SERVICE_TYPES,
-        "place-on-hold" => &PLACES_ON_HOLD,
-        "item-type" => &ITEM_TYPES,
-        "transaction-results" => &TRANSACTION_RESULTS,
+        "transaction-type" => &["simple", "chained", "partitioned"],
+        "ill-service-type" => &[
+            "loan",
+            "copy-non-returnable",
+            "locations",
+            "estimate",
+            "responder-specific",
+        ],
+        "place-on-hold" => &["yes", "no", "according-to-responder-policy"],
+        "item-type" => &["monograph", "serial", "other"],
+        "transaction-results" => &[
+            "conditional",
+            "retry",
+            "unfilled",
+            "locations-provided",
+            "will-supply",
+            "hold-placed",
+            "estimate",
+        ],
         _ => &[],
     }
 }
