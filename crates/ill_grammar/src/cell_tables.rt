@@ -7,59 +7,65 @@ ghost use Rattle.ill_grammar.specs.Cells.{is_two_cell};
 ghost use Rattle.ill_grammar.specs.code.Meant.{all_open, cells_meant, foreign_cell, nested_starts, node_meant, starts_of_cells};
 
 use crate::cell::{Cell, ElementType, EntryRole};
-use ber_core::Class;
+use ber_core::{Class, universal};
 use ill_schema::{NodeId, PartId};
-use ill_tables::table;
+use ill_tables::{each_table, table};
 
-/// The universal number of a node, a SEQUENCE's where it isn't a leaf.
-macro_rules! own_number {
-    (Boolean) => { 1 };
-    (Integer) => { 2 };
-    (Enumerated) => { 10 };
-    (IsoDate) => { 26 };
-    (IsoTime) => { 26 };
-    (PrintableString) => { 19 };
-    (Null) => { 5 };
-    (ObjectIdentifier) => { 6 };
-    (OctetString) => { 4 };
-    (BitString) => { 3 };
-    (ObjectDescriptor) => { 7 };
-    ($node:ident) => { 16 };
+/// A cell of a node by a universal tag, alone and optional: what other cells are made of.
+macro_rules! plain {
+    ($node:ident, $number:expr, $element_type:ident) => {
+        Cell {
+            number: $number,
+            class: Class::Universal,
+            element_type: ElementType::$element_type,
+            part: PartId { node: NodeId::$node, row: 0 },
+            node: NodeId::$node,
+            slot: EntryRole::Inner,
+            nested: false,
+            is_mandatory: false,
+            mandatory_follows: false,
+            default: None,
+        }
+    };
 }
 
-/// The element type of a node.
-macro_rules! own_element_type {
-    (Boolean) => { ElementType::Boolean };
-    (Integer) => { ElementType::Integer };
-    (Enumerated) => { ElementType::Enumerated };
-    (IsoDate) => { ElementType::Date };
-    (IsoTime) => { ElementType::Time };
-    (PrintableString) => { ElementType::Printable };
-    (Null) => { ElementType::Null };
-    (ObjectIdentifier) => { ElementType::ObjectIdentifier };
-    (OctetString) => { ElementType::OctetString };
-    (BitString) => { ElementType::BitString };
-    (ObjectDescriptor) => { ElementType::ObjectDescriptor };
-    (SendToList) => { ElementType::List };
-    (AlreadyTriedList) => { ElementType::List };
-    (UnitsPerMediumList) => { ElementType::List };
-    (IllServiceTypes) => { ElementType::List };
-    (SupplyMediumInfos) => { ElementType::List };
-    (Locs) => { ElementType::List };
-    (Externals) => { ElementType::List };
-    (Extensions) => { ElementType::List };
-    (ElectronicDeliveries) => { ElementType::List };
-    (SpecificUnits) => { ElementType::List };
-    (ModuleUnitsPerMediumList) => { ElementType::List };
-    ($node:ident) => { ElementType::Sequence };
+/// A cell, as it stands in a row of a node.
+macro_rules! placed {
+    ($slot:ident, $parent:ident, $row:literal, $cell:expr) => {
+        Cell {
+            part: PartId { node: NodeId::$parent, row: $row },
+            slot: EntryRole::$slot,
+            ..$cell
+        }
+    };
 }
 
-/// The element type of a row with a tag.
-macro_rules! element_type {
-    (LeftOut, $mode:ident, $node:ident) => { ElementType::LeftOut };
-    ($presence:ident, Explicit, $node:ident) => { ElementType::Wrapper };
-    ($presence:ident, ExplicitOrBare, $node:ident) => { ElementType::LooseWrapper };
-    ($presence:ident, Implicit, $node:ident) => { own_element_type!($node) };
+/// A cell by the tag of a node's type, a SEQUENCE's where it isn't a leaf.
+macro_rules! typed {
+    (Boolean) => { plain!(Boolean, universal::BOOLEAN, Boolean) };
+    (Integer) => { plain!(Integer, universal::INTEGER, Integer) };
+    (Enumerated) => { plain!(Enumerated, universal::ENUMERATED, Enumerated) };
+    (IsoDate) => { plain!(IsoDate, universal::VISIBLE_STRING, Date) };
+    (IsoTime) => { plain!(IsoTime, universal::VISIBLE_STRING, Time) };
+    (PrintableString) => { plain!(PrintableString, universal::PRINTABLE_STRING, Printable) };
+    (Null) => { plain!(Null, 5, Null) };
+    (ObjectIdentifier) => { plain!(ObjectIdentifier, 6, ObjectIdentifier) };
+    (OctetString) => { plain!(OctetString, universal::OCTET_STRING, OctetString) };
+    (BitString) => { plain!(BitString, 3, BitString) };
+    (ObjectDescriptor) => { plain!(ObjectDescriptor, 7, ObjectDescriptor) };
+    (SendToList) => { typed!(@list SendToList) };
+    (AlreadyTriedList) => { typed!(@list AlreadyTriedList) };
+    (UnitsPerMediumList) => { typed!(@list UnitsPerMediumList) };
+    (IllServiceTypes) => { typed!(@list IllServiceTypes) };
+    (SupplyMediumInfos) => { typed!(@list SupplyMediumInfos) };
+    (Locs) => { typed!(@list Locs) };
+    (Externals) => { typed!(@list Externals) };
+    (Extensions) => { typed!(@list Extensions) };
+    (ElectronicDeliveries) => { typed!(@list ElectronicDeliveries) };
+    (SpecificUnits) => { typed!(@list SpecificUnits) };
+    (ModuleUnitsPerMediumList) => { typed!(@list ModuleUnitsPerMediumList) };
+    (@list $node:ident) => { plain!($node, universal::SEQUENCE, List) };
+    ($node:ident) => { plain!($node, universal::SEQUENCE, Sequence) };
 }
 
 /// True for a node that is a choice in a sequence or list without a tag.
@@ -74,181 +80,157 @@ macro_rules! is_nested {
     ($node:ident) => { false };
 }
 
-/// True for a node that is a sequence in an explicit tag and may not be bare.
-macro_rules! is_strict {
-    (PostalAddress) => { true };
-    (ElectronicDelivery) => { true };
-    ($node:ident) => { false };
-}
-
-macro_rules! is_must {
-    (Must) => { true };
-    ($presence:ident) => { false };
-}
-
-/// True where one of the rows is mandatory.
-macro_rules! mandatory_follows {
-    () => { false };
-    (($name:literal, Must, $($row:tt)*) $($rest:tt)*) => { true };
-    ($row:tt $($rest:tt)*) => { mandatory_follows!($($rest)*) };
-}
-
-/// True where a sequence is strict, or has a mandatory row.
-macro_rules! is_needed {
-    (PostalAddress $($row:tt)*) => { true };
-    (ElectronicDelivery $($row:tt)*) => { true };
-    ($node:ident $($row:tt)*) => { mandatory_follows!($($row)*) };
-}
-
 macro_rules! default {
     () => { None };
     ($default:literal) => { Some($default) };
 }
 
-/// The cell of a row of a node.
-macro_rules! cell {
-    ($slot:ident, $is_mandatory:expr, $mandatory_follows:expr, $class:ident, $parent:ident, $row:expr, ($name:literal, $presence:ident $(($default:literal))?, untagged, $node:ident)) => {
-        Cell {
-            number: own_number!($node),
-            class: Class::Universal,
-            element_type: own_element_type!($node),
-            part: PartId { node: NodeId::$parent, row: $row },
-            node: NodeId::$node,
-            slot: EntryRole::$slot,
-            nested: is_nested!($node),
-            is_mandatory: $is_mandatory,
-            mandatory_follows: $mandatory_follows,
-            default: default!($($default)?),
-        }
+/// A cell by the tag of a row.
+macro_rules! tagged {
+    ($class:ident, ($name:literal, $presence:ident $(($default:literal))?, untagged, $node:ident)) => {
+        Cell { nested: is_nested!($node), default: default!($($default)?), ..typed!($node) }
     };
-    ($slot:ident, $is_mandatory:expr, $mandatory_follows:expr, $class:ident, $parent:ident, $row:expr, ($name:literal, $presence:ident $(($default:literal))?, $number:literal, $mode:ident, $node:ident)) => {
+    ($class:ident, ($name:literal, LeftOut, $number:literal, $mode:ident, $node:ident)) => {
+        Cell { class: Class::$class, ..plain!($node, $number, LeftOut) }
+    };
+    ($class:ident, ($name:literal, $presence:ident, $number:literal, Explicit, $node:ident)) => {
+        Cell { class: Class::$class, ..plain!($node, $number, Wrapper) }
+    };
+    ($class:ident, ($name:literal, $presence:ident, $number:literal, ExplicitOrBare, $node:ident)) => {
+        Cell { class: Class::$class, ..plain!($node, $number, LooseWrapper) }
+    };
+    ($class:ident, ($name:literal, $presence:ident $(($default:literal))?, $number:literal, Implicit, $node:ident)) => {
+        Cell { number: $number, class: Class::$class, default: default!($($default)?), ..typed!($node) }
+    };
+}
+
+/// The cell of a row of a sequence: whether it is mandatory, whether it or a later one is, its number, and the row.
+macro_rules! row {
+    ($class:ident $parent:ident ($is_mandatory:tt $mandatory_follows:tt $number:literal $row:tt)) => {
         Cell {
-            number: $number,
-            class: Class::$class,
-            element_type: element_type!($presence, $mode, $node),
-            part: PartId { node: NodeId::$parent, row: $row },
-            node: NodeId::$node,
-            slot: EntryRole::$slot,
-            nested: false,
+            part: PartId { node: NodeId::$parent, row: $number },
+            slot: EntryRole::Row,
             is_mandatory: $is_mandatory,
             mandatory_follows: $mandatory_follows,
-            default: default!($($default)?),
+            ..tagged!($class, $row)
         }
     };
 }
 
-/// The cell of a row of a sequence, before others.
-macro_rules! row_cell {
-    ($class:ident, $parent:ident, $number:expr, ($name:literal, $presence:ident $($row:tt)*) $($rest:tt)*) => {
-        cell!(Row, is_must!($presence), mandatory_follows!(($name, $presence $($row)*) $($rest)*), $class, $parent, $number, ($name, $presence $($row)*))
+/// The cell of an alternative of a choice.
+macro_rules! alternative {
+    ($class:ident $parent:ident ($is_mandatory:tt $mandatory_follows:tt $number:literal $row:tt)) => {
+        placed!(Row, $parent, $number, tagged!($class, $row))
     };
 }
 
-/// The cells of a sequence: its own, and one for each row.
-macro_rules! sequence {
-    ($node:ident, $class:ident: $($row:tt),*) => {
-        sequence!(
-            @ $class $node [0 1 2 3 4 5 6 7 8 9 10 11 12 13 14 15 16 17 18 19 20 21 22 23 24 25];
-            [cell!(Inner, is_strict!($node), is_needed!($node $($row)*), $class, $node, 0, ("", Must, untagged, $node))]
+/// The cells of rows: each gets its number, and then, from the last on, whether it or a later one is mandatory.
+macro_rules! cells_of_rows {
+    (@number $made:tt $before:tt [$number:literal $numbers:tt] $row:tt $($rows:tt)*) => {
+        cells_of_rows!(@number $made [$number $row $before] $numbers $($rows)*)
+    };
+    (@number $made:tt $rows:tt $numbers:tt) => {
+        cells_of_rows!(@follow $made $rows false [])
+    };
+    (@follow $made:tt [$number:literal ($name:literal, Must, $($row:tt)*) $before:tt] $follows:tt [$($cell:tt)*]) => {
+        cells_of_rows!(@follow $made $before true [(true true $number ($name, Must, $($row)*)) $($cell)*])
+    };
+    (@follow $made:tt [$number:literal $row:tt $before:tt] $follows:tt [$($cell:tt)*]) => {
+        cells_of_rows!(@follow $made $before $follows [(false $follows $number $row) $($cell)*])
+    };
+    (@follow [alternative $class:ident $node:ident] [] $follows:tt [$($cell:tt)*]) => {
+        &[$(alternative!($class $node $cell)),*]
+    };
+    (@follow [row $class:ident $node:ident strict] [] $follows:tt [$($cell:tt)*]) => {
+        &[own!($node, true, true) $(, row!($class $node $cell))*]
+    };
+    (@follow [row $class:ident $node:ident] [] $follows:tt [$($cell:tt)*]) => {
+        &[own!($node, false, $follows) $(, row!($class $node $cell))*]
+    };
+    ($made:tt $($row:tt)*) => {
+        cells_of_rows!(
+            @number $made []
+            [0 [1 [2 [3 [4 [5 [6 [7 [8 [9 [10 [11 [12 [13 [14 [15 [16 [17 [18 [19 [20 [21 [22 [23 [24 [25 []]]]]]]]]]]]]]]]]]]]]]]]]]]
             $($row)*
         )
     };
-    (@ $class:ident $node:ident [$($number:literal)*]; [$($cell:expr),*]) => {
-        [$($cell),*]
-    };
-    (@ $class:ident $node:ident [$number:literal $($numbers:literal)*]; [$($cell:expr),*] $row:tt $($rest:tt)*) => {
-        sequence!(@ $class $node [$($numbers)*]; [$($cell,)* row_cell!($class, $node, $number, $row $($rest)*)] $($rest)*)
-    };
 }
 
-/// The cell of a leaf or a list by its own tag.
-macro_rules! own_cell {
-    ($node:ident) => { cell!(Inner, true, true, Universal, $node, 0, ("", Must, untagged, $node)) };
-}
-
-/// The cells of a list: its own, and its item's.
-macro_rules! list {
-    ($node:ident, $class:ident: $row:tt) => {
-        [
-            own_cell!($node),
-            cell!(Item, false, false, $class, $node, 0, $row),
-        ]
-    };
-}
-
-/// The cells of the alternatives of a choice.
-macro_rules! alternatives {
-    ($node:ident, $class:ident: $($row:tt),*) => {
-        alternatives!(@ $class $node [0 1 2 3 4 5 6 7 8 9 10 11 12 13 14 15 16 17 18 19]; [] $($row)*)
-    };
-    (@ $class:ident $node:ident [$($number:literal)*]; [$($cell:expr),*]) => {
-        [$($cell),*]
-    };
-    (@ $class:ident $node:ident [$number:literal $($numbers:literal)*]; [$($cell:expr),*] $row:tt $($rest:tt)*) => {
-        alternatives!(@ $class $node [$($numbers)*]; [$($cell,)* cell!(Row, false, false, $class, $node, $number, $row)] $($rest)*)
+/// The cell of a node by its own tag.
+macro_rules! own {
+    ($node:ident) => { own!($node, true, true) };
+    ($node:ident, $is_mandatory:expr, $mandatory_follows:expr) => {
+        Cell { is_mandatory: $is_mandatory, mandatory_follows: $mandatory_follows, ..typed!($node) }
     };
 }
 
 /// The cell of a node that begins by its alternatives.
 macro_rules! nested {
     ($node:ident) => {
-        Cell {
-            number: 0,
-            class: Class::Universal,
-            element_type: ElementType::LeftOut,
-            part: PartId { node: NodeId::$node, row: 0 },
-            node: NodeId::$node,
-            slot: EntryRole::Inner,
-            nested: true,
-            is_mandatory: true,
-            mandatory_follows: true,
-            default: None,
-        }
+        Cell { nested: true, is_mandatory: true, mandatory_follows: true, ..plain!($node, 0, LeftOut) }
+    };
+}
+
+/// The cell of one of the two strings of an ILL-String.
+macro_rules! string {
+    ($row:literal, $number:expr, $element_type:ident) => {
+        placed!(Row, IllString, $row, plain!(IllString, $number, $element_type))
     };
 }
 
 /// The cell of a segment of a string.
 macro_rules! segment {
-    ($node:ident) => { segment!($node, 4, Segment) };
-    ($node:ident, $number:literal, $element_type:ident) => {
-        Cell {
-            number: $number,
-            class: Class::Universal,
-            element_type: ElementType::$element_type,
-            part: PartId { node: NodeId::$node, row: 0 },
-            node: NodeId::$node,
-            slot: EntryRole::Segment,
-            nested: false,
-            is_mandatory: false,
-            mandatory_follows: false,
-            default: None,
-        }
+    ($node:ident) => { segment!($node, universal::OCTET_STRING, Segment) };
+    ($node:ident, $number:expr, $element_type:ident) => {
+        Cell { slot: EntryRole::Segment, ..plain!($node, $number, $element_type) }
     };
 }
 
 /// The cells of a leaf.
 macro_rules! leaf {
-    ($node:ident) => {
-        [own_cell!($node), segment!($node)]
+    ($node:ident) => { &[own!($node), segment!($node)] };
+}
+
+/// The cells of a node that has a table, by its kind.
+macro_rules! cells {
+    (Choice $node:ident, $($rest:tt)*) => { &[nested!($node)] };
+    (SeqOf $node:ident, $name:literal, $class:ident: $item:tt) => {
+        &[
+            own!($node),
+            placed!(Item, $node, 0, tagged!($class, $item)),
+        ]
     };
+    // A sequence in an explicit tag that may not be bare
+    (Seq PostalAddress, $($rest:tt)*) => { cells!(@ PostalAddress strict, $($rest)*) };
+    (Seq ElectronicDelivery, $($rest:tt)*) => { cells!(@ ElectronicDelivery strict, $($rest)*) };
+    (Seq $($rest:tt)*) => { cells!(@ $($rest)*) };
+    (@ $node:ident $($strict:ident)?, $name:literal, $class:ident: $($row:tt),*) => {
+        cells_of_rows!([row $class $node $($strict)?] $($row)*)
+    };
+}
+
+/// The cells of the alternatives of a node that has a table: of a choice, one for each row.
+macro_rules! alternatives {
+    (Choice $node:ident, $name:literal, $class:ident: $($row:tt),*) => {
+        cells_of_rows!([alternative $class $node] $($row)*)
+    };
+    ($kind:ident $($rest:tt)*) => { &[] };
+}
+
+/// The cells of a type that has a table, or of its twin in the module profile.
+macro_rules! cells_of {
+    ($node:ident) => { table!($node [two $node cells]) };
+    ($node:ident / $twin:ident) => { table!($node [module $twin cells]) };
 }
 
 /// The cell of an element of a foreign tree, with this number of elements round it.
 macro_rules! foreign {
-    ($slot:ident, $depth:literal) => {
-        Cell {
-            number: 0,
-            class: Class::Universal,
-            element_type: ElementType::Foreign,
-            part: PartId { node: NodeId::Any, row: $depth },
-            node: NodeId::Any,
-            slot: EntryRole::$slot,
-            nested: false,
-            is_mandatory: false,
-            mandatory_follows: false,
-            default: None,
-        }
-    };
+    ($slot:ident, $depth:literal) => { placed!($slot, Any, $depth, plain!(Any, 0, Foreign)) };
+}
+
+/// The cells of the elements of a foreign tree, by the number of elements round each.
+macro_rules! foreign_tree {
+    (0 $($depth:literal)*) => { [foreign!(Root, 0) $(, foreign!(Foreign, $depth))*] };
 }
 
 /// The cell that a message begins by.
@@ -261,28 +243,7 @@ pub const MODULE_MESSAGE: Cell = nested!(ModuleIllApdu);
 pub const NOWHERE: Cell = segment!(Boolean);
 
 /// The cells of the elements of a foreign tree, by the number of elements round each.
-const FOREIGN: [Cell; 20] = [
-    foreign!(Root, 0),
-    foreign!(Foreign, 1),
-    foreign!(Foreign, 2),
-    foreign!(Foreign, 3),
-    foreign!(Foreign, 4),
-    foreign!(Foreign, 5),
-    foreign!(Foreign, 6),
-    foreign!(Foreign, 7),
-    foreign!(Foreign, 8),
-    foreign!(Foreign, 9),
-    foreign!(Foreign, 10),
-    foreign!(Foreign, 11),
-    foreign!(Foreign, 12),
-    foreign!(Foreign, 13),
-    foreign!(Foreign, 14),
-    foreign!(Foreign, 15),
-    foreign!(Foreign, 16),
-    foreign!(Foreign, 17),
-    foreign!(Foreign, 18),
-    foreign!(Foreign, 19),
-];
+const FOREIGN: [Cell; 20] = foreign_tree!(0 1 2 3 4 5 6 7 8 9 10 11 12 13 14 15 16 17 18 19);
 
 /// The cells of a node: first that of its own tag or type, then those of its components.
 #[inline(always)]
@@ -292,129 +253,131 @@ pub fn cells_of(node: NodeId) -> &'static [Cell]
     ensures two { IsTrue (is_of_two node) → IsTrue (list_all is_two_cell result.now) }
 {
     match node {
-        NodeId::Boolean => &leaf!(Boolean),
-        NodeId::Integer => &leaf!(Integer),
-        NodeId::Enumerated => &leaf!(Enumerated),
-        NodeId::IsoDate => &leaf!(IsoDate),
-        NodeId::IsoTime => &leaf!(IsoTime),
-        NodeId::PrintableString => &leaf!(PrintableString),
+        NodeId::Boolean => leaf!(Boolean),
+        NodeId::Integer => leaf!(Integer),
+        NodeId::Enumerated => leaf!(Enumerated),
+        NodeId::IsoDate => leaf!(IsoDate),
+        NodeId::IsoTime => leaf!(IsoTime),
+        NodeId::PrintableString => leaf!(PrintableString),
+        NodeId::Null => leaf!(Null),
+        NodeId::ObjectIdentifier => leaf!(ObjectIdentifier),
+        NodeId::OctetString => leaf!(OctetString),
+        NodeId::ObjectDescriptor => leaf!(ObjectDescriptor),
+        NodeId::BitString => &[own!(BitString), segment!(BitString, 3, BitSegment)],
         NodeId::IllString => &[nested!(IllString), segment!(IllString)],
-        NodeId::LeftOut => &sequence!(LeftOut, Context:),
-        NodeId::Symbol => &[nested!(Symbol)],
-        NodeId::Name => &[nested!(Name)],
-        NodeId::SystemId => &table!(SystemId, sequence),
-        NodeId::TransactionId => &table!(TransactionId, sequence),
-        NodeId::DateTime => &table!(DateTime, sequence),
-        NodeId::ServiceDateTime => &table!(ServiceDateTime, sequence),
-        NodeId::PostalAddress => &table!(PostalAddress, sequence),
-        NodeId::SystemAddress => &table!(SystemAddress, sequence),
-        NodeId::DeliveryAddress => &table!(DeliveryAddress, sequence),
-        NodeId::ClientId => &table!(ClientId, sequence),
-        NodeId::DeliveryService => &[nested!(DeliveryService)],
-        NodeId::RequesterOptionalMessages => &table!(RequesterOptionalMessages, sequence),
-        NodeId::ResponderOptionalMessages => &table!(ResponderOptionalMessages, sequence),
-        NodeId::SearchType => &table!(SearchType, sequence),
-        NodeId::SupplyMediumInfo => &table!(SupplyMediumInfo, sequence),
-        NodeId::ItemId => &table!(ItemId, sequence),
-        NodeId::Amount => &table!(Amount, sequence),
-        NodeId::CostInfo => &table!(CostInfo, sequence),
-        NodeId::SendTo => &table!(SendTo, sequence),
-        NodeId::SendToList => &table!(SendToList, list),
-        NodeId::AlreadyTriedList => &table!(AlreadyTriedList, list),
-        NodeId::ThirdPartyInfo => &table!(ThirdPartyInfo, sequence),
-        NodeId::UnitsPerMedium => &table!(UnitsPerMedium, sequence),
-        NodeId::UnitsPerMediumList => &table!(UnitsPerMediumList, list),
-        NodeId::DateDue => &table!(DateDue, sequence),
-        NodeId::ShippedVia => &[nested!(ShippedVia)],
-        NodeId::SupplyDetails => &table!(SupplyDetails, sequence),
-        NodeId::IllServiceTypes => &table!(IllServiceTypes, list),
-        NodeId::SupplyMediumInfos => &table!(SupplyMediumInfos, list),
-        NodeId::IllRequest => &table!(IllRequest, sequence),
-        NodeId::Shipped => &table!(Shipped, sequence),
-        NodeId::LocationInfo => &table!(LocationInfo, sequence),
-        NodeId::Locs => &table!(Locs, list),
-        NodeId::Conditional => &table!(Conditional, sequence),
-        NodeId::Retry => &table!(Retry, sequence),
-        NodeId::Unfilled => &table!(Unfilled, sequence),
-        NodeId::Locations => &table!(Locations, sequence),
-        NodeId::WillSupply => &table!(WillSupply, sequence),
-        NodeId::HoldPlaced => &table!(HoldPlaced, sequence),
-        NodeId::Estimate => &table!(Estimate, sequence),
-        NodeId::Results => &[nested!(Results)],
-        NodeId::IllAnswer => &table!(IllAnswer, sequence),
-        NodeId::ConditionalReply => &table!(ConditionalReply, sequence),
-        NodeId::Cancel => &table!(Cancel, sequence),
-        NodeId::CancelReply => &table!(CancelReply, sequence),
-        NodeId::Received => &table!(Received, sequence),
-        NodeId::Recall => &table!(Recall, sequence),
-        NodeId::Returned => &table!(Returned, sequence),
-        NodeId::CheckedIn => &table!(CheckedIn, sequence),
-        NodeId::Overdue => &table!(Overdue, sequence),
-        NodeId::Renew => &table!(Renew, sequence),
-        NodeId::RenewAnswer => &table!(RenewAnswer, sequence),
-        NodeId::Lost => &table!(Lost, sequence),
-        NodeId::Damaged => &table!(Damaged, sequence),
-        NodeId::MessageApdu => &table!(MessageApdu, sequence),
-        NodeId::StatusQuery => &table!(StatusQuery, sequence),
-        NodeId::Expired => &table!(Expired, sequence),
-        NodeId::IllApdu => &[nested!(IllApdu)],
-        NodeId::Null => &leaf!(Null),
-        NodeId::ObjectIdentifier => &leaf!(ObjectIdentifier),
-        NodeId::OctetString => &leaf!(OctetString),
-        NodeId::BitString => &[own_cell!(BitString), segment!(BitString, 3, BitSegment)],
-        NodeId::ObjectDescriptor => &leaf!(ObjectDescriptor),
         NodeId::Any => &[nested!(Any)],
-        NodeId::Encoding => &[nested!(Encoding)],
-        NodeId::External => &table!(External, sequence),
-        NodeId::TaggedExternal => &[nested!(TaggedExternal)],
-        NodeId::Externals => &table!(Externals, list),
-        NodeId::Extension => &table!(Extension, sequence),
-        NodeId::Extensions => &table!(Extensions, list),
-        NodeId::EDeliveryService => &table!(EDeliveryService, sequence),
-        NodeId::DocumentType => &table!(DocumentType, sequence),
-        NodeId::EDeliveryDetails => &[nested!(EDeliveryDetails)],
-        NodeId::ElectronicDelivery => &table!(ElectronicDelivery, sequence),
-        NodeId::ElectronicDeliveries => &table!(ElectronicDeliveries, list),
-        NodeId::SpecificUnits => &table!(SpecificUnits, list),
-        NodeId::DamagedPortion => &[nested!(DamagedPortion)],
-        NodeId::DamagedDetails => &table!(DamagedDetails, sequence),
-        NodeId::HistoryReport => &table!(HistoryReport, sequence),
-        NodeId::StatusReport => &table!(StatusReport, sequence),
-        NodeId::AlreadyForwarded => &table!(AlreadyForwarded, sequence),
-        NodeId::UserErrorReport => &[nested!(UserErrorReport)],
-        NodeId::StateTransition => &table!(StateTransition, sequence),
-        NodeId::ProviderErrorReport => &[nested!(ProviderErrorReport)],
-        NodeId::ErrorReport => &table!(ErrorReport, sequence),
-        NodeId::ForwardNotification => &table!(ForwardNotification, sequence),
-        NodeId::StatusOrErrorReport => &table!(StatusOrErrorReport, sequence),
-        NodeId::ModuleDeliveryService => &[nested!(ModuleDeliveryService)],
-        NodeId::ModuleShippedVia => &[nested!(ModuleShippedVia)],
-        NodeId::ModuleItemId => &table!(ModuleItemId, sequence),
-        NodeId::ModuleUnitsPerMedium => &table!(ModuleUnitsPerMedium, sequence),
-        NodeId::ModuleUnitsPerMediumList => &table!(ModuleUnitsPerMediumList, list),
-        NodeId::ModuleSupplyDetails => &table!(ModuleSupplyDetails, sequence),
-        NodeId::ModuleIllRequest => &table!(ModuleIllRequest, sequence),
-        NodeId::ModuleShipped => &table!(ModuleShipped, sequence),
-        NodeId::ModuleConditional => &table!(ModuleConditional, sequence),
-        NodeId::ModuleWillSupply => &table!(ModuleWillSupply, sequence),
-        NodeId::ModuleResults => &[nested!(ModuleResults)],
-        NodeId::ModuleIllAnswer => &table!(ModuleIllAnswer, sequence),
-        NodeId::ModuleConditionalReply => &table!(ModuleConditionalReply, sequence),
-        NodeId::ModuleCancel => &table!(ModuleCancel, sequence),
-        NodeId::ModuleCancelReply => &table!(ModuleCancelReply, sequence),
-        NodeId::ModuleReceived => &table!(ModuleReceived, sequence),
-        NodeId::ModuleRecall => &table!(ModuleRecall, sequence),
-        NodeId::ModuleReturned => &table!(ModuleReturned, sequence),
-        NodeId::ModuleCheckedIn => &table!(ModuleCheckedIn, sequence),
-        NodeId::ModuleOverdue => &table!(ModuleOverdue, sequence),
-        NodeId::ModuleRenew => &table!(ModuleRenew, sequence),
-        NodeId::ModuleRenewAnswer => &table!(ModuleRenewAnswer, sequence),
-        NodeId::ModuleLost => &table!(ModuleLost, sequence),
-        NodeId::ModuleDamaged => &table!(ModuleDamaged, sequence),
-        NodeId::ModuleMessageApdu => &table!(ModuleMessageApdu, sequence),
-        NodeId::ModuleStatusQuery => &table!(ModuleStatusQuery, sequence),
-        NodeId::ModuleExpired => &table!(ModuleExpired, sequence),
-        NodeId::ModuleIllApdu => &[nested!(ModuleIllApdu)],
+        NodeId::LeftOut => cells!(Seq LeftOut, "", Context:),
+        NodeId::Symbol => cells_of!(Symbol),
+        NodeId::Name => cells_of!(Name),
+        NodeId::SystemId => cells_of!(SystemId),
+        NodeId::TransactionId => cells_of!(TransactionId),
+        NodeId::DateTime => cells_of!(DateTime),
+        NodeId::ServiceDateTime => cells_of!(ServiceDateTime),
+        NodeId::PostalAddress => cells_of!(PostalAddress),
+        NodeId::SystemAddress => cells_of!(SystemAddress),
+        NodeId::DeliveryAddress => cells_of!(DeliveryAddress),
+        NodeId::ClientId => cells_of!(ClientId),
+        NodeId::DeliveryService => cells_of!(DeliveryService),
+        NodeId::ModuleDeliveryService => cells_of!(DeliveryService / ModuleDeliveryService),
+        NodeId::RequesterOptionalMessages => cells_of!(RequesterOptionalMessages),
+        NodeId::ResponderOptionalMessages => cells_of!(ResponderOptionalMessages),
+        NodeId::SearchType => cells_of!(SearchType),
+        NodeId::SupplyMediumInfo => cells_of!(SupplyMediumInfo),
+        NodeId::ItemId => cells_of!(ItemId),
+        NodeId::ModuleItemId => cells_of!(ItemId / ModuleItemId),
+        NodeId::Amount => cells_of!(Amount),
+        NodeId::CostInfo => cells_of!(CostInfo),
+        NodeId::SendTo => cells_of!(SendTo),
+        NodeId::SendToList => cells_of!(SendToList),
+        NodeId::AlreadyTriedList => cells_of!(AlreadyTriedList),
+        NodeId::ThirdPartyInfo => cells_of!(ThirdPartyInfo),
+        NodeId::UnitsPerMedium => cells_of!(UnitsPerMedium),
+        NodeId::ModuleUnitsPerMedium => cells_of!(UnitsPerMedium / ModuleUnitsPerMedium),
+        NodeId::UnitsPerMediumList => cells_of!(UnitsPerMediumList),
+        NodeId::ModuleUnitsPerMediumList => cells_of!(
+            UnitsPerMediumList / ModuleUnitsPerMediumList
+        ),
+        NodeId::DateDue => cells_of!(DateDue),
+        NodeId::ShippedVia => cells_of!(ShippedVia),
+        NodeId::ModuleShippedVia => cells_of!(ShippedVia / ModuleShippedVia),
+        NodeId::SupplyDetails => cells_of!(SupplyDetails),
+        NodeId::ModuleSupplyDetails => cells_of!(SupplyDetails / ModuleSupplyDetails),
+        NodeId::IllServiceTypes => cells_of!(IllServiceTypes),
+        NodeId::SupplyMediumInfos => cells_of!(SupplyMediumInfos),
+        NodeId::IllRequest => cells_of!(IllRequest),
+        NodeId::ModuleIllRequest => cells_of!(IllRequest / ModuleIllRequest),
+        NodeId::Shipped => cells_of!(Shipped),
+        NodeId::ModuleShipped => cells_of!(Shipped / ModuleShipped),
+        NodeId::LocationInfo => cells_of!(LocationInfo),
+        NodeId::Locs => cells_of!(Locs),
+        NodeId::Conditional => cells_of!(Conditional),
+        NodeId::ModuleConditional => cells_of!(Conditional / ModuleConditional),
+        NodeId::Retry => cells_of!(Retry),
+        NodeId::Unfilled => cells_of!(Unfilled),
+        NodeId::Locations => cells_of!(Locations),
+        NodeId::WillSupply => cells_of!(WillSupply),
+        NodeId::ModuleWillSupply => cells_of!(WillSupply / ModuleWillSupply),
+        NodeId::HoldPlaced => cells_of!(HoldPlaced),
+        NodeId::Estimate => cells_of!(Estimate),
+        NodeId::Results => cells_of!(Results),
+        NodeId::ModuleResults => cells_of!(Results / ModuleResults),
+        NodeId::IllAnswer => cells_of!(IllAnswer),
+        NodeId::ModuleIllAnswer => cells_of!(IllAnswer / ModuleIllAnswer),
+        NodeId::ConditionalReply => cells_of!(ConditionalReply),
+        NodeId::ModuleConditionalReply => cells_of!(ConditionalReply / ModuleConditionalReply),
+        NodeId::Cancel => cells_of!(Cancel),
+        NodeId::ModuleCancel => cells_of!(Cancel / ModuleCancel),
+        NodeId::CancelReply => cells_of!(CancelReply),
+        NodeId::ModuleCancelReply => cells_of!(CancelReply / ModuleCancelReply),
+        NodeId::Received => cells_of!(Received),
+        NodeId::ModuleReceived => cells_of!(Received / ModuleReceived),
+        NodeId::Recall => cells_of!(Recall),
+        NodeId::ModuleRecall => cells_of!(Recall / ModuleRecall),
+        NodeId::Returned => cells_of!(Returned),
+        NodeId::ModuleReturned => cells_of!(Returned / ModuleReturned),
+        NodeId::CheckedIn => cells_of!(CheckedIn),
+        NodeId::ModuleCheckedIn => cells_of!(CheckedIn / ModuleCheckedIn),
+        NodeId::Overdue => cells_of!(Overdue),
+        NodeId::ModuleOverdue => cells_of!(Overdue / ModuleOverdue),
+        NodeId::Renew => cells_of!(Renew),
+        NodeId::ModuleRenew => cells_of!(Renew / ModuleRenew),
+        NodeId::RenewAnswer => cells_of!(RenewAnswer),
+        NodeId::ModuleRenewAnswer => cells_of!(RenewAnswer / ModuleRenewAnswer),
+        NodeId::Lost => cells_of!(Lost),
+        NodeId::ModuleLost => cells_of!(Lost / ModuleLost),
+        NodeId::Damaged => cells_of!(Damaged),
+        NodeId::ModuleDamaged => cells_of!(Damaged / ModuleDamaged),
+        NodeId::MessageApdu => cells_of!(MessageApdu),
+        NodeId::ModuleMessageApdu => cells_of!(MessageApdu / ModuleMessageApdu),
+        NodeId::StatusQuery => cells_of!(StatusQuery),
+        NodeId::ModuleStatusQuery => cells_of!(StatusQuery / ModuleStatusQuery),
+        NodeId::Expired => cells_of!(Expired),
+        NodeId::ModuleExpired => cells_of!(Expired / ModuleExpired),
+        NodeId::IllApdu => cells_of!(IllApdu),
+        NodeId::ModuleIllApdu => cells_of!(IllApdu / ModuleIllApdu),
+        NodeId::Encoding => cells_of!(Encoding),
+        NodeId::External => cells_of!(External),
+        NodeId::TaggedExternal => cells_of!(TaggedExternal),
+        NodeId::Externals => cells_of!(Externals),
+        NodeId::Extension => cells_of!(Extension),
+        NodeId::Extensions => cells_of!(Extensions),
+        NodeId::EDeliveryService => cells_of!(EDeliveryService),
+        NodeId::DocumentType => cells_of!(DocumentType),
+        NodeId::EDeliveryDetails => cells_of!(EDeliveryDetails),
+        NodeId::ElectronicDelivery => cells_of!(ElectronicDelivery),
+        NodeId::ElectronicDeliveries => cells_of!(ElectronicDeliveries),
+        NodeId::SpecificUnits => cells_of!(SpecificUnits),
+        NodeId::DamagedPortion => cells_of!(DamagedPortion),
+        NodeId::DamagedDetails => cells_of!(DamagedDetails),
+        NodeId::HistoryReport => cells_of!(HistoryReport),
+        NodeId::StatusReport => cells_of!(StatusReport),
+        NodeId::AlreadyForwarded => cells_of!(AlreadyForwarded),
+        NodeId::UserErrorReport => cells_of!(UserErrorReport),
+        NodeId::StateTransition => cells_of!(StateTransition),
+        NodeId::ProviderErrorReport => cells_of!(ProviderErrorReport),
+        NodeId::ErrorReport => cells_of!(ErrorReport),
+        NodeId::ForwardNotification => cells_of!(ForwardNotification),
+        NodeId::StatusOrErrorReport => cells_of!(StatusOrErrorReport),
     }
 }
 
@@ -426,55 +389,13 @@ pub fn alternatives_of(node: NodeId) -> &'static [Cell]
     ensures few { length result.now ≤ 20 }
     ensures two { IsTrue (is_of_two node) → IsTrue (list_all is_two_cell result.now) }
 {
-    match node {
-        NodeId::Symbol => &table!(Symbol, alternatives),
-        NodeId::Name => &table!(Name, alternatives),
-        NodeId::DeliveryService => &table!(DeliveryService, alternatives),
-        NodeId::ShippedVia => &table!(ShippedVia, alternatives),
-        NodeId::Results => &table!(Results, alternatives),
-        NodeId::IllApdu => &table!(IllApdu, alternatives),
+    each_table! {
+        node,
+        alternatives,
         NodeId::IllString => &[
-            Cell {
-                number: 27,
-                class: Class::Universal,
-                element_type: ElementType::General,
-                part: PartId {
-                    node: NodeId::IllString,
-                    row: 0,
-                },
-                node: NodeId::IllString,
-                slot: EntryRole::Row,
-                nested: false,
-                is_mandatory: false,
-                mandatory_follows: false,
-                default: None,
-            },
-            Cell {
-                number: 26,
-                class: Class::Universal,
-                element_type: ElementType::Visible,
-                part: PartId {
-                    node: NodeId::IllString,
-                    row: 1,
-                },
-                node: NodeId::IllString,
-                slot: EntryRole::Row,
-                nested: false,
-                is_mandatory: false,
-                mandatory_follows: false,
-                default: None,
-            },
+            string!(0, universal::GENERAL_STRING, General),
+            string!(1, universal::VISIBLE_STRING, Visible),
         ],
-        NodeId::Encoding => &table!(Encoding, alternatives),
-        NodeId::TaggedExternal => &table!(TaggedExternal, alternatives),
-        NodeId::EDeliveryDetails => &table!(EDeliveryDetails, alternatives),
-        NodeId::DamagedPortion => &table!(DamagedPortion, alternatives),
-        NodeId::UserErrorReport => &table!(UserErrorReport, alternatives),
-        NodeId::ProviderErrorReport => &table!(ProviderErrorReport, alternatives),
-        NodeId::ModuleDeliveryService => &table!(ModuleDeliveryService, alternatives),
-        NodeId::ModuleShippedVia => &table!(ModuleShippedVia, alternatives),
-        NodeId::ModuleResults => &table!(ModuleResults, alternatives),
-        NodeId::ModuleIllApdu => &table!(ModuleIllApdu, alternatives),
         _ => &[],
     }
 }

@@ -26,25 +26,18 @@ pub fn form_fault(found: Found, constructed: bool) -> Option<Cause>
 fn has_form(element_type: ElementType, constructed: bool) -> bool
     ensures { result ≡ has_form element_type constructed }
 {
-    if constructed {
-        !matches!(
-            element_type,
-            ElementType::Boolean
-                | ElementType::Integer
-                | ElementType::Enumerated
-                | ElementType::Null
-                | ElementType::ObjectIdentifier
-                | ElementType::LeftOut
-        )
-    } else {
-        !matches!(
-            element_type,
-            ElementType::Sequence
-                | ElementType::List
-                | ElementType::Wrapper
-                | ElementType::LooseWrapper
-                | ElementType::LeftOut
-        )
+    match element_type {
+        ElementType::Sequence
+        | ElementType::List
+        | ElementType::Wrapper
+        | ElementType::LooseWrapper => constructed,
+        ElementType::Boolean
+        | ElementType::Integer
+        | ElementType::Enumerated
+        | ElementType::Null
+        | ElementType::ObjectIdentifier => !constructed,
+        ElementType::LeftOut => false,
+        _ => true,
     }
 }
 

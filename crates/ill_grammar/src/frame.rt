@@ -37,10 +37,7 @@ impl Frame {
     pub fn ends_at(&self, at: u32) -> bool
         ensures { result ≡ end_at self.now.end at }
     {
-        match self.end {
-            Some(end) => end == at,
-            None => false,
-        }
+        self.end == Some(at)
     }
 }
 

@@ -64,8 +64,7 @@ impl LeafType {
     {
         match self {
             LeafType::Boolean => Flag::check(octets),
-            LeafType::Integer => Whole::check(octets),
-            LeafType::Enumerated => Whole::check(octets),
+            LeafType::Integer | LeafType::Enumerated => Whole::check(octets),
             LeafType::General => match profile {
                 Profile::Two => GeneralText::check(octets),
                 Profile::Module => None,

@@ -15,10 +15,7 @@ use ill_schema::{PartId, Presence, row};
 pub fn is_at_end(marks: &[Mark]) -> bool
     ensures { result ≡ is_at_end marks.now }
 {
-    match marks.first() {
-        Some(mark) => matches!(mark, Mark::End),
-        None => true,
-    }
+    matches!(marks, [] | [Mark::End, ..])
 }
 
 /// The row that is absent, where its mark comes first.
@@ -113,10 +110,7 @@ pub fn is_set(octets: &[Mark]) -> bool
 fn has_set(mark: Mark) -> bool
     ensures { result ≡ not (list_all (nat_eq 0) (octets_in (mark ∷ []))) }
 {
-    match mark {
-        Mark::Octet(octet) => octet != 0,
-        _ => false,
-    }
+    matches!(&mark, Mark::Octet(0x01..=0xFF))
 }
 
 /// The number that octets are in two's complement; 0 where there are no octets or more than eight.
@@ -146,10 +140,7 @@ fn push_mark(octets: &mut ArrayVec<u8, 8>, mark: Mark)
     ensures { length (octets.old.items ++ octets_in (mark ∷ [])) ≤ 8
         → octets.new.items ≡ octets.old.items ++ octets_in (mark ∷ []) }
 {
-    match mark {
-        Mark::Octet(octet) => {
-            let _ = octets.try_push(octet);
-        }
-        _ => {}
+    if let Mark::Octet(octet) = mark {
+        let _ = octets.try_push(octet);
     }
 }

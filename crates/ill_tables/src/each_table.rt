@@ -1,25 +1,51 @@
 //! What is made of each table.
 
+/// Gives the types that have a table to a macro of this crate, after what stands in brackets: of each its node, and after `/` the twin of
+/// the module profile, where the profiles differ in a row.
+#[macro_export]
+macro_rules! types {
+    ($with:ident $given:tt) => {
+        $crate::$with! { $given
+            Symbol, Name, SystemId, TransactionId, DateTime, ServiceDateTime, PostalAddress, SystemAddress,
+            DeliveryAddress, ClientId, DeliveryService / ModuleDeliveryService, RequesterOptionalMessages,
+            ResponderOptionalMessages, SearchType, SupplyMediumInfo, ItemId / ModuleItemId, Amount, CostInfo,
+            SendTo, SendToList, AlreadyTriedList, ThirdPartyInfo, UnitsPerMedium / ModuleUnitsPerMedium,
+            UnitsPerMediumList / ModuleUnitsPerMediumList, DateDue, ShippedVia / ModuleShippedVia,
+            SupplyDetails / ModuleSupplyDetails, IllServiceTypes, SupplyMediumInfos,
+            IllRequest / ModuleIllRequest, Shipped / ModuleShipped, LocationInfo, Locs,
+            Conditional / ModuleConditional, Retry, Unfilled, Locations, WillSupply / ModuleWillSupply,
+            HoldPlaced, Estimate, Results / ModuleResults, IllAnswer / ModuleIllAnswer,
+            ConditionalReply / ModuleConditionalReply, Cancel / ModuleCancel,
+            CancelReply / ModuleCancelReply, Received / ModuleReceived, Recall / ModuleRecall,
+            Returned / ModuleReturned, CheckedIn / ModuleCheckedIn, Overdue / ModuleOverdue,
+            Renew / ModuleRenew, RenewAnswer / ModuleRenewAnswer, Lost / ModuleLost, Damaged / ModuleDamaged,
+            MessageApdu / ModuleMessageApdu, StatusQuery / ModuleStatusQuery, Expired / ModuleExpired,
+            IllApdu / ModuleIllApdu, Encoding, External, TaggedExternal, Externals, Extension, Extensions,
+            EDeliveryService, DocumentType, EDeliveryDetails, ElectronicDelivery, ElectronicDeliveries,
+            SpecificUnits, DamagedPortion, DamagedDetails, HistoryReport, StatusReport, AlreadyForwarded,
+            UserErrorReport, StateTransition, ProviderErrorReport, ErrorReport, ForwardNotification,
+            StatusOrErrorReport
+        }
+    };
+}
+
 /// A `match` of a node, with an arm for each node that has a table: what the macro that is named makes of the kind, the node, its
 /// name, the class of its tags and its rows in the node's profile. The arms of the other nodes follow.
 #[macro_export]
 macro_rules! each_table {
     ($node:expr, $made:ident, $($others:tt)*) => {
-        $crate::tables!(match_tables [$node, $made, $($others)*])
+        $crate::types!(match_tables [$node, $made, $($others)*])
     };
 }
 
-/// The `match` of `each_table`, given the tables.
+/// The `match` of `each_table`, given the types.
 #[macro_export]
 macro_rules! match_tables {
-    (
-        [$value:expr, $made:ident, $($others:tt)*]
-        $($kind:ident $node:ident $(/ $twin:ident)?, $name:literal, $class:ident $rows:tt)*
-    ) => {
+    ([$value:expr, $made:ident, $($others:tt)*] $($node:ident $(/ $twin:ident)?),*) => {
         match $value {
             $(
-                NodeId::$node => $crate::table!(two $made [$kind $node, $name, $class] $rows),
-                $(NodeId::$twin => $crate::table!(module $made [$kind $twin, $name, $class] $rows),)?
+                NodeId::$node => $crate::table!($node [two $node $made]),
+                $(NodeId::$twin => $crate::table!($node [module $twin $made]),)?
             )*
             $($others)*
         }
@@ -29,10 +55,7 @@ macro_rules! match_tables {
 /// The twin of a node in the module profile, or the node itself where it has none.
 #[macro_export]
 macro_rules! match_twins {
-    (
-        [$value:expr]
-        $($kind:ident $node:ident $(/ $twin:ident)?, $name:literal, $class:ident $rows:tt)*
-    ) => {
+    ([$value:expr] $($node:ident $(/ $twin:ident)?),*) => {
         match $value {
             $($(NodeId::$node => NodeId::$twin,)?)*
             node => node,
@@ -40,57 +63,51 @@ macro_rules! match_twins {
     };
 }
 
-/// What the macro that is named makes of a table in a profile, `two` or `module`.
+/// What the macro that is named makes of a type in a profile, `two` or `module`, where it has this node.
 #[macro_export]
-macro_rules! table {
-    ($profile:ident $made:ident [Apdu $($head:tt)*] { $($rows:tt)* }) => {
-        $crate::rows_in!($profile $made [Seq $($head)*] [
+macro_rules! rows_of_type {
+    ([$profile:ident $node:ident $made:ident] Apdu, $name:literal, $class:ident; $($rows:tt)*) => {
+        $crate::rows_in!($profile [$made [Seq $node, $name, $class] [
             ("protocol-version-num", Must, 0, Implicit, Integer)
             ("transaction-id", Must, 1, Implicit, TransactionId)
             ("service-date-time", Must, 2, Implicit, ServiceDateTime)
             ("requester-id", May, 3, Implicit, SystemId)
             ("responder-id", May, 4, Implicit, SystemId)
-        ] $($rows)*)
+        ]] $($rows)*)
     };
-    ($profile:ident $made:ident $head:tt { $($rows:tt)* }) => {
-        $crate::rows_in!($profile $made $head [] $($rows)*)
+    ([$profile:ident $node:ident $made:ident] $kind:ident, $name:literal, $class:ident; $($rows:tt)*) => {
+        $crate::rows_in!($profile [$made [$kind $node, $name, $class] []] $($rows)*)
     };
 }
 
 /// The same, where the rows in brackets are already those of the profile, and the others follow.
 #[macro_export]
 macro_rules! rows_in {
-    ($profile:ident $made:ident [$($head:tt)*] [$($row:tt)*]) => {
-        $made!($($head)*: $($row),*)
+    (two $done:tt only ($name:literal, $presence:ident, $number:literal, $mode:ident, $node:ident) $($rows:tt)*) => {
+        $crate::rows_in!(two $done ($name, LeftOut, $number, Implicit, LeftOut) $($rows)*)
+    };
+    (two $done:tt added $row:tt $($rows:tt)*) => {
+        $crate::rows_in!(two $done $($rows)*)
+    };
+    (module $done:tt strict ($name:literal, $presence:ident, $number:literal, Implicit, $node:ident) $($rows:tt)*) => {
+        $crate::rows_in!(module $done ($name, $presence, $number, Explicit, $node) $($rows)*)
+    };
+    (module $done:tt twin $twin:ident ($name:literal, $presence:ident, untagged, $node:ident) $($rows:tt)*) => {
+        $crate::rows_in!(module $done ($name, $presence, untagged, $twin) $($rows)*)
     };
     (
-        two $made:ident $head:tt [$($row:tt)*]
-        only ($name:literal, $presence:ident, $number:literal, $mode:ident, $node:ident) $($rows:tt)*
-    ) => {
-        $crate::rows_in!(two $made $head [$($row)* ($name, LeftOut, $number, Implicit, LeftOut)] $($rows)*)
-    };
-    (two $made:ident $head:tt $row:tt added $added:tt $($rows:tt)*) => {
-        $crate::rows_in!(two $made $head $row $($rows)*)
-    };
-    (
-        module $made:ident $head:tt [$($row:tt)*]
-        strict ($name:literal, $presence:ident, $number:literal, Implicit, $node:ident) $($rows:tt)*
-    ) => {
-        $crate::rows_in!(module $made $head [$($row)* ($name, $presence, $number, Explicit, $node)] $($rows)*)
-    };
-    (
-        module $made:ident $head:tt [$($row:tt)*]
-        twin $twin:ident ($name:literal, $presence:ident, untagged, $node:ident) $($rows:tt)*
-    ) => {
-        $crate::rows_in!(module $made $head [$($row)* ($name, $presence, untagged, $twin)] $($rows)*)
-    };
-    (
-        module $made:ident $head:tt [$($row:tt)*]
+        module $done:tt
         twin $twin:ident ($name:literal, $presence:ident, $number:literal, $mode:ident, $node:ident) $($rows:tt)*
     ) => {
-        $crate::rows_in!(module $made $head [$($row)* ($name, $presence, $number, $mode, $twin)] $($rows)*)
+        $crate::rows_in!(module $done ($name, $presence, $number, $mode, $twin) $($rows)*)
     };
-    ($profile:ident $made:ident $head:tt [$($row:tt)*] $($word:ident)* ($($next:tt)*) $($rows:tt)*) => {
-        $crate::rows_in!($profile $made $head [$($row)* ($($next)*)] $($rows)*)
+    ($profile:ident $done:tt $word:ident $($rows:tt)*) => {
+        $crate::rows_in!($profile $done $($rows)*)
+    };
+    ($profile:ident [$made:ident $head:tt [$($row:tt)*]] $next:tt $($rows:tt)*) => {
+        $crate::rows_in!($profile [$made $head [$($row)* $next]] $($rows)*)
+    };
+    ($profile:ident [$made:ident [$($head:tt)*] [$($row:tt)*]]) => {
+        $made!($($head)*: $($row),*)
     };
 }

@@ -7,7 +7,7 @@ use crate::names::row_names;
 use crate::node::{Kind, LeafKind, NodeId};
 use crate::part::{PartId, Row};
 use crate::table::rows_of;
-use crate::{each_table, tables};
+use crate::{each_table, types};
 
 /// The kind of a table's node.
 macro_rules! kind {
@@ -70,5 +70,5 @@ pub fn row_node(node: NodeId, i: usize) -> NodeId
 pub fn twin(node: NodeId) -> NodeId
     ensures { result ≡ twin node }
 {
-    tables!(match_twins[node])
+    types! { match_twins [node] }
 }
