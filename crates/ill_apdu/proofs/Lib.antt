@@ -1,4 +1,3 @@
 pub mod Apdus
-pub mod Equality
 pub mod Requests
 pub mod SameApdu

@@ -1,4 +1,4 @@
--- A request that is read group by group has the content of its value.
+-- A request that is read row by row has the content of its value.
 use Rattle.std.proofs.Common.{◌≡◌, ℕ, List, ◌∷◌, Option, Some, None, option_map, refl, sym, ap, ◌∙◌}
 use Rattle.ill_schema.specs.Content.{Content}
 use Rattle.ill_tables.specs.declared.node.NodeId.TheVariants.{IllRequest as RequestNode}

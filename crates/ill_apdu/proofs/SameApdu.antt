@@ -4,8 +4,8 @@ use Rattle.std.proofs.lemmas.Bool.{eq-eqb}
 use Rattle.std.specs.Bool.{Decides}
 use Rattle.ill_schema.specs.Apdu.{Apdu as NumberedBody}
 use Rattle.ill_schema.specs.Content.{Content}
-use Rattle.ill_parts.proofs.Exact.{no_truth}
-use Rattle.ill_apdu.proofs.Equality.{ill_request_exact, ill_answer_exact, conditional_reply_exact, cancel_exact, cancel_reply_exact, expired_exact, shipped_exact, received_exact, recall_exact, returned_exact, checked_in_exact, overdue_exact, renew_exact, renew_answer_exact, lost_exact, damaged_exact, message_apdu_exact, status_query_exact}
+use Rattle.ill_parts.specs.code.Exact.{no_truth}
+use Rattle.ill_apdu.specs.code.Equality.{ill_request_exact, ill_answer_exact, conditional_reply_exact, cancel_exact, cancel_reply_exact, expired_exact, shipped_exact, received_exact, recall_exact, returned_exact, checked_in_exact, overdue_exact, renew_exact, renew_answer_exact, lost_exact, damaged_exact, message_apdu_exact, status_query_exact}
 use Rattle.ill_apdu.specs.declared.apdu.Apdu.{Apdu}
 use Rattle.ill_apdu.specs.declared.request.IllRequest.{IllRequest}
 use Rattle.ill_apdu.specs.declared.shipped.Shipped.{Shipped}

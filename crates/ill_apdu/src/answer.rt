@@ -2,8 +2,8 @@
 use crate::results::Results;
 use ber_leaf::IllString;
 use ill_parts::{
-    Head, Node, Part, ResponderOptionalMessages, SendTo, SystemId, Typed, both, entries,
-    four_optional, headed, optional, optional_value, read_head, required, required_value,
+    Head, Node, Part, ResponderOptionalMessages, SendTo, SystemId, Typed, entries, headed,
+    optional, optional_value, read_head, required, required_value,
 };
 use ill_schema::{NodeId, Value};
 use std::alloc::{AllocError, Global};
@@ -69,28 +69,22 @@ impl Part for IllAnswer {
 
     fn read(alloc: Global, value: &Value) -> Result<Self, AllocError> {
         let entries = entries::<Self>(value);
-        let transaction_results = required(alloc, entries, 5)?;
-        let lists = four_optional(alloc, entries, (9, 10, 11, 12));
-        let results = both(optional(alloc, entries, 6), lists);
-        let (head, (results_explanation, lists)) = both(read_head(alloc, entries), results)?;
-        let (send_to_list, already_tried_list, responder_optional_messages, responder_note) = lists;
         Ok(IllAnswer {
-            head,
-            transaction_results,
-            results_explanation,
-            send_to_list,
-            already_tried_list,
-            responder_optional_messages,
-            responder_note,
+            transaction_results: required(alloc, entries, 5)?,
+            results_explanation: optional(alloc, entries, 6)?,
+            send_to_list: optional(alloc, entries, 9)?,
+            already_tried_list: optional(alloc, entries, 10)?,
+            responder_optional_messages: optional(alloc, entries, 11)?,
+            responder_note: optional(alloc, entries, 12)?,
+            head: read_head(alloc, entries)?,
         })
     }
 }
 
 impl Typed for IllAnswer {
-    #[tactic(auto, using(crate::proofs::Equality::ill_answer_exact))]
-    fn one_view(&self, other: &Self) {
-        let _ = other;
-    }
+    ghost use Rattle.ill_apdu.specs.code.Equality.{ill_answer_exact};
 
     ghost is_node = { λ _. (λ fits. fits, λ fits. fits) };
+
+    ghost is_exact = { ill_answer_exact };
 }

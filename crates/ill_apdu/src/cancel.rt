@@ -1,7 +1,7 @@
 //! CANCEL and CANCEL-REPLY.
 use ber_leaf::IllString;
 use ill_parts::{
-    Head, Node, Part, Typed, both, entries, headed, optional, optional_value, read_head, required,
+    Head, Node, Part, Typed, entries, headed, optional, optional_value, read_head, required,
     required_value,
 };
 use ill_schema::{NodeId, Value};
@@ -46,21 +46,19 @@ impl Part for Cancel {
 
     fn read(alloc: Global, value: &Value) -> Result<Self, AllocError> {
         let entries = entries::<Self>(value);
-        let (head, requester_note) = both(read_head(alloc, entries), optional(alloc, entries, 5))?;
         Ok(Cancel {
-            head,
-            requester_note,
+            requester_note: optional(alloc, entries, 5)?,
+            head: read_head(alloc, entries)?,
         })
     }
 }
 
 impl Typed for Cancel {
-    #[tactic(auto, using(crate::proofs::Equality::cancel_exact))]
-    fn one_view(&self, other: &Self) {
-        let _ = other;
-    }
+    ghost use Rattle.ill_apdu.specs.code.Equality.{cancel_exact};
 
     ghost is_node = { λ _. (λ fits. fits, λ fits. fits) };
+
+    ghost is_exact = { cancel_exact };
 }
 
 /// CANCEL-REPLY: the responder agrees to the cancellation or declines it (APDU 7).
@@ -108,21 +106,18 @@ impl Part for CancelReply {
 
     fn read(alloc: Global, value: &Value) -> Result<Self, AllocError> {
         let entries = entries::<Self>(value);
-        let answer = required(alloc, entries, 5)?;
-        let (head, responder_note) = both(read_head(alloc, entries), optional(alloc, entries, 6))?;
         Ok(CancelReply {
-            head,
-            answer,
-            responder_note,
+            answer: required(alloc, entries, 5)?,
+            responder_note: optional(alloc, entries, 6)?,
+            head: read_head(alloc, entries)?,
         })
     }
 }
 
 impl Typed for CancelReply {
-    #[tactic(auto, using(crate::proofs::Equality::cancel_reply_exact))]
-    fn one_view(&self, other: &Self) {
-        let _ = other;
-    }
+    ghost use Rattle.ill_apdu.specs.code.Equality.{cancel_reply_exact};
 
     ghost is_node = { λ _. (λ fits. fits, λ fits. fits) };
+
+    ghost is_exact = { cancel_reply_exact };
 }

@@ -1,7 +1,7 @@
 //! CONDITIONAL-REPLY.
 use ber_leaf::IllString;
 use ill_parts::{
-    Head, Node, Part, Typed, both, entries, headed, optional, optional_value, read_head, required,
+    Head, Node, Part, Typed, entries, headed, optional, optional_value, read_head, required,
     required_value,
 };
 use ill_schema::{NodeId, Value};
@@ -52,21 +52,18 @@ impl Part for ConditionalReply {
 
     fn read(alloc: Global, value: &Value) -> Result<Self, AllocError> {
         let entries = entries::<Self>(value);
-        let answer = required(alloc, entries, 5)?;
-        let (head, requester_note) = both(read_head(alloc, entries), optional(alloc, entries, 6))?;
         Ok(ConditionalReply {
-            head,
-            answer,
-            requester_note,
+            answer: required(alloc, entries, 5)?,
+            requester_note: optional(alloc, entries, 6)?,
+            head: read_head(alloc, entries)?,
         })
     }
 }
 
 impl Typed for ConditionalReply {
-    #[tactic(auto, using(crate::proofs::Equality::conditional_reply_exact))]
-    fn one_view(&self, other: &Self) {
-        let _ = other;
-    }
+    ghost use Rattle.ill_apdu.specs.code.Equality.{conditional_reply_exact};
 
     ghost is_node = { λ _. (λ fits. fits, λ fits. fits) };
+
+    ghost is_exact = { conditional_reply_exact };
 }

@@ -47,10 +47,9 @@ impl Part for Expired {
 }
 
 impl Typed for Expired {
-    #[tactic(auto, using(crate::proofs::Equality::expired_exact))]
-    fn one_view(&self, other: &Self) {
-        let _ = other;
-    }
+    ghost use Rattle.ill_apdu.specs.code.Equality.{expired_exact};
 
     ghost is_node = { λ _. (λ fits. fits, λ fits. fits) };
+
+    ghost is_exact = { expired_exact };
 }

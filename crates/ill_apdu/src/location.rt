@@ -1,7 +1,7 @@
 //! Places where an item may be had.
 use ber_leaf::IllString;
 use ill_parts::{
-    Node, Part, SystemAddress, SystemId, Typed, both, entries, optional, optional_value, required,
+    Node, Part, SystemAddress, SystemId, Typed, entries, optional, optional_value, required,
     required_value, sequence,
 };
 use ill_schema::{NodeId, Value};
@@ -50,23 +50,20 @@ impl Part for LocationInfo {
 
     fn read(alloc: Global, value: &Value) -> Result<Self, AllocError> {
         let entries = entries::<Self>(value);
-        let rest = both(optional(alloc, entries, 1), optional(alloc, entries, 2));
-        let (location_id, rest) = both(required(alloc, entries, 0), rest)?;
         Ok(LocationInfo {
-            location_id,
-            location_address: rest.0,
-            location_note: rest.1,
+            location_id: required(alloc, entries, 0)?,
+            location_address: optional(alloc, entries, 1)?,
+            location_note: optional(alloc, entries, 2)?,
         })
     }
 }
 
 impl Typed for LocationInfo {
-    #[tactic(auto, using(crate::proofs::Equality::location_info_exact))]
-    fn one_view(&self, other: &Self) {
-        let _ = other;
-    }
+    ghost use Rattle.ill_apdu.specs.code.Equality.{location_info_exact};
 
     ghost is_node = { λ _. (λ fits. fits, λ fits. fits) };
+
+    ghost is_exact = { location_info_exact };
 }
 
 /// The responder names places where the item may be had (Locations).
@@ -117,10 +114,9 @@ impl Part for Locations {
 }
 
 impl Typed for Locations {
-    #[tactic(auto, using(crate::proofs::Equality::locations_exact))]
-    fn one_view(&self, other: &Self) {
-        let _ = other;
-    }
+    ghost use Rattle.ill_apdu.specs.code.Equality.{locations_exact};
 
     ghost is_node = { λ _. (λ fits. fits, λ fits. fits) };
+
+    ghost is_exact = { locations_exact };
 }

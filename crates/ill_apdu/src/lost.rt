@@ -1,8 +1,6 @@
 //! LOST and DAMAGED.
 use ber_leaf::IllString;
-use ill_parts::{
-    Head, Node, Part, Typed, both, entries, headed, optional, optional_value, read_head,
-};
+use ill_parts::{Head, Node, Part, Typed, entries, headed, optional, optional_value, read_head};
 use ill_schema::{NodeId, Value};
 use std::alloc::{AllocError, Global};
 
@@ -45,18 +43,19 @@ impl Part for Lost {
 
     fn read(alloc: Global, value: &Value) -> Result<Self, AllocError> {
         let entries = entries::<Self>(value);
-        let (head, note) = both(read_head(alloc, entries), optional(alloc, entries, 5))?;
-        Ok(Lost { head, note })
+        Ok(Lost {
+            note: optional(alloc, entries, 5)?,
+            head: read_head(alloc, entries)?,
+        })
     }
 }
 
 impl Typed for Lost {
-    #[tactic(auto, using(crate::proofs::Equality::lost_exact))]
-    fn one_view(&self, other: &Self) {
-        let _ = other;
-    }
+    ghost use Rattle.ill_apdu.specs.code.Equality.{lost_exact};
 
     ghost is_node = { λ _. (λ fits. fits, λ fits. fits) };
+
+    ghost is_exact = { lost_exact };
 }
 
 /// DAMAGED: the item is damaged (APDU 16).
@@ -98,16 +97,17 @@ impl Part for Damaged {
 
     fn read(alloc: Global, value: &Value) -> Result<Self, AllocError> {
         let entries = entries::<Self>(value);
-        let (head, note) = both(read_head(alloc, entries), optional(alloc, entries, 6))?;
-        Ok(Damaged { head, note })
+        Ok(Damaged {
+            note: optional(alloc, entries, 6)?,
+            head: read_head(alloc, entries)?,
+        })
     }
 }
 
 impl Typed for Damaged {
-    #[tactic(auto, using(crate::proofs::Equality::damaged_exact))]
-    fn one_view(&self, other: &Self) {
-        let _ = other;
-    }
+    ghost use Rattle.ill_apdu.specs.code.Equality.{damaged_exact};
 
     ghost is_node = { λ _. (λ fits. fits, λ fits. fits) };
+
+    ghost is_exact = { damaged_exact };
 }

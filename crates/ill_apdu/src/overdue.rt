@@ -1,7 +1,7 @@
 //! OVERDUE.
 use ber_leaf::IllString;
 use ill_parts::{
-    DateDue, Head, Node, Part, Typed, both, entries, headed, optional, optional_value, read_head,
+    DateDue, Head, Node, Part, Typed, entries, headed, optional, optional_value, read_head,
     required, required_value,
 };
 use ill_schema::{NodeId, Value};
@@ -52,21 +52,18 @@ impl Part for Overdue {
 
     fn read(alloc: Global, value: &Value) -> Result<Self, AllocError> {
         let entries = entries::<Self>(value);
-        let rest = both(required(alloc, entries, 5), optional(alloc, entries, 6));
-        let (head, rest) = both(read_head(alloc, entries), rest)?;
         Ok(Overdue {
-            head,
-            date_due: rest.0,
-            responder_note: rest.1,
+            date_due: required(alloc, entries, 5)?,
+            responder_note: optional(alloc, entries, 6)?,
+            head: read_head(alloc, entries)?,
         })
     }
 }
 
 impl Typed for Overdue {
-    #[tactic(auto, using(crate::proofs::Equality::overdue_exact))]
-    fn one_view(&self, other: &Self) {
-        let _ = other;
-    }
+    ghost use Rattle.ill_apdu.specs.code.Equality.{overdue_exact};
 
     ghost is_node = { λ _. (λ fits. fits, λ fits. fits) };
+
+    ghost is_exact = { overdue_exact };
 }

@@ -1,8 +1,6 @@
 //! RECALL.
 use ber_leaf::IllString;
-use ill_parts::{
-    Head, Node, Part, Typed, both, entries, headed, optional, optional_value, read_head,
-};
+use ill_parts::{Head, Node, Part, Typed, entries, headed, optional, optional_value, read_head};
 use ill_schema::{NodeId, Value};
 use std::alloc::{AllocError, Global};
 
@@ -45,19 +43,17 @@ impl Part for Recall {
 
     fn read(alloc: Global, value: &Value) -> Result<Self, AllocError> {
         let entries = entries::<Self>(value);
-        let (head, responder_note) = both(read_head(alloc, entries), optional(alloc, entries, 5))?;
         Ok(Recall {
-            head,
-            responder_note,
+            responder_note: optional(alloc, entries, 5)?,
+            head: read_head(alloc, entries)?,
         })
     }
 }
 
 impl Typed for Recall {
-    #[tactic(auto, using(crate::proofs::Equality::recall_exact))]
-    fn one_view(&self, other: &Self) {
-        let _ = other;
-    }
+    ghost use Rattle.ill_apdu.specs.code.Equality.{recall_exact};
 
     ghost is_node = { λ _. (λ fits. fits, λ fits. fits) };
+
+    ghost is_exact = { recall_exact };
 }

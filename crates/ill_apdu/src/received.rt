@@ -60,20 +60,19 @@ impl Part for Received {
     fn read(alloc: Global, value: &Value) -> Result<Self, AllocError> {
         let entries = entries::<Self>(value);
         Ok(Received {
+            supplier_id: optional(alloc, entries, 5)?,
             date_received: required(alloc, entries, 7)?,
             shipped_service_type: required(alloc, entries, 8)?,
             requester_note: optional(alloc, entries, 9)?,
-            supplier_id: optional(alloc, entries, 5)?,
             head: read_head(alloc, entries)?,
         })
     }
 }
 
 impl Typed for Received {
-    #[tactic(auto, using(crate::proofs::Equality::received_exact))]
-    fn one_view(&self, other: &Self) {
-        let _ = other;
-    }
+    ghost use Rattle.ill_apdu.specs.code.Equality.{received_exact};
 
     ghost is_node = { λ _. (λ fits. fits, λ fits. fits) };
+
+    ghost is_exact = { received_exact };
 }

@@ -1,7 +1,7 @@
 //! RENEW and RENEW-ANSWER.
 use ber_leaf::{DateText, IllString};
 use ill_parts::{
-    DateDue, Head, Node, Part, Typed, both, entries, headed, optional, optional_value, read_head,
+    DateDue, Head, Node, Part, Typed, entries, headed, optional, optional_value, read_head,
     required, required_value,
 };
 use ill_schema::{NodeId, Value};
@@ -52,23 +52,20 @@ impl Part for Renew {
 
     fn read(alloc: Global, value: &Value) -> Result<Self, AllocError> {
         let entries = entries::<Self>(value);
-        let rest = both(optional(alloc, entries, 5), optional(alloc, entries, 6));
-        let (head, rest) = both(read_head(alloc, entries), rest)?;
         Ok(Renew {
-            head,
-            desired_due_date: rest.0,
-            requester_note: rest.1,
+            desired_due_date: optional(alloc, entries, 5)?,
+            requester_note: optional(alloc, entries, 6)?,
+            head: read_head(alloc, entries)?,
         })
     }
 }
 
 impl Typed for Renew {
-    #[tactic(auto, using(crate::proofs::Equality::renew_exact))]
-    fn one_view(&self, other: &Self) {
-        let _ = other;
-    }
+    ghost use Rattle.ill_apdu.specs.code.Equality.{renew_exact};
 
     ghost is_node = { λ _. (λ fits. fits, λ fits. fits) };
+
+    ghost is_exact = { renew_exact };
 }
 
 /// RENEW-ANSWER: the responder agrees to the renewal or declines it (APDU 14).
@@ -119,23 +116,19 @@ impl Part for RenewAnswer {
 
     fn read(alloc: Global, value: &Value) -> Result<Self, AllocError> {
         let entries = entries::<Self>(value);
-        let answer = required(alloc, entries, 5)?;
-        let rest = both(optional(alloc, entries, 6), optional(alloc, entries, 7));
-        let (head, rest) = both(read_head(alloc, entries), rest)?;
         Ok(RenewAnswer {
-            head,
-            answer,
-            date_due: rest.0,
-            responder_note: rest.1,
+            answer: required(alloc, entries, 5)?,
+            date_due: optional(alloc, entries, 6)?,
+            responder_note: optional(alloc, entries, 7)?,
+            head: read_head(alloc, entries)?,
         })
     }
 }
 
 impl Typed for RenewAnswer {
-    #[tactic(auto, using(crate::proofs::Equality::renew_answer_exact))]
-    fn one_view(&self, other: &Self) {
-        let _ = other;
-    }
+    ghost use Rattle.ill_apdu.specs.code.Equality.{renew_answer_exact};
 
     ghost is_node = { λ _. (λ fits. fits, λ fits. fits) };
+
+    ghost is_exact = { renew_answer_exact };
 }

@@ -2,7 +2,7 @@
 use crate::location::{LocationInfo, Locations};
 use ber_leaf::{DateText, IllString};
 use ill_parts::{
-    Node, Part, PostalAddress, Typed, alternative, both, chosen, entries, optional, optional_value,
+    Node, Part, PostalAddress, Typed, alternative, chosen, entries, optional, optional_value,
     required, required_value, sequence,
 };
 use ill_schema::{NodeId, Value};
@@ -51,26 +51,20 @@ impl Part for Conditional {
 
     fn read(alloc: Global, value: &Value) -> Result<Self, AllocError> {
         let entries = entries::<Self>(value);
-        let conditions = required(alloc, entries, 0)?;
-        let (date_for_reply, location_list) = both(
-            optional(alloc, entries, 1),
-            optional(alloc, entries, 2),
-        )?;
         Ok(Conditional {
-            conditions,
-            date_for_reply,
-            location_list,
+            conditions: required(alloc, entries, 0)?,
+            date_for_reply: optional(alloc, entries, 1)?,
+            location_list: optional(alloc, entries, 2)?,
         })
     }
 }
 
 impl Typed for Conditional {
-    #[tactic(auto, using(crate::proofs::Equality::conditional_exact))]
-    fn one_view(&self, other: &Self) {
-        let _ = other;
-    }
+    ghost use Rattle.ill_apdu.specs.code.Equality.{conditional_exact};
 
     ghost is_node = { λ _. (λ fits. fits, λ fits. fits) };
+
+    ghost is_exact = { conditional_exact };
 }
 
 /// The responder may supply the item later (Retry).
@@ -116,26 +110,20 @@ impl Part for Retry {
 
     fn read(alloc: Global, value: &Value) -> Result<Self, AllocError> {
         let entries = entries::<Self>(value);
-        let reason_not_available = optional(alloc, entries, 0)?;
-        let (retry_date, location_list) = both(
-            optional(alloc, entries, 1),
-            optional(alloc, entries, 2),
-        )?;
         Ok(Retry {
-            reason_not_available,
-            retry_date,
-            location_list,
+            reason_not_available: optional(alloc, entries, 0)?,
+            retry_date: optional(alloc, entries, 1)?,
+            location_list: optional(alloc, entries, 2)?,
         })
     }
 }
 
 impl Typed for Retry {
-    #[tactic(auto, using(crate::proofs::Equality::retry_exact))]
-    fn one_view(&self, other: &Self) {
-        let _ = other;
-    }
+    ghost use Rattle.ill_apdu.specs.code.Equality.{retry_exact};
 
     ghost is_node = { λ _. (λ fits. fits, λ fits. fits) };
+
+    ghost is_exact = { retry_exact };
 }
 
 /// The responder can't supply the item (Unfilled).
@@ -186,12 +174,11 @@ impl Part for Unfilled {
 }
 
 impl Typed for Unfilled {
-    #[tactic(auto, using(crate::proofs::Equality::unfilled_exact))]
-    fn one_view(&self, other: &Self) {
-        let _ = other;
-    }
+    ghost use Rattle.ill_apdu.specs.code.Equality.{unfilled_exact};
 
     ghost is_node = { λ _. (λ fits. fits, λ fits. fits) };
+
+    ghost is_exact = { unfilled_exact };
 }
 
 /// The responder will supply the item later (Will-Supply).
@@ -243,25 +230,21 @@ impl Part for WillSupply {
 
     fn read(alloc: Global, value: &Value) -> Result<Self, AllocError> {
         let entries = entries::<Self>(value);
-        let reason_will_supply = required(alloc, entries, 0)?;
-        let rest = both(optional(alloc, entries, 2), optional(alloc, entries, 3));
-        let (supply_date, rest) = both(optional(alloc, entries, 1), rest)?;
         Ok(WillSupply {
-            reason_will_supply,
-            supply_date,
-            return_to_address: rest.0,
-            location_list: rest.1,
+            reason_will_supply: required(alloc, entries, 0)?,
+            supply_date: optional(alloc, entries, 1)?,
+            return_to_address: optional(alloc, entries, 2)?,
+            location_list: optional(alloc, entries, 3)?,
         })
     }
 }
 
 impl Typed for WillSupply {
-    #[tactic(auto, using(crate::proofs::Equality::will_supply_exact))]
-    fn one_view(&self, other: &Self) {
-        let _ = other;
-    }
+    ghost use Rattle.ill_apdu.specs.code.Equality.{will_supply_exact};
 
     ghost is_node = { λ _. (λ fits. fits, λ fits. fits) };
+
+    ghost is_exact = { will_supply_exact };
 }
 
 /// The responder has placed a hold on the item (Hold-Placed).
@@ -308,26 +291,20 @@ impl Part for HoldPlaced {
 
     fn read(alloc: Global, value: &Value) -> Result<Self, AllocError> {
         let entries = entries::<Self>(value);
-        let hold_placed_medium_type = optional(alloc, entries, 1)?;
-        let (estimated_date_available, location_list) = both(
-            required(alloc, entries, 0),
-            optional(alloc, entries, 2),
-        )?;
         Ok(HoldPlaced {
-            estimated_date_available,
-            hold_placed_medium_type,
-            location_list,
+            estimated_date_available: required(alloc, entries, 0)?,
+            hold_placed_medium_type: optional(alloc, entries, 1)?,
+            location_list: optional(alloc, entries, 2)?,
         })
     }
 }
 
 impl Typed for HoldPlaced {
-    #[tactic(auto, using(crate::proofs::Equality::hold_placed_exact))]
-    fn one_view(&self, other: &Self) {
-        let _ = other;
-    }
+    ghost use Rattle.ill_apdu.specs.code.Equality.{hold_placed_exact};
 
     ghost is_node = { λ _. (λ fits. fits, λ fits. fits) };
+
+    ghost is_exact = { hold_placed_exact };
 }
 
 /// The estimated cost of supplying the item (Estimate).
@@ -370,24 +347,19 @@ impl Part for Estimate {
 
     fn read(alloc: Global, value: &Value) -> Result<Self, AllocError> {
         let entries = entries::<Self>(value);
-        let (cost_estimate, location_list) = both(
-            required(alloc, entries, 0),
-            optional(alloc, entries, 1),
-        )?;
         Ok(Estimate {
-            cost_estimate,
-            location_list,
+            cost_estimate: required(alloc, entries, 0)?,
+            location_list: optional(alloc, entries, 1)?,
         })
     }
 }
 
 impl Typed for Estimate {
-    #[tactic(auto, using(crate::proofs::Equality::estimate_exact))]
-    fn one_view(&self, other: &Self) {
-        let _ = other;
-    }
+    ghost use Rattle.ill_apdu.specs.code.Equality.{estimate_exact};
 
     ghost is_node = { λ _. (λ fits. fits, λ fits. fits) };
+
+    ghost is_exact = { estimate_exact };
 }
 
 /// The responder's explanation, by the result of its answer (Results).
@@ -455,10 +427,9 @@ impl Part for Results {
 }
 
 impl Typed for Results {
-    #[tactic(auto, using(crate::proofs::Equality::results_exact))]
-    fn one_view(&self, other: &Self) {
-        let _ = other;
-    }
+    ghost use Rattle.ill_apdu.specs.code.Equality.{results_exact};
 
     ghost is_node = { λ _. (λ fits. fits, λ fits. fits) };
+
+    ghost is_exact = { results_exact };
 }

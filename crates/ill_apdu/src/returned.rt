@@ -1,7 +1,7 @@
 //! RETURNED and CHECKED-IN.
 use ber_leaf::{DateText, IllString};
 use ill_parts::{
-    Amount, Head, Node, Part, Typed, both, entries, headed, optional, optional_value, read_head,
+    Amount, Head, Node, Part, Typed, entries, headed, optional, optional_value, read_head,
     required, required_value,
 };
 use ill_schema::{NodeId, Value};
@@ -59,29 +59,22 @@ impl Part for Returned {
 
     fn read(alloc: Global, value: &Value) -> Result<Self, AllocError> {
         let entries = entries::<Self>(value);
-        let front = both(read_head(alloc, entries), required(alloc, entries, 6));
-        let via = both(optional(alloc, entries, 7), optional(alloc, entries, 8));
-        let back = both(via, optional(alloc, entries, 9));
-        let ((head, date_returned), ((returned_via, insured_for), requester_note)) = both(
-            front, back,
-        )?;
         Ok(Returned {
-            head,
-            date_returned,
-            returned_via,
-            insured_for,
-            requester_note,
+            date_returned: required(alloc, entries, 6)?,
+            returned_via: optional(alloc, entries, 7)?,
+            insured_for: optional(alloc, entries, 8)?,
+            requester_note: optional(alloc, entries, 9)?,
+            head: read_head(alloc, entries)?,
         })
     }
 }
 
 impl Typed for Returned {
-    #[tactic(auto, using(crate::proofs::Equality::returned_exact))]
-    fn one_view(&self, other: &Self) {
-        let _ = other;
-    }
+    ghost use Rattle.ill_apdu.specs.code.Equality.{returned_exact};
 
     ghost is_node = { λ _. (λ fits. fits, λ fits. fits) };
+
+    ghost is_exact = { returned_exact };
 }
 
 /// CHECKED-IN: the responder has the item again (APDU 11).
@@ -129,21 +122,18 @@ impl Part for CheckedIn {
 
     fn read(alloc: Global, value: &Value) -> Result<Self, AllocError> {
         let entries = entries::<Self>(value);
-        let rest = both(required(alloc, entries, 5), optional(alloc, entries, 6));
-        let (head, rest) = both(read_head(alloc, entries), rest)?;
         Ok(CheckedIn {
-            head,
-            date_checked_in: rest.0,
-            responder_note: rest.1,
+            date_checked_in: required(alloc, entries, 5)?,
+            responder_note: optional(alloc, entries, 6)?,
+            head: read_head(alloc, entries)?,
         })
     }
 }
 
 impl Typed for CheckedIn {
-    #[tactic(auto, using(crate::proofs::Equality::checked_in_exact))]
-    fn one_view(&self, other: &Self) {
-        let _ = other;
-    }
+    ghost use Rattle.ill_apdu.specs.code.Equality.{checked_in_exact};
 
     ghost is_node = { λ _. (λ fits. fits, λ fits. fits) };
+
+    ghost is_exact = { checked_in_exact };
 }

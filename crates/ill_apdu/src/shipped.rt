@@ -95,10 +95,9 @@ impl Part for Shipped {
 }
 
 impl Typed for Shipped {
-    #[tactic(auto, using(crate::proofs::Equality::shipped_exact))]
-    fn one_view(&self, other: &Self) {
-        let _ = other;
-    }
+    ghost use Rattle.ill_apdu.specs.code.Equality.{shipped_exact};
 
     ghost is_node = { λ _. (λ fits. fits, λ fits. fits) };
+
+    ghost is_exact = { shipped_exact };
 }

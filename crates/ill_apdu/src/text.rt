@@ -1,8 +1,6 @@
 //! MESSAGE.
 use ber_leaf::IllString;
-use ill_parts::{
-    Head, Node, Part, Typed, both, entries, headed, read_head, required, required_value,
-};
+use ill_parts::{Head, Node, Part, Typed, entries, headed, read_head, required, required_value};
 use ill_schema::{NodeId, Value};
 use std::alloc::{AllocError, Global};
 
@@ -45,16 +43,17 @@ impl Part for MessageApdu {
 
     fn read(alloc: Global, value: &Value) -> Result<Self, AllocError> {
         let entries = entries::<Self>(value);
-        let (head, note) = both(read_head(alloc, entries), required(alloc, entries, 5))?;
-        Ok(MessageApdu { head, note })
+        Ok(MessageApdu {
+            note: required(alloc, entries, 5)?,
+            head: read_head(alloc, entries)?,
+        })
     }
 }
 
 impl Typed for MessageApdu {
-    #[tactic(auto, using(crate::proofs::Equality::message_apdu_exact))]
-    fn one_view(&self, other: &Self) {
-        let _ = other;
-    }
+    ghost use Rattle.ill_apdu.specs.code.Equality.{message_apdu_exact};
 
     ghost is_node = { λ _. (λ fits. fits, λ fits. fits) };
+
+    ghost is_exact = { message_apdu_exact };
 }

@@ -1,7 +1,5 @@
 //! Addresses.
-use crate::part::{
-    Node, Part, Typed, both, entries, four_optional, optional, optional_value, sequence,
-};
+use crate::part::{Node, Part, Typed, entries, optional, optional_value, sequence};
 use crate::party::Name;
 use ber_leaf::IllString;
 use ill_schema::{NodeId, Value};
@@ -65,29 +63,25 @@ impl Part for PostalAddress {
 
     fn read(alloc: Global, value: &Value) -> Result<Self, AllocError> {
         let entries = entries::<Self>(value);
-        let lines = four_optional(alloc, entries, (0, 1, 2, 3));
-        let place = four_optional(alloc, entries, (4, 5, 6, 7));
-        let (lines, place) = both(lines, place)?;
         Ok(PostalAddress {
-            name_of_person_or_institution: lines.0,
-            extended_postal_delivery_address: lines.1,
-            street_and_number: lines.2,
-            post_office_box: lines.3,
-            city: place.0,
-            region: place.1,
-            country: place.2,
-            postal_code: place.3,
+            name_of_person_or_institution: optional(alloc, entries, 0)?,
+            extended_postal_delivery_address: optional(alloc, entries, 1)?,
+            street_and_number: optional(alloc, entries, 2)?,
+            post_office_box: optional(alloc, entries, 3)?,
+            city: optional(alloc, entries, 4)?,
+            region: optional(alloc, entries, 5)?,
+            country: optional(alloc, entries, 6)?,
+            postal_code: optional(alloc, entries, 7)?,
         })
     }
 }
 
 impl Typed for PostalAddress {
-    #[tactic(auto, using(crate::proofs::Equality::postal_address_exact))]
-    fn one_view(&self, other: &Self) {
-        let _ = other;
-    }
+    ghost use Rattle.ill_parts.specs.code.Equality.{postal_address_exact};
 
     ghost is_node = { λ _. (λ fits. fits, λ fits. fits) };
+
+    ghost is_exact = { postal_address_exact };
 }
 
 /// An address in a telecommunication service (System-Address).
@@ -130,24 +124,19 @@ impl Part for SystemAddress {
 
     fn read(alloc: Global, value: &Value) -> Result<Self, AllocError> {
         let entries = entries::<Self>(value);
-        let (telecom_service_identifier, telecom_service_address) = both(
-            optional(alloc, entries, 0),
-            optional(alloc, entries, 1),
-        )?;
         Ok(SystemAddress {
-            telecom_service_identifier,
-            telecom_service_address,
+            telecom_service_identifier: optional(alloc, entries, 0)?,
+            telecom_service_address: optional(alloc, entries, 1)?,
         })
     }
 }
 
 impl Typed for SystemAddress {
-    #[tactic(auto, using(crate::proofs::Equality::system_address_exact))]
-    fn one_view(&self, other: &Self) {
-        let _ = other;
-    }
+    ghost use Rattle.ill_parts.specs.code.Equality.{system_address_exact};
 
     ghost is_node = { λ _. (λ fits. fits, λ fits. fits) };
+
+    ghost is_exact = { system_address_exact };
 }
 
 /// The address where something is delivered: one for mail, an electronic one or both
@@ -191,22 +180,17 @@ impl Part for DeliveryAddress {
 
     fn read(alloc: Global, value: &Value) -> Result<Self, AllocError> {
         let entries = entries::<Self>(value);
-        let (postal_address, electronic_address) = both(
-            optional(alloc, entries, 0),
-            optional(alloc, entries, 1),
-        )?;
         Ok(DeliveryAddress {
-            postal_address,
-            electronic_address,
+            postal_address: optional(alloc, entries, 0)?,
+            electronic_address: optional(alloc, entries, 1)?,
         })
     }
 }
 
 impl Typed for DeliveryAddress {
-    #[tactic(auto, using(crate::proofs::Equality::delivery_address_exact))]
-    fn one_view(&self, other: &Self) {
-        let _ = other;
-    }
+    ghost use Rattle.ill_parts.specs.code.Equality.{delivery_address_exact};
 
     ghost is_node = { λ _. (λ fits. fits, λ fits. fits) };
+
+    ghost is_exact = { delivery_address_exact };
 }

@@ -1,5 +1,5 @@
 //! Clients of the requester.
-use crate::part::{Node, Part, Typed, both, entries, optional, optional_value, sequence};
+use crate::part::{Node, Part, Typed, entries, optional, optional_value, sequence};
 use ber_leaf::IllString;
 use ill_schema::{NodeId, Value};
 use std::alloc::{AllocError, Global};
@@ -47,21 +47,18 @@ impl Part for ClientId {
 
     fn read(alloc: Global, value: &Value) -> Result<Self, AllocError> {
         let entries = entries::<Self>(value);
-        let rest = both(optional(alloc, entries, 1), optional(alloc, entries, 2));
-        let (client_name, rest) = both(optional(alloc, entries, 0), rest)?;
         Ok(ClientId {
-            client_name,
-            client_status: rest.0,
-            client_identifier: rest.1,
+            client_name: optional(alloc, entries, 0)?,
+            client_status: optional(alloc, entries, 1)?,
+            client_identifier: optional(alloc, entries, 2)?,
         })
     }
 }
 
 impl Typed for ClientId {
-    #[tactic(auto, using(crate::proofs::Equality::client_id_exact))]
-    fn one_view(&self, other: &Self) {
-        let _ = other;
-    }
+    ghost use Rattle.ill_parts.specs.code.Equality.{client_id_exact};
 
     ghost is_node = { λ _. (λ fits. fits, λ fits. fits) };
+
+    ghost is_exact = { client_id_exact };
 }

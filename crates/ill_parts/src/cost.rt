@@ -1,6 +1,6 @@
 //! Money.
 use crate::part::{
-    Node, Part, Typed, both, entries, optional, optional_value, required, required_value, sequence,
+    Node, Part, Typed, entries, optional, optional_value, required, required_value, sequence,
 };
 use ber_leaf::{IllString, PrintableText};
 use ill_schema::{NodeId, Value};
@@ -46,24 +46,19 @@ impl Part for Amount {
 
     fn read(alloc: Global, value: &Value) -> Result<Self, AllocError> {
         let entries = entries::<Self>(value);
-        let (currency_code, monetary_value) = both(
-            optional(alloc, entries, 0),
-            required(alloc, entries, 1),
-        )?;
         Ok(Amount {
-            currency_code,
-            monetary_value,
+            currency_code: optional(alloc, entries, 0)?,
+            monetary_value: required(alloc, entries, 1)?,
         })
     }
 }
 
 impl Typed for Amount {
-    #[tactic(auto, using(crate::proofs::Equality::amount_exact))]
-    fn one_view(&self, other: &Self) {
-        let _ = other;
-    }
+    ghost use Rattle.ill_parts.specs.code.Equality.{amount_exact};
 
     ghost is_node = { λ _. (λ fits. fits, λ fits. fits) };
+
+    ghost is_exact = { amount_exact };
 }
 
 /// The sum that the requester will pay, and how (Cost-Info).
@@ -115,28 +110,20 @@ impl Part for CostInfo {
 
     fn read(alloc: Global, value: &Value) -> Result<Self, AllocError> {
         let entries = entries::<Self>(value);
-        let reciprocal_agreement = required(alloc, entries, 2)?;
-        let will_pay_fee = required(alloc, entries, 3)?;
-        let payment_provided = required(alloc, entries, 4)?;
-        let (account_number, maximum_cost) = both(
-            optional(alloc, entries, 0),
-            optional(alloc, entries, 1),
-        )?;
         Ok(CostInfo {
-            account_number,
-            maximum_cost,
-            reciprocal_agreement,
-            will_pay_fee,
-            payment_provided,
+            account_number: optional(alloc, entries, 0)?,
+            maximum_cost: optional(alloc, entries, 1)?,
+            reciprocal_agreement: required(alloc, entries, 2)?,
+            will_pay_fee: required(alloc, entries, 3)?,
+            payment_provided: required(alloc, entries, 4)?,
         })
     }
 }
 
 impl Typed for CostInfo {
-    #[tactic(auto, using(crate::proofs::Equality::cost_info_exact))]
-    fn one_view(&self, other: &Self) {
-        let _ = other;
-    }
+    ghost use Rattle.ill_parts.specs.code.Equality.{cost_info_exact};
 
     ghost is_node = { λ _. (λ fits. fits, λ fits. fits) };
+
+    ghost is_exact = { cost_info_exact };
 }

@@ -32,27 +32,22 @@ impl Part for DeliveryService {
     ghost accepts = { Is TheNode };
 
     fn to_value(&self, alloc: Global) -> Result<Value, AllocError> {
-        let (row, value) = match self {
-            DeliveryService::PhysicalDelivery(part) => (0, part.to_value(alloc)?),
-        };
-        alternative::<Self>(alloc, row, value)
+        let DeliveryService::PhysicalDelivery(part) = self;
+        alternative::<Self>(alloc, 0, part.to_value(alloc)?)
     }
 
     fn read(alloc: Global, value: &Value) -> Result<Self, AllocError> {
-        Ok(match chosen::<Self>(value) {
-            (0, part) => DeliveryService::PhysicalDelivery(Part::read(alloc, part)?),
-            _ => unreachable!(),
-        })
+        let (_, part) = chosen::<Self>(value);
+        Ok(DeliveryService::PhysicalDelivery(Part::read(alloc, part)?))
     }
 }
 
 impl Typed for DeliveryService {
-    #[tactic(auto, using(crate::proofs::Equality::delivery_service_exact))]
-    fn one_view(&self, other: &Self) {
-        let _ = other;
-    }
+    ghost use Rattle.ill_parts.specs.code.Equality.{delivery_service_exact};
 
     ghost is_node = { λ _. (λ fits. fits, λ fits. fits) };
+
+    ghost is_exact = { delivery_service_exact };
 }
 
 /// The service by which the item was sent (Shipped-Via).
@@ -83,25 +78,20 @@ impl Part for ShippedVia {
     ghost accepts = { Is TheNode };
 
     fn to_value(&self, alloc: Global) -> Result<Value, AllocError> {
-        let (row, value) = match self {
-            ShippedVia::PhysicalDelivery(part) => (0, part.to_value(alloc)?),
-        };
-        alternative::<Self>(alloc, row, value)
+        let ShippedVia::PhysicalDelivery(part) = self;
+        alternative::<Self>(alloc, 0, part.to_value(alloc)?)
     }
 
     fn read(alloc: Global, value: &Value) -> Result<Self, AllocError> {
-        Ok(match chosen::<Self>(value) {
-            (0, part) => ShippedVia::PhysicalDelivery(Part::read(alloc, part)?),
-            _ => unreachable!(),
-        })
+        let (_, part) = chosen::<Self>(value);
+        Ok(ShippedVia::PhysicalDelivery(Part::read(alloc, part)?))
     }
 }
 
 impl Typed for ShippedVia {
-    #[tactic(auto, using(crate::proofs::Equality::shipped_via_exact))]
-    fn one_view(&self, other: &Self) {
-        let _ = other;
-    }
+    ghost use Rattle.ill_parts.specs.code.Equality.{shipped_via_exact};
 
     ghost is_node = { λ _. (λ fits. fits, λ fits. fits) };
+
+    ghost is_exact = { shipped_via_exact };
 }

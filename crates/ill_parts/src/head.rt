@@ -7,7 +7,7 @@ ghost use Rattle.ill_schema.specs.Value.{content_of};
 ghost use Rattle.ill_parts.specs.Shape.{Is, Must, May, AreBuilt, AreReady, RowsHold, entries_seen, entry_at, head_rows, number_content, other_rows, record_of};
 ghost use Rattle.ill_parts.specs.Views.{headed, transaction_id, service_date_time, system_id};
 
-use crate::part::{Node, both, optional, optional_value, push_all, required, required_value};
+use crate::part::{Node, optional, optional_value, push_all, required, required_value};
 use crate::party::SystemId;
 use crate::transaction::{ServiceDateTime, TransactionId};
 use ill_schema::Value;
@@ -30,7 +30,7 @@ pub struct Head {
 
 /// The head of an APDU, read from its first entries.
 ///
-/// Call it last, or in `both` with another read: an error after it has to drop all its fields, which costs code and proof.
+/// Call it last: an error after it has to drop all its fields, which costs code and proof.
 pub fn read_head(alloc: Global, entries: &[Option<Value>]) -> Result<Head, AllocError>
     requires version { Must (Is Integer) (entry_at entries.now 0) }
     requires transaction { Must (Is TransactionNode) (entry_at entries.now 1) }
@@ -48,19 +48,12 @@ pub fn read_head(alloc: Global, entries: &[Option<Value>]) -> Result<Head, Alloc
     ensures responder { IfOk result (λ h. option_map system_id h.responder_id ≡ entry_at entries.now
         4) }
 {
-    let protocol_version_num = required(alloc, entries, 0)?;
-    let transaction = both(required(alloc, entries, 1), required(alloc, entries, 2));
-    let parties = both(optional(alloc, entries, 3), optional(alloc, entries, 4));
-    let ((transaction_id, service_date_time), (requester_id, responder_id)) = both(
-        transaction,
-        parties,
-    )?;
     Ok(Head {
-        protocol_version_num,
-        transaction_id,
-        service_date_time,
-        requester_id,
-        responder_id,
+        protocol_version_num: required(alloc, entries, 0)?,
+        transaction_id: required(alloc, entries, 1)?,
+        service_date_time: required(alloc, entries, 2)?,
+        requester_id: optional(alloc, entries, 3)?,
+        responder_id: optional(alloc, entries, 4)?,
     })
 }
 

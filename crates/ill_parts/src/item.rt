@@ -1,7 +1,5 @@
 //! Items.
-use crate::part::{
-    Node, Part, Typed, both, entries, four_optional, optional, optional_value, sequence,
-};
+use crate::part::{Node, Part, Typed, entries, optional, optional_value, sequence};
 use ber_leaf::IllString;
 use ill_schema::{NodeId, Value};
 use std::alloc::{AllocError, Global};
@@ -108,47 +106,36 @@ impl Part for ItemId {
 
     fn read(alloc: Global, value: &Value) -> Result<Self, AllocError> {
         let entries = entries::<Self>(value);
-        let work = four_optional(alloc, entries, (0, 1, 2, 3));
-        let title = four_optional(alloc, entries, (4, 5, 6, 7));
-        let edition = four_optional(alloc, entries, (8, 9, 10, 11));
-        let article = four_optional(alloc, entries, (12, 13, 14, 15));
-        let numbers = four_optional(alloc, entries, (16, 18, 19, 21));
-        let references = both(numbers, optional(alloc, entries, 22));
-        let ((work, title), ((edition, article), (numbers, reference))) = both(
-            both(work, title),
-            both(both(edition, article), references),
-        )?;
         Ok(ItemId {
-            item_type: work.0,
-            held_medium_type: work.1,
-            call_number: work.2,
-            author: work.3,
-            title: title.0,
-            sub_title: title.1,
-            sponsoring_body: title.2,
-            place_of_publication: title.3,
-            publisher: edition.0,
-            series_title_number: edition.1,
-            volume_issue: edition.2,
-            edition: edition.3,
-            publication_date: article.0,
-            publication_date_of_component: article.1,
-            author_of_article: article.2,
-            title_of_article: article.3,
-            pagination: numbers.0,
-            isbn: numbers.1,
-            issn: numbers.2,
-            additional_no_letters: numbers.3,
-            verification_reference_source: reference,
+            item_type: optional(alloc, entries, 0)?,
+            held_medium_type: optional(alloc, entries, 1)?,
+            call_number: optional(alloc, entries, 2)?,
+            author: optional(alloc, entries, 3)?,
+            title: optional(alloc, entries, 4)?,
+            sub_title: optional(alloc, entries, 5)?,
+            sponsoring_body: optional(alloc, entries, 6)?,
+            place_of_publication: optional(alloc, entries, 7)?,
+            publisher: optional(alloc, entries, 8)?,
+            series_title_number: optional(alloc, entries, 9)?,
+            volume_issue: optional(alloc, entries, 10)?,
+            edition: optional(alloc, entries, 11)?,
+            publication_date: optional(alloc, entries, 12)?,
+            publication_date_of_component: optional(alloc, entries, 13)?,
+            author_of_article: optional(alloc, entries, 14)?,
+            title_of_article: optional(alloc, entries, 15)?,
+            pagination: optional(alloc, entries, 16)?,
+            isbn: optional(alloc, entries, 18)?,
+            issn: optional(alloc, entries, 19)?,
+            additional_no_letters: optional(alloc, entries, 21)?,
+            verification_reference_source: optional(alloc, entries, 22)?,
         })
     }
 }
 
 impl Typed for ItemId {
-    #[tactic(auto, using(crate::proofs::Equality::item_id_exact))]
-    fn one_view(&self, other: &Self) {
-        let _ = other;
-    }
+    ghost use Rattle.ill_parts.specs.code.Equality.{item_id_exact};
 
     ghost is_node = { λ _. (λ fits. fits, λ fits. fits) };
+
+    ghost is_exact = { item_id_exact };
 }

@@ -11,6 +11,7 @@ use ber_leaf::{DateText, IllString, PrintableText, TimeText};
 use ill_schema::Value;
 use std::alloc::{AllocError, Global};
 
+#[tactic(auto, unfolding(crate::specs::Shape::Is))]
 impl Part for bool {
     ghost use Rattle.ill_tables.specs.declared.node.NodeId.TheVariants.{Boolean};
     ghost use Rattle.ill_parts.specs.Shape.{Is, flag_content};
@@ -19,15 +20,11 @@ impl Part for bool {
 
     ghost accepts = { Is Boolean };
 
-    #[tactic(auto, unfolding(crate::specs::Shape::Is))]
-    fn to_value(&self, alloc: Global) -> Result<Value, AllocError> {
-        let _ = alloc;
+    fn to_value(&self, _: Global) -> Result<Value, AllocError> {
         Ok(Value::Flag(*self))
     }
 
-    #[tactic(auto, unfolding(crate::specs::Shape::Is))]
-    fn read(alloc: Global, value: &Value) -> Result<Self, AllocError> {
-        let _ = alloc;
+    fn read(_: Global, value: &Value) -> Result<Self, AllocError> {
         match value {
             Value::Flag(flag) => Ok(*flag),
             _ => unreachable!(),
@@ -35,6 +32,7 @@ impl Part for bool {
     }
 }
 
+#[tactic(auto, unfolding(crate::specs::Shape::Is))]
 impl Part for i64 {
     ghost use Rattle.ill_tables.specs.declared.node.NodeId.TheVariants.{Integer};
     ghost use Rattle.ill_parts.specs.Shape.{Is, number_content};
@@ -43,15 +41,11 @@ impl Part for i64 {
 
     ghost accepts = { Is Integer };
 
-    #[tactic(auto, unfolding(crate::specs::Shape::Is))]
-    fn to_value(&self, alloc: Global) -> Result<Value, AllocError> {
-        let _ = alloc;
+    fn to_value(&self, _: Global) -> Result<Value, AllocError> {
         Ok(number_value(*self))
     }
 
-    #[tactic(auto, unfolding(crate::specs::Shape::Is))]
-    fn read(alloc: Global, value: &Value) -> Result<Self, AllocError> {
-        let _ = alloc;
+    fn read(_: Global, value: &Value) -> Result<Self, AllocError> {
         match value {
             Value::Whole(number) => Ok(*number),
             _ => unreachable!(),
@@ -59,6 +53,7 @@ impl Part for i64 {
     }
 }
 
+#[tactic(auto, unfolding(crate::specs::Shape::Is))]
 impl Part for DateText {
     ghost use Rattle.ill_tables.specs.declared.node.NodeId.TheVariants.{IsoDate};
     ghost use Rattle.ill_parts.specs.Shape.{Is, date_content};
@@ -67,14 +62,12 @@ impl Part for DateText {
 
     ghost accepts = { Is IsoDate };
 
-    #[tactic(auto, unfolding(crate::specs::Shape::Is))]
     fn to_value(&self, alloc: Global) -> Result<Value, AllocError> {
         // This shows the proof that the octets are a content.
         self.octets();
         Ok(Value::Date(self.copy(alloc)?))
     }
 
-    #[tactic(auto, unfolding(crate::specs::Shape::Is))]
     fn read(alloc: Global, value: &Value) -> Result<Self, AllocError> {
         match value {
             Value::Date(text) => text.copy(alloc),
@@ -83,6 +76,7 @@ impl Part for DateText {
     }
 }
 
+#[tactic(auto, unfolding(crate::specs::Shape::Is))]
 impl Part for TimeText {
     ghost use Rattle.ill_tables.specs.declared.node.NodeId.TheVariants.{IsoTime};
     ghost use Rattle.ill_parts.specs.Shape.{Is, time_content};
@@ -91,14 +85,12 @@ impl Part for TimeText {
 
     ghost accepts = { Is IsoTime };
 
-    #[tactic(auto, unfolding(crate::specs::Shape::Is))]
     fn to_value(&self, alloc: Global) -> Result<Value, AllocError> {
         // This shows the proof that the octets are a content.
         self.octets();
         Ok(Value::Time(self.copy(alloc)?))
     }
 
-    #[tactic(auto, unfolding(crate::specs::Shape::Is))]
     fn read(alloc: Global, value: &Value) -> Result<Self, AllocError> {
         match value {
             Value::Time(text) => text.copy(alloc),
@@ -107,6 +99,7 @@ impl Part for TimeText {
     }
 }
 
+#[tactic(auto, unfolding(crate::specs::Shape::Is))]
 impl Part for PrintableText {
     ghost use Rattle.ill_tables.specs.declared.node.NodeId.TheVariants.{PrintableString};
     ghost use Rattle.ill_parts.specs.Shape.{Is, printable_content};
@@ -115,14 +108,12 @@ impl Part for PrintableText {
 
     ghost accepts = { Is PrintableString };
 
-    #[tactic(auto, unfolding(crate::specs::Shape::Is))]
     fn to_value(&self, alloc: Global) -> Result<Value, AllocError> {
         // This shows the proof that the octets are a content.
         self.octets();
         Ok(Value::Print(self.copy(alloc)?))
     }
 
-    #[tactic(auto, unfolding(crate::specs::Shape::Is))]
     fn read(alloc: Global, value: &Value) -> Result<Self, AllocError> {
         match value {
             Value::Print(text) => text.copy(alloc),
@@ -131,6 +122,7 @@ impl Part for PrintableText {
     }
 }
 
+#[tactic(auto, unfolding(crate::specs::Shape::Is))]
 impl Part for IllString {
     ghost use Rattle.ill_tables.specs.declared.node.NodeId.TheVariants.{IllString as StringNode};
     ghost use Rattle.ill_parts.specs.Shape.{Is, string_content};
@@ -139,14 +131,12 @@ impl Part for IllString {
 
     ghost accepts = { Is StringNode };
 
-    #[tactic(auto, unfolding(crate::specs::Shape::Is))]
     fn to_value(&self, alloc: Global) -> Result<Value, AllocError> {
         // This shows the proof that the octets are a content.
         self.octets();
         Ok(Value::Str(self.copy(alloc)?))
     }
 
-    #[tactic(auto, unfolding(crate::specs::Shape::Is))]
     fn read(alloc: Global, value: &Value) -> Result<Self, AllocError> {
         match value {
             Value::Str(text) => text.copy(alloc),

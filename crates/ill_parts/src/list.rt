@@ -5,12 +5,12 @@ use crate::part::Part;
 use ill_schema::Value;
 use std::alloc::{AllocError, Global};
 
+#[tactic(auto, unfolding(crate::specs::Shape::IsListOf, crate::specs::Shape::list_of))]
 impl<P: Part> Part for Vec<P> {
     ghost content = { listed P.content };
 
     ghost accepts = { IsListOf P.accepts };
 
-    #[tactic(auto, unfolding(crate::specs::Shape::IsListOf, crate::specs::Shape::list_of))]
     fn to_value(&self, alloc: Global) -> Result<Value, AllocError> {
         let mut items = Vec::with_capacity(alloc, self.len())?;
         for part in self {
@@ -19,7 +19,6 @@ impl<P: Part> Part for Vec<P> {
         Ok(Value::List(items))
     }
 
-    #[tactic(auto, unfolding(crate::specs::Shape::IsListOf, crate::specs::Shape::list_of))]
     fn read(alloc: Global, value: &Value) -> Result<Self, AllocError> {
         match value {
             Value::List(items) => {

@@ -55,12 +55,11 @@ impl Part for SupplyMediumInfo {
 }
 
 impl Typed for SupplyMediumInfo {
-    #[tactic(auto, using(crate::proofs::Equality::supply_medium_info_exact))]
-    fn one_view(&self, other: &Self) {
-        let _ = other;
-    }
+    ghost use Rattle.ill_parts.specs.code.Equality.{supply_medium_info_exact};
 
     ghost is_node = { λ _. (λ fits. fits, λ fits. fits) };
+
+    ghost is_exact = { supply_medium_info_exact };
 }
 
 /// The number of units that were supplied in a medium (Units-Per-Medium).
@@ -112,10 +111,9 @@ impl Part for UnitsPerMedium {
 }
 
 impl Typed for UnitsPerMedium {
-    #[tactic(auto, using(crate::proofs::Equality::units_per_medium_exact))]
-    fn one_view(&self, other: &Self) {
-        let _ = other;
-    }
+    ghost use Rattle.ill_parts.specs.code.Equality.{units_per_medium_exact};
 
     ghost is_node = { λ _. (λ fits. fits, λ fits. fits) };
+
+    ghost is_exact = { units_per_medium_exact };
 }

@@ -60,12 +60,11 @@ impl Part for RequesterOptionalMessages {
 }
 
 impl Typed for RequesterOptionalMessages {
-    #[tactic(auto, using(crate::proofs::Equality::requester_optional_messages_exact))]
-    fn one_view(&self, other: &Self) {
-        let _ = other;
-    }
+    ghost use Rattle.ill_parts.specs.code.Equality.{requester_optional_messages_exact};
 
     ghost is_node = { λ _. (λ fits. fits, λ fits. fits) };
+
+    ghost is_exact = { requester_optional_messages_exact };
 }
 
 /// The optional messages that the responder can send, and those that it wants
@@ -125,10 +124,9 @@ impl Part for ResponderOptionalMessages {
 }
 
 impl Typed for ResponderOptionalMessages {
-    #[tactic(auto, using(crate::proofs::Equality::responder_optional_messages_exact))]
-    fn one_view(&self, other: &Self) {
-        let _ = other;
-    }
+    ghost use Rattle.ill_parts.specs.code.Equality.{responder_optional_messages_exact};
 
     ghost is_node = { λ _. (λ fits. fits, λ fits. fits) };
+
+    ghost is_exact = { responder_optional_messages_exact };
 }

@@ -50,13 +50,20 @@ pub trait Part: Drop {
 
 /// A part that stands for a whole node, so that any value can be asked whether it is one.
 pub trait Typed: Part + Node + PartialEq {
-    /// Two parts are equal exactly if they stand for the same value.
-    fn one_view(&self, other: &Self)
-        ensures { IsTrue (Self.eq self.now other.now)
-            ↔ (Self.content self.now ≡ Self.content other.now) };
-
     // a content is a part of this type exactly if it fits the node
     ghost is_node: { (c : Content) → Is Self.Node.NODE c ↔ Self.Part.accepts c };
+
+    // two parts are equal exactly if they stand for the same content
+    ghost is_exact: { (p q : Self) → IsTrue (Self.PartialEq.eq p q)
+        ↔ (Self.Part.content p ≡ Self.Part.content q) };
+
+    /// Two parts are equal exactly if they stand for the same value.
+    final fn one_view(&self, other: &Self)
+        ensures { IsTrue (Self.eq self.now other.now)
+            ↔ (Self.content self.now ≡ Self.content other.now) }
+    {
+        let _ = other;
+    }
 
     /// The part that stands for the value, or `None` where the value doesn't fit the node.
     ///
@@ -95,20 +102,9 @@ pub fn sequence<T: Node, const N: usize>(
     ensures fits { IfOk result (λ v. Is T.NODE (content_of v)) }
 {
     let _ = part;
-    let entries = all_entries(alloc, Vec::from_array(alloc, entries)?)?;
-    Ok(Value::Seq(entries))
-}
-
-/// The entries, or the error of one of them.
-fn all_entries(
-    alloc: Global,
-    pending: Vec<Result<Option<Value>, AllocError>>,
-) -> Result<Vec<Option<Value>>, AllocError>
-    ensures { IfOk result (λ entries. pending.items ≡ map Ok entries.items) }
-{
-    let mut entries = Vec::with_capacity(alloc, pending.len())?;
-    push_all(&mut entries, pending)?;
-    Ok(entries)
+    let mut built = Vec::with_capacity(alloc, N)?;
+    push_all(&mut built, Vec::from_array(alloc, entries)?)?;
+    Ok(Value::Seq(built))
 }
 
 /// Pushes the entries after those that are there, or returns the error of one of them.

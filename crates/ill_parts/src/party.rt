@@ -1,6 +1,6 @@
 //! Parties to a transaction.
 use crate::part::{
-    Node, Part, Typed, alternative, both, chosen, entries, optional, optional_value, sequence,
+    Node, Part, Typed, alternative, chosen, entries, optional, optional_value, sequence,
 };
 use ber_leaf::IllString;
 use ill_schema::{NodeId, Value};
@@ -34,11 +34,10 @@ impl Part for Symbol {
     ghost accepts = { Is TheNode };
 
     fn to_value(&self, alloc: Global) -> Result<Value, AllocError> {
-        let (row, value) = match self {
-            Symbol::PersonSymbol(part) => (0, part.to_value(alloc)?),
-            Symbol::InstitutionSymbol(part) => (1, part.to_value(alloc)?),
-        };
-        alternative::<Self>(alloc, row, value)
+        match self {
+            Symbol::PersonSymbol(part) => alternative::<Self>(alloc, 0, part.to_value(alloc)?),
+            Symbol::InstitutionSymbol(part) => alternative::<Self>(alloc, 1, part.to_value(alloc)?),
+        }
     }
 
     fn read(alloc: Global, value: &Value) -> Result<Self, AllocError> {
@@ -51,12 +50,11 @@ impl Part for Symbol {
 }
 
 impl Typed for Symbol {
-    #[tactic(auto, using(crate::proofs::Equality::symbol_exact))]
-    fn one_view(&self, other: &Self) {
-        let _ = other;
-    }
+    ghost use Rattle.ill_parts.specs.code.Equality.{symbol_exact};
 
     ghost is_node = { λ _. (λ fits. fits, λ fits. fits) };
+
+    ghost is_exact = { symbol_exact };
 }
 
 /// The name of a party (Name).
@@ -87,11 +85,10 @@ impl Part for Name {
     ghost accepts = { Is TheNode };
 
     fn to_value(&self, alloc: Global) -> Result<Value, AllocError> {
-        let (row, value) = match self {
-            Name::NameOfPerson(part) => (0, part.to_value(alloc)?),
-            Name::NameOfInstitution(part) => (1, part.to_value(alloc)?),
-        };
-        alternative::<Self>(alloc, row, value)
+        match self {
+            Name::NameOfPerson(part) => alternative::<Self>(alloc, 0, part.to_value(alloc)?),
+            Name::NameOfInstitution(part) => alternative::<Self>(alloc, 1, part.to_value(alloc)?),
+        }
     }
 
     fn read(alloc: Global, value: &Value) -> Result<Self, AllocError> {
@@ -104,12 +101,11 @@ impl Part for Name {
 }
 
 impl Typed for Name {
-    #[tactic(auto, using(crate::proofs::Equality::name_exact))]
-    fn one_view(&self, other: &Self) {
-        let _ = other;
-    }
+    ghost use Rattle.ill_parts.specs.code.Equality.{name_exact};
 
     ghost is_node = { λ _. (λ fits. fits, λ fits. fits) };
+
+    ghost is_exact = { name_exact };
 }
 
 /// A party to a transaction: a person or an institution, by symbol, by name or by both
@@ -153,22 +149,17 @@ impl Part for SystemId {
 
     fn read(alloc: Global, value: &Value) -> Result<Self, AllocError> {
         let entries = entries::<Self>(value);
-        let (person_or_institution_symbol, name_of_person_or_institution) = both(
-            optional(alloc, entries, 0),
-            optional(alloc, entries, 1),
-        )?;
         Ok(SystemId {
-            person_or_institution_symbol,
-            name_of_person_or_institution,
+            person_or_institution_symbol: optional(alloc, entries, 0)?,
+            name_of_person_or_institution: optional(alloc, entries, 1)?,
         })
     }
 }
 
 impl Typed for SystemId {
-    #[tactic(auto, using(crate::proofs::Equality::system_id_exact))]
-    fn one_view(&self, other: &Self) {
-        let _ = other;
-    }
+    ghost use Rattle.ill_parts.specs.code.Equality.{system_id_exact};
 
     ghost is_node = { λ _. (λ fits. fits, λ fits. fits) };
+
+    ghost is_exact = { system_id_exact };
 }

@@ -1,6 +1,6 @@
 //! Search-Type: the way in which a request is searched.
 use crate::part::{
-    Node, Part, Typed, both, entries, optional, optional_value, required, required_value, sequence,
+    Node, Part, Typed, entries, optional, optional_value, required, required_value, sequence,
 };
 use ber_leaf::{DateText, IllString};
 use ill_schema::{NodeId, Value};
@@ -53,23 +53,19 @@ impl Part for SearchType {
 
     fn read(alloc: Global, value: &Value) -> Result<Self, AllocError> {
         let entries = entries::<Self>(value);
-        let expiry_flag = required(alloc, entries, 2)?;
-        let dates = both(optional(alloc, entries, 1), optional(alloc, entries, 3));
-        let (level_of_service, dates) = both(optional(alloc, entries, 0), dates)?;
         Ok(SearchType {
-            level_of_service,
-            need_before_date: dates.0,
-            expiry_flag,
-            expiry_date: dates.1,
+            level_of_service: optional(alloc, entries, 0)?,
+            need_before_date: optional(alloc, entries, 1)?,
+            expiry_flag: required(alloc, entries, 2)?,
+            expiry_date: optional(alloc, entries, 3)?,
         })
     }
 }
 
 impl Typed for SearchType {
-    #[tactic(auto, using(crate::proofs::Equality::search_type_exact))]
-    fn one_view(&self, other: &Self) {
-        let _ = other;
-    }
+    ghost use Rattle.ill_parts.specs.code.Equality.{search_type_exact};
 
     ghost is_node = { λ _. (λ fits. fits, λ fits. fits) };
+
+    ghost is_exact = { search_type_exact };
 }

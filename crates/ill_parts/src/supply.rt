@@ -3,8 +3,7 @@ use crate::cost::Amount;
 use crate::delivery::ShippedVia;
 use crate::medium::UnitsPerMedium;
 use crate::part::{
-    Node, Part, Typed, both, entries, four_optional, optional, optional_value, required,
-    required_value, sequence,
+    Node, Part, Typed, entries, optional, optional_value, required, required_value, sequence,
 };
 use ber_leaf::DateText;
 use ill_schema::{NodeId, Value};
@@ -58,12 +57,11 @@ impl Part for DateDue {
 }
 
 impl Typed for DateDue {
-    #[tactic(auto, using(crate::proofs::Equality::date_due_exact))]
-    fn one_view(&self, other: &Self) {
-        let _ = other;
-    }
+    ghost use Rattle.ill_parts.specs.code.Equality.{date_due_exact};
 
     ghost is_node = { λ _. (λ fits. fits, λ fits. fits) };
+
+    ghost is_exact = { date_due_exact };
 }
 
 /// The details of what was supplied, how, at what cost and until when (Supply-Details).
@@ -127,29 +125,24 @@ impl Part for SupplyDetails {
 
     fn read(alloc: Global, value: &Value) -> Result<Self, AllocError> {
         let entries = entries::<Self>(value);
-        let shipment = four_optional(alloc, entries, (0, 1, 2, 3));
-        let terms = four_optional(alloc, entries, (4, 5, 6, 7));
-        let units = optional(alloc, entries, 8);
-        let ((shipment, terms), units) = both(both(shipment, terms), units)?;
         Ok(SupplyDetails {
-            date_shipped: shipment.0,
-            date_due: shipment.1,
-            chargeable_units: shipment.2,
-            cost: shipment.3,
-            shipped_conditions: terms.0,
-            shipped_via: terms.1,
-            insured_for: terms.2,
-            return_insurance_require: terms.3,
-            no_of_units_per_medium: units,
+            date_shipped: optional(alloc, entries, 0)?,
+            date_due: optional(alloc, entries, 1)?,
+            chargeable_units: optional(alloc, entries, 2)?,
+            cost: optional(alloc, entries, 3)?,
+            shipped_conditions: optional(alloc, entries, 4)?,
+            shipped_via: optional(alloc, entries, 5)?,
+            insured_for: optional(alloc, entries, 6)?,
+            return_insurance_require: optional(alloc, entries, 7)?,
+            no_of_units_per_medium: optional(alloc, entries, 8)?,
         })
     }
 }
 
 impl Typed for SupplyDetails {
-    #[tactic(auto, using(crate::proofs::Equality::supply_details_exact))]
-    fn one_view(&self, other: &Self) {
-        let _ = other;
-    }
+    ghost use Rattle.ill_parts.specs.code.Equality.{supply_details_exact};
 
     ghost is_node = { λ _. (λ fits. fits, λ fits. fits) };
+
+    ghost is_exact = { supply_details_exact };
 }

@@ -1,7 +1,7 @@
 //! Third-Party-Info-Type: the rights of third parties.
 use crate::address::SystemAddress;
 use crate::part::{
-    Node, Part, Typed, both, entries, optional, optional_value, required, required_value, sequence,
+    Node, Part, Typed, entries, optional, optional_value, required, required_value, sequence,
 };
 use crate::party::SystemId;
 use ber_leaf::IllString;
@@ -51,23 +51,20 @@ impl Part for SendTo {
 
     fn read(alloc: Global, value: &Value) -> Result<Self, AllocError> {
         let entries = entries::<Self>(value);
-        let rest = both(optional(alloc, entries, 1), optional(alloc, entries, 2));
-        let (system_id, rest) = both(required(alloc, entries, 0), rest)?;
         Ok(SendTo {
-            system_id,
-            account_number: rest.0,
-            system_address: rest.1,
+            system_id: required(alloc, entries, 0)?,
+            account_number: optional(alloc, entries, 1)?,
+            system_address: optional(alloc, entries, 2)?,
         })
     }
 }
 
 impl Typed for SendTo {
-    #[tactic(auto, using(crate::proofs::Equality::send_to_exact))]
-    fn one_view(&self, other: &Self) {
-        let _ = other;
-    }
+    ghost use Rattle.ill_parts.specs.code.Equality.{send_to_exact};
 
     ghost is_node = { λ _. (λ fits. fits, λ fits. fits) };
+
+    ghost is_exact = { send_to_exact };
 }
 
 /// The things that an intermediary may do with the request, and the parties that it may ask (Third-Party-Info).
@@ -128,31 +125,23 @@ impl Part for ThirdPartyInfo {
 
     fn read(alloc: Global, value: &Value) -> Result<Self, AllocError> {
         let entries = entries::<Self>(value);
-        let permission_to_forward = required(alloc, entries, 0)?;
-        let permission_to_chain = required(alloc, entries, 1)?;
-        let permission_to_partition = required(alloc, entries, 2)?;
-        let permission_to_change_send_to_list = required(alloc, entries, 3)?;
-        let preference = required(alloc, entries, 5)?;
-        let lists = both(optional(alloc, entries, 6), optional(alloc, entries, 7));
-        let (initial_requester_address, lists) = both(optional(alloc, entries, 4), lists)?;
         Ok(ThirdPartyInfo {
-            permission_to_forward,
-            permission_to_chain,
-            permission_to_partition,
-            permission_to_change_send_to_list,
-            initial_requester_address,
-            preference,
-            send_to_list: lists.0,
-            already_tried_list: lists.1,
+            permission_to_forward: required(alloc, entries, 0)?,
+            permission_to_chain: required(alloc, entries, 1)?,
+            permission_to_partition: required(alloc, entries, 2)?,
+            permission_to_change_send_to_list: required(alloc, entries, 3)?,
+            initial_requester_address: optional(alloc, entries, 4)?,
+            preference: required(alloc, entries, 5)?,
+            send_to_list: optional(alloc, entries, 6)?,
+            already_tried_list: optional(alloc, entries, 7)?,
         })
     }
 }
 
 impl Typed for ThirdPartyInfo {
-    #[tactic(auto, using(crate::proofs::Equality::third_party_info_exact))]
-    fn one_view(&self, other: &Self) {
-        let _ = other;
-    }
+    ghost use Rattle.ill_parts.specs.code.Equality.{third_party_info_exact};
 
     ghost is_node = { λ _. (λ fits. fits, λ fits. fits) };
+
+    ghost is_exact = { third_party_info_exact };
 }

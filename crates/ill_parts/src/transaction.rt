@@ -1,6 +1,6 @@
 //! Transactions, and when their services are invoked.
 use crate::part::{
-    Node, Part, Typed, both, entries, optional, optional_value, required, required_value, sequence,
+    Node, Part, Typed, entries, optional, optional_value, required, required_value, sequence,
 };
 use crate::party::SystemId;
 use ber_leaf::{DateText, IllString, TimeText};
@@ -53,25 +53,21 @@ impl Part for TransactionId {
 
     fn read(alloc: Global, value: &Value) -> Result<Self, AllocError> {
         let entries = entries::<Self>(value);
-        let group = both(optional(alloc, entries, 0), required(alloc, entries, 1));
-        let qualifiers = both(required(alloc, entries, 2), optional(alloc, entries, 3));
-        let (group, qualifiers) = both(group, qualifiers)?;
         Ok(TransactionId {
-            initial_requester_id: group.0,
-            transaction_group_qualifier: group.1,
-            transaction_qualifier: qualifiers.0,
-            sub_transaction_qualifier: qualifiers.1,
+            initial_requester_id: optional(alloc, entries, 0)?,
+            transaction_group_qualifier: required(alloc, entries, 1)?,
+            transaction_qualifier: required(alloc, entries, 2)?,
+            sub_transaction_qualifier: optional(alloc, entries, 3)?,
         })
     }
 }
 
 impl Typed for TransactionId {
-    #[tactic(auto, using(crate::proofs::Equality::transaction_id_exact))]
-    fn one_view(&self, other: &Self) {
-        let _ = other;
-    }
+    ghost use Rattle.ill_parts.specs.code.Equality.{transaction_id_exact};
 
     ghost is_node = { λ _. (λ fits. fits, λ fits. fits) };
+
+    ghost is_exact = { transaction_id_exact };
 }
 
 /// A day, and perhaps a time of that day (Date-Time).
@@ -114,18 +110,19 @@ impl Part for DateTime {
 
     fn read(alloc: Global, value: &Value) -> Result<Self, AllocError> {
         let entries = entries::<Self>(value);
-        let (date, time) = both(required(alloc, entries, 0), optional(alloc, entries, 1))?;
-        Ok(DateTime { date, time })
+        Ok(DateTime {
+            date: required(alloc, entries, 0)?,
+            time: optional(alloc, entries, 1)?,
+        })
     }
 }
 
 impl Typed for DateTime {
-    #[tactic(auto, using(crate::proofs::Equality::date_time_exact))]
-    fn one_view(&self, other: &Self) {
-        let _ = other;
-    }
+    ghost use Rattle.ill_parts.specs.code.Equality.{date_time_exact};
 
     ghost is_node = { λ _. (λ fits. fits, λ fits. fits) };
+
+    ghost is_exact = { date_time_exact };
 }
 
 /// The time when a service was invoked, and when first, where it is repeated (Service-Date-Time).
@@ -168,22 +165,17 @@ impl Part for ServiceDateTime {
 
     fn read(alloc: Global, value: &Value) -> Result<Self, AllocError> {
         let entries = entries::<Self>(value);
-        let (date_time_of_this_service, date_time_of_original_service) = both(
-            required(alloc, entries, 0),
-            optional(alloc, entries, 1),
-        )?;
         Ok(ServiceDateTime {
-            date_time_of_this_service,
-            date_time_of_original_service,
+            date_time_of_this_service: required(alloc, entries, 0)?,
+            date_time_of_original_service: optional(alloc, entries, 1)?,
         })
     }
 }
 
 impl Typed for ServiceDateTime {
-    #[tactic(auto, using(crate::proofs::Equality::service_date_time_exact))]
-    fn one_view(&self, other: &Self) {
-        let _ = other;
-    }
+    ghost use Rattle.ill_parts.specs.code.Equality.{service_date_time_exact};
 
     ghost is_node = { λ _. (λ fits. fits, λ fits. fits) };
+
+    ghost is_exact = { service_date_time_exact };
 }

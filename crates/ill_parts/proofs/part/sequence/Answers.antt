@@ -5,10 +5,10 @@ use Rattle.ill_parts.proofs.part.sequence.Goals as goal
 
 pub returns-clause-value : goal.returns-clause-value
 returns-clause-value g c =
-    let e : c.args.entries ≡ map Ok c.in_ok-entries.entries.items = search rules in
+    let e : c.args.entries ≡ map Ok c.push_all.new.entries.items = search rules in
     rw content_of-record (ap record_of (built_seen _ _ (rw e at c.requires.entries)))
 
 pub returns-clause-fits : goal.returns-clause-fits
 returns-clause-fits g c =
-    let e : c.args.entries ≡ map Ok c.in_ok-entries.entries.items = search rules in
+    let e : c.args.entries ≡ map Ok c.push_all.new.entries.items = search rules in
     rw content_of-record (record_fits _ _ c.requires.kind (ready_holds _ _ (rw e at c.requires.rows)))

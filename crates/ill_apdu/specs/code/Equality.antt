@@ -1,8 +1,8 @@
 -- `==` of each result, and of each APDU's body, says exactly that the contents are equal.
 use Rattle.std.proofs.Common.{[], ◌∷◌}
 use Rattle.ill_parts.specs.Shape.{option_of}
-use Rattle.ill_parts.proofs.Exact.{Exact, no_truth, number_exact, date_exact, string_exact, listed_exact, must, may, gap_after, record_exact, flag_exact}
-use Rattle.ill_parts.proofs.Equality.{system_id_exact, postal_address_exact, system_address_exact, head_segment, delivery_address_exact, client_id_exact, delivery_service_exact, requester_optional_messages_exact, responder_optional_messages_exact, search_type_exact, supply_medium_info_exact, item_id_exact, cost_info_exact, third_party_info_exact, send_to_exact, amount_exact, supply_details_exact, date_due_exact}
+use Rattle.ill_parts.specs.code.Exact.{Exact, no_truth, number_exact, date_exact, string_exact, listed_exact, must, may, gap_after, record_exact, flag_exact}
+use Rattle.ill_parts.specs.code.Equality.{system_id_exact, postal_address_exact, system_address_exact, head_segment, delivery_address_exact, client_id_exact, delivery_service_exact, requester_optional_messages_exact, responder_optional_messages_exact, search_type_exact, supply_medium_info_exact, item_id_exact, cost_info_exact, third_party_info_exact, send_to_exact, amount_exact, supply_details_exact, date_due_exact}
 use Rattle.ill_apdu.specs.declared.results.Results.{Results}
 use Rattle.ill_apdu.specs.contracts.location.LocationInfoPartialEq.TheImpl.{eq-value as location_info_eq}
 use Rattle.ill_apdu.specs.contracts.results.ConditionalPartialEq.TheImpl.{eq-value as conditional_eq}

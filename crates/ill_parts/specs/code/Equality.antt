@@ -2,7 +2,7 @@
 use Rattle.std.proofs.Common.{◌≡◌, [], ◌∷◌, refl}
 use Rattle.std.specs.Bool.{Decides}
 use Rattle.ill_parts.specs.Shape.{option_of}
-use Rattle.ill_parts.proofs.Exact.{Exact, Segment, no_truth, flag_exact, number_exact, date_exact, time_exact, printable_exact, string_exact, listed_exact, must, may, gap_after, segments_exact, record_exact}
+use Rattle.ill_parts.specs.code.Exact.{Exact, Segment, no_truth, flag_exact, number_exact, date_exact, time_exact, printable_exact, string_exact, listed_exact, must, may, gap_after, segments_exact, record_exact}
 use Rattle.ill_parts.specs.declared.party.Symbol.{Symbol}
 use Rattle.ill_parts.specs.declared.party.Name.{Name}
 use Rattle.ill_parts.specs.declared.head.Head.{Head}
