@@ -1,7 +1,7 @@
 //! What is made of each table.
 
-/// Gives the types that have a table to a macro of this crate, after what stands in brackets: of each its node, and after `/` the twin of
-/// the module profile, where the profiles differ in a row.
+/// Gives the types that have a table to a macro of this crate, after what stands in brackets: of each its node, and after `/` its twin
+/// of the module profile, where the profiles differ in a row.
 #[macro_export]
 macro_rules! types {
     ($with:ident $given:tt) => {

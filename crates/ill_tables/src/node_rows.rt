@@ -130,8 +130,12 @@ macro_rules! table {
         ("account-number", May, 1, Explicit, IllString)
         ("system-address", May, 2, Implicit, SystemAddress)
     } };
-    (SendToList $to:tt) => { $crate::rows_of_type! { $to SeqOf, "Send-To-List", Context; ("item", Must, untagged, SendTo) } };
-    (AlreadyTriedList $to:tt) => { $crate::rows_of_type! { $to SeqOf, "Already-Tried-List", Context; ("item", Must, untagged, SystemId) } };
+    (SendToList $to:tt) => { $crate::rows_of_type! { $to SeqOf, "Send-To-List", Context;
+        ("item", Must, untagged, SendTo)
+    } };
+    (AlreadyTriedList $to:tt) => { $crate::rows_of_type! { $to SeqOf, "Already-Tried-List", Context;
+        ("item", Must, untagged, SystemId)
+    } };
     (ThirdPartyInfo $to:tt) => { $crate::rows_of_type! { $to Seq, "Third-Party-Info", Context;
         ("permission-to-forward", Default(0), 0, Implicit, Boolean)
         ("permission-to-chain", Default(0), 1, Implicit, Boolean)
@@ -168,8 +172,12 @@ macro_rules! table {
         ("return-insurance-require", May, 7, Implicit, Amount)
         twin ModuleUnitsPerMediumList ("no-of-units-per-medium", May, 8, Implicit, UnitsPerMediumList)
     } };
-    (IllServiceTypes $to:tt) => { $crate::rows_of_type! { $to SeqOf, "", Context; ("item", Must, untagged, Enumerated) } };
-    (SupplyMediumInfos $to:tt) => { $crate::rows_of_type! { $to SeqOf, "", Context; ("item", Must, untagged, SupplyMediumInfo) } };
+    (IllServiceTypes $to:tt) => { $crate::rows_of_type! { $to SeqOf, "", Context;
+        ("item", Must, untagged, Enumerated)
+    } };
+    (SupplyMediumInfos $to:tt) => { $crate::rows_of_type! { $to SeqOf, "", Context;
+        ("item", Must, untagged, SupplyMediumInfo)
+    } };
     (IllRequest $to:tt) => { $crate::rows_of_type! { $to Apdu, "ILL-Request", Context;
         ("transaction-type", Default(1), 5, Implicit, Enumerated)
         ("delivery-address", May, 6, Implicit, DeliveryAddress)
@@ -377,8 +385,12 @@ macro_rules! table {
         ("data-value-descriptor", May, untagged, ObjectDescriptor)
         ("encoding", Must, untagged, Encoding)
     } };
-    (TaggedExternal $to:tt) => { $crate::rows_of_type! { $to Choice, "External", Universal; ("", Must, 8, Implicit, External) } };
-    (Externals $to:tt) => { $crate::rows_of_type! { $to SeqOf, "", Context; ("item", Must, untagged, TaggedExternal) } };
+    (TaggedExternal $to:tt) => { $crate::rows_of_type! { $to Choice, "External", Universal;
+        ("", Must, 8, Implicit, External)
+    } };
+    (Externals $to:tt) => { $crate::rows_of_type! { $to SeqOf, "", Context;
+        ("item", Must, untagged, TaggedExternal)
+    } };
     (Extension $to:tt) => { $crate::rows_of_type! { $to Seq, "Extension", Context;
         ("identifier", Must, 0, Implicit, Integer)
         ("critical", Default(0), 1, Implicit, Boolean)
@@ -405,7 +417,9 @@ macro_rules! table {
         ("name-or-code", May, 6, Explicit, IllString)
         ("delivery-time", May, 7, Implicit, IsoTime)
     } };
-    (ElectronicDeliveries $to:tt) => { $crate::rows_of_type! { $to SeqOf, "", Context; ("item", Must, untagged, ElectronicDelivery) } };
+    (ElectronicDeliveries $to:tt) => { $crate::rows_of_type! { $to SeqOf, "", Context;
+        ("item", Must, untagged, ElectronicDelivery)
+    } };
     (SpecificUnits $to:tt) => { $crate::rows_of_type! { $to SeqOf, "", Context; ("item", Must, untagged, Integer) } };
     (DamagedPortion $to:tt) => { $crate::rows_of_type! { $to Choice, "Damaged-Portion", Context;
         ("complete-document", Must, 1, Implicit, Null)
