@@ -100,12 +100,11 @@ fn split_name(list: &[u8]) -> Option<(&[u8], &[u8])>
 fn names_standard_input_twice(names: &[&[u8]], list: Option<&str>) -> bool {
     let mut found = list == Some("-");
     for name in names {
-        if *name == b"-".as_slice() {
-            if found {
-                return true;
-            }
-            found = true;
+        let is_named = *name == b"-".as_slice();
+        if found && is_named {
+            return true;
         }
+        found |= is_named;
     }
     false
 }

@@ -118,12 +118,7 @@ fn write_name<W: fmt::Write>(f: &mut fmt::Formatter<W>, name: &[u8]) -> fmt::Res
 }
 
 fn has_hidden(text: &str) -> bool {
-    for letter in text.chars() {
-        if is_hidden(letter) {
-            return true;
-        }
-    }
-    false
+    text.chars().any(is_hidden)
 }
 
 /// Tells whether a character is not seen where it is printed, or changes what is seen around it (General_Category Cc, Cf, Zl and Zp, and

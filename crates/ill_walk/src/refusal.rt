@@ -69,19 +69,10 @@ fn put_due(lines: &mut LineBuffer, due: &[Due]) -> Result<(), AllocError> {
         due.put(lines)?;
         lines.text("\n")?;
     }
-    if has_left_out(due) {
+    if due.iter().any(|due| due.is_left_out()) {
         lines.text("    --profile module reads what is marked as not read\n")?;
     }
     Ok(())
-}
-
-/// Tells whether a part that is left out is among what was due.
-fn has_left_out(due: &[Due]) -> bool {
-    let mut some = false;
-    for due in due {
-        some |= due.is_left_out();
-    }
-    some
 }
 
 /// The text of a cause, at the place that was reached.
