@@ -1,6 +1,7 @@
 //! Counts that a command keeps while it works.
 ghost use Rattle.std.specs.Prelude.{◌≡◌, ◌||◌, Bool, None};
 ghost use Rattle.ill_files.specs.Status.{keeps_refused as keeps, status_is};
+ghost use Rattle.ill_files.specs.declared.error.ProgramError.{ProgramError as Failed};
 ghost use Rattle.ill_cli.specs.Counts.{with_file};
 ghost use Rattle.ill_cli.specs.Limit.{error_at, limit_at};
 ghost use Rattle.ill_cli.specs.code.Tallied.{AddsEnd, answer_by, after_error, after_input, after_left, is_name_of, is_unopened, left_by, stopped_at};
@@ -91,7 +92,8 @@ impl<'p> Tally<'p> {
 
     /// Counts the messages of an input before this fault, and returns its error.
     pub fn fail(&mut self, counts: Counts, fault: RunFault) -> ProgramError
-        ensures { self.new ≡ left_by counts fault self.old }
+        ensures error { result ≡ Failed.Run (record { 0 = fault }) }
+        ensures counts { self.new ≡ left_by counts fault self.old }
     {
         self.leave(counts, fault);
         ProgramError::from(fault)

@@ -1,7 +1,4 @@
-use Rattle.std.proofs.Common.{inr}
-use Rattle.std.proofs.lemmas.Result.{IfOk-weaker}
 use Rattle.ill_cli.proofs.run.Run.put_json_lines.Goals as goal
 
-pub returns-in_default-3 : goal.returns-in_default-3
-returns-in_default-3 g c =
-    IfOk-weaker c.put_results.result _ _ (λ verdict k. inr k) (rw c.new-writer.ensures at c.put_results.ensures.put)
+pub returns : goal.returns
+returns g c = (c.put_results-done.result, rw c.new-writer.ensures at c.put_results-done.ensures, c.after_first.ensures)
