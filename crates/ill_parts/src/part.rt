@@ -219,7 +219,7 @@ pub fn four_optional<A: Part, B: Part, C: Part, D: Part>(
 
 /// Two results as one: both values, or the first error.
 ///
-/// Each `?` among many rows has all that was read before it to drop, in code and in proofs.
+/// One `?` for both has less to drop than one for each, in code and in proofs.
 pub fn both<A: Drop, B: Drop>(
     first: Result<A, AllocError>,
     second: Result<B, AllocError>,
