@@ -118,7 +118,7 @@ fn write_name<W: fmt::Write>(f: &mut fmt::Formatter<W>, name: &[u8]) -> fmt::Res
 }
 
 fn has_hidden(text: &str) -> bool {
-    text.chars().any(is_hidden)
+    text.chars().any(|letter| is_hidden(letter))
 }
 
 /// Tells whether a character is not seen where it is printed, or changes what is seen around it (General_Category Cc, Cf, Zl and Zp, and

@@ -36,8 +36,8 @@ pub use item::ItemId;
 pub use medium::{SupplyMediumInfo, UnitsPerMedium};
 pub use optional_messages::{RequesterOptionalMessages, ResponderOptionalMessages};
 pub use part::{
-    Node, Part, Typed, alternative, both, chosen, entries, four_optional, optional, optional_value,
-    required, required_value, sequence,
+    Node, Part, Typed, alternative, chosen, entries, optional, optional_value, required,
+    required_value, sequence,
 };
 pub use party::{Name, Symbol, SystemId};
 pub use search_type::SearchType;

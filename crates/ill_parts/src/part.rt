@@ -1,5 +1,5 @@
 //! The traits of typed parts: they are written as values and read from them.
-ghost use Rattle.std.specs.Prelude.{◌≡◌, ◌↔◌, ◌⊎◌, ◌++◌, IfOk, IfErr, OnOk, IsTrue, List, [], map, Option, option_map, MatchOption, Ok, Err};
+ghost use Rattle.std.specs.Prelude.{◌≡◌, ◌↔◌, ◌++◌, IfOk, OnOk, IsTrue, List, [], map, Option, option_map, MatchOption, Ok};
 ghost use Rattle.ber_leaf.specs.Profile.{profile_two};
 ghost use Rattle.ill_tables.specs.declared.node.NodeId.{NodeId};
 ghost use Rattle.ill_schema.specs.Content.{Content};
@@ -188,46 +188,6 @@ pub fn optional_value<P: Part>(alloc: Global, part: &Option<P>) -> Result<Option
         Some(part) => Ok(Some(part.to_value(alloc)?)),
         None => Ok(None),
     }
-}
-
-/// The parts in the entries of four rows that may be absent.
-#[tactic(auto, unfolding(crate::specs::Shape::May))]
-pub fn four_optional<A: Part, B: Part, C: Part, D: Part>(
-    alloc: Global,
-    entries: &[Option<Value>],
-    rows: (usize, usize, usize, usize),
-) -> Result<(Option<A>, Option<B>, Option<C>, Option<D>), AllocError>
-    requires first { May A.accepts (entry_at entries.now rows.0) }
-    requires second { May B.accepts (entry_at entries.now rows.1) }
-    requires third { May C.accepts (entry_at entries.now rows.2) }
-    requires fourth { May D.accepts (entry_at entries.now rows.3) }
-    ensures first { IfOk result (λ parts. option_map A.content parts.0 ≡ entry_at entries.now
-        rows.0) }
-    ensures second { IfOk result (λ parts. option_map B.content parts.1 ≡ entry_at entries.now
-        rows.1) }
-    ensures third { IfOk result (λ parts. option_map C.content parts.2 ≡ entry_at entries.now
-        rows.2) }
-    ensures fourth { IfOk result (λ parts. option_map D.content parts.3 ≡ entry_at entries.now
-        rows.3) }
-{
-    let first = optional(alloc, entries, rows.0)?;
-    let second = optional(alloc, entries, rows.1)?;
-    let third = optional(alloc, entries, rows.2)?;
-    let fourth = optional(alloc, entries, rows.3)?;
-    Ok((first, second, third, fourth))
-}
-
-/// Two results as one: both values, or the first error.
-///
-/// One `?` for both has less to drop than one for each, in code and in proofs.
-pub fn both<A: Drop, B: Drop>(
-    first: Result<A, AllocError>,
-    second: Result<B, AllocError>,
-) -> Result<(A, B), AllocError>
-    ensures both { IfOk result (λ values. (first ≡ Ok values.0) × (second ≡ Ok values.1)) }
-    ensures error { IfErr result (λ error. (first ≡ Err error) ⊎ (second ≡ Err error)) }
-{
-    Ok((first?, second?))
 }
 
 /// The value of a choice.

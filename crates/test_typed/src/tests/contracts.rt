@@ -52,12 +52,6 @@ fn values_that_fit_are_parts<T: Typed>(value: &Value, alloc: Global) -> Result<(
     Ok(())
 }
 
-/// Two results that are good are good together.
-fn good_results_stay_good<A: Drop, B: Drop>(one: A, other: B) {
-    let result = ill_parts::both(Ok(one), Ok(other));
-    prove!(result.is_ok());
-}
-
 /// An APDU makes one message, of its number.
 fn apdus_make_one_message(apdu: &Apdu, alloc: Global) {
     let Ok(message) = apdu.to_message(alloc) else {
