@@ -155,7 +155,7 @@ def numbers_in(text):
             number, before, after = value(match[0]), part[: match.start()], part[match.end() :]
             if number in OTHERS:
                 continue
-            if after.startswith(" messages") or re.search(r"messages up to $|there are more than $", before):
+            if after.startswith(" messages") or re.search(r"messages up to $|there are more than $|number from 1 to $", before):
                 yield "messages", number
             elif re.search(r"tag numbers of at most $", before):
                 yield "tag", number
@@ -362,7 +362,7 @@ def check_option(place, name, text):
 def check_max_refused():
     """The man page has the greatest N of `--max-refused`, as the command line has it, and the status of work that it ended."""
     text = " ".join(man_options().get("max-refused", "").split())
-    number = re.search(r'\.long\("max-refused"\)[^;}]*ValueParser::unsigned\(1, ([\d_]+)\)', read(COMMANDS), re.S)
+    number = re.search(r'Number\("max-refused",', read(COMMANDS)) and re.search(r"ValueParser::unsigned\(1, ([\d_]+)\)", read(COMMANDS))
     status = re.search(r"ProgramError::RefusedEnough\(_\)\) => (\d)", read("crates/ill_files/src/error.rt"))
     found = re.search(r"at most ([\d,]+) messages, with a line on standard error and status (\d)\.", text)
     if not (number and status and found and found.groups() == (f"{int(number[1].replace('_', '')):,}", status[1])):
