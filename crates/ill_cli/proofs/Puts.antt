@@ -1,5 +1,5 @@
 -- What was done with an input, by the action on it.
-use Rattle.std.proofs.Common.{◌≡◌, Bool, true, false, Result, sym, subst}
+use Rattle.std.proofs.Common.{◌≡◌, true, false, Result, sym, subst}
 use Rattle.ill_commands.specs.declared.job.JobOptions.{JobOptions}
 use Rattle.ill_files.specs.declared.error.ProgramError.{ProgramError}
 use Rattle.ill_inputs.specs.declared.verdict.Verdict.{Verdict}

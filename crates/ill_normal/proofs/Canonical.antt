@@ -1,20 +1,19 @@
 -- Normal forms are canonical.
-use Rattle.std.proofs.Common.{◌≡◌, ◌↔◌, ℕ, ◌<◌, ◌≤◌, ◌^◌, List, [], length, Err, refl, sym, subst, ap, ◌∙◌, inl, inr, arith, lit<}
+use Rattle.std.proofs.Common.{◌≡◌, ◌↔◌, ℕ, ◌<◌, ◌≤◌, ◌^◌, List, [], length, Err, refl, sym, ap, ◌∙◌, inl, inr, arith, lit<}
 use Rattle.ber_leaf.specs.Profile.{Profile}
 use Rattle.ill_schema.specs.Profiles.{profile_of}
 use Rattle.ill_tables.specs.declared.profile.Profile.{Profile as Named}
 use Rattle.ill_tables.specs.declared.profile.Profile.TheVariants.{Two, Module}
-use Rattle.std.proofs.lemmas.List.{take_all}
 use Rattle.ill_schema.specs.Apdu.{Apdu, SpellsApdu, Accepts, normal_form_in}
 use Rattle.ill_schema.specs.declared.refusal.Cause.{Cause}
 use Rattle.ill_schema.proofs.MeansFits.{means_apdu_fits}
 use Rattle.ill_schema.proofs.Encodings.{normal_spells, normal_unique}
 use Rattle.ill_schema.proofs.OneMeaning.{one_message}
 use Rattle.ill_schema.proofs.Streams.{accepts_once}
-use Rattle.ill_refusals.specs.Fault.{Fault, fault, fault_of}
+use Rattle.ill_refusals.specs.Fault.{Fault, fault}
 use Rattle.ill_read.proofs.Accepted.{whole_accepted}
 use Rattle.ill_read.specs.declared.failure.Failure.{Failure}
-use Rattle.ill_read.specs.Answers.{IfRefused, NormalAnswersIn, RefusesWhole, RefusesWholeIn}
+use Rattle.ill_read.specs.Answers.{IfRefused, NormalAnswersIn, RefusesWholeIn}
 
 short : (n : ℕ) → n ≤ 1_048_576 → n < 256 ^ 126
 short n h = let k : 1_048_576 < 256 ^ 126 = lit< tt in le_lt n 1_048_576 (256 ^ 126) h k

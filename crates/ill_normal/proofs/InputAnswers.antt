@@ -1,6 +1,6 @@
 -- Which result an input has.
 use Rattle.std.proofs.Common.{◌≡◌, ◌<◌, ℕ, Bool, List, [], length, Option, Some, None, Err, IfSome, ap, ◌∙◌, arith}
-use Rattle.std.specs.Io.KnownBytes.{Consumes, IsAtEnd}
+use Rattle.std.specs.Io.KnownBytes.{IsAtEnd}
 use Rattle.ill_schema.specs.Apdu.{Apdu, Accepts, normal_form_in}
 use Rattle.ill_refusals.specs.Fault.{Fault, fault_of}
 use Rattle.ill_refusals.specs.Outcome.{OnlyRefuses}
@@ -8,8 +8,6 @@ use Rattle.ber_leaf.specs.Profile.{Profile}
 use Rattle.ill_schema.proofs.Streams.{parts_accept, accepts_once, accepts_some}
 use Rattle.ill_inputs.proofs.TakenOctets.{front}
 use Rattle.ill_read.proofs.Accepted.{always, both}
-use Rattle.ill_read.specs.declared.failure.ReadFailure.{ReadFailure}
-use Rattle.ill_read.specs.Answers.{IfReadRefused, IsReadFault}
 use Rattle.ill_normal.specs.declared.failure.NormalFailure.{NormalFailure}
 use Rattle.ill_normal.specs.Calls.{taking, putting}
 use Rattle.ill_normal.specs.Normalised.{ForwardsIn, FailsIn, Answers, AnswersRefused}
