@@ -1,6 +1,6 @@
 //! The work of a command on its inputs.
 ghost use Rattle.std.specs.Prelude.{◌≡◌};
-ghost use Rattle.ill_normal.specs.Calls.{taking};
+ghost use Rattle.ill_normal.specs.Calls.{Taking, taking};
 ghost use Rattle.ill_cli.specs.Counts.{with_file};
 ghost use Rattle.ill_cli.specs.code.Puts.{AreResultsPut, IsPut, after_first};
 
@@ -13,8 +13,8 @@ use crate::results::{WriteResults, has_json_result, put_results};
 use crate::tally::Tally;
 use ber_core::{Source, ToWrite};
 use ill_commands::{JobOptions, OnRefusal, Verdict};
-use ill_files::{Output, ProgramError, ToOutput};
-use std::io::Write;
+use ill_files::{Output, ProgramError, Shared, ToOutput};
+use std::io::{Read, Write};
 use std::rt::Files;
 
 /// The work of a command on its inputs: what is done with each, what is counted, and where the octets of refused messages go.
@@ -51,7 +51,21 @@ impl<'a, 'r, 'p, R: Print + Eprint + Files + AllocGlobal> Run<'a, 'r, 'p, R> {
     /// # Errors
     ///
     /// The reason why the input was not read to its end, or not all results were written.
-    pub fn put<B: Source, S: Write + Drop, F: Write + Drop>(
+    pub fn put<'o, I: Read, J: Read, S: Write + Drop, F: Write + Drop>(
+        &mut self,
+        task: InputAction<'_>,
+        source: &mut Shared<'o, I, J, S, F>,
+        output: &'o Output<S, F>,
+    ) -> Result<Verdict, ProgramError>
+        ensures { (from : Taking) × IsPut task.entry from (with_file self.old.tally.summary)
+            self.new.tally result }
+    {
+        self.tally.add_file();
+        self.put_source(task, source, output)
+    }
+
+    /// Writes the results of a source, and counts its messages.
+    fn put_source<B: Source, S: Write + Drop, F: Write + Drop>(
         &mut self,
         task: InputAction<'_>,
         source: &mut B,
@@ -59,9 +73,8 @@ impl<'a, 'r, 'p, R: Print + Eprint + Files + AllocGlobal> Run<'a, 'r, 'p, R> {
     ) -> Result<Verdict, ProgramError>
         ensures { IsPut task.entry
             (taking (B.left source.old) (B.left source.new) (B.is_broken source.new))
-            (with_file self.old.tally.summary) self.new.tally result }
+            self.old.tally.summary self.new.tally result }
     {
-        self.tally.add_file();
         match task {
             InputAction::Messages(work) if has_json_result(work.job) => {
                 self.put_json_lines(work, source, output)
