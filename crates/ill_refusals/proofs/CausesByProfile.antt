@@ -14,7 +14,7 @@ use Rattle.ill_refusals.specs.Element.{Element, leaf, sequence, list, wrapper, l
 use Rattle.ill_refusals.specs.Fault.{Fault, fault, ends_at, is_indefinite, past_end, cut_fault, element_fault, string_fault, is_deep, Refuses}
 use Rattle.ill_refusals.specs.Next.{Due, element_of, due, missing}
 use Rattle.ill_refusals.specs.Place.{Open, next_in, innermost_end, bound, allows, IsPlace}
-use Rattle.ill_refusals.specs.Outcome.{HasLeaf, IsOfLeaf}
+use Rattle.ill_refusals.specs.Outcome.{CausesAreOfLeaves, HasLeaf, leaf_with}
 use Rattle.ill_refusals.specs.code.Judge.{Judgement, faulty, closes, opens, reads, or_faulty, judge_end, judge_content, judge_size, judge_length, judge_form, judge_tag, judge_element, judge_mark, judge_octets, judge}
 use Rattle.ill_refusals.proofs.FirstFault.{is_judged}
 use Rattle.ill_refusals.proofs.DueOfProfile.{has_leaf, IsElementOf, due_of_profile, open_of_profile}
@@ -326,14 +326,7 @@ causes_of_three s f h = causes_are profile_three s f h
 
 -- ---- the leaves of causes
 
--- the only leaf that has the fault
-abbrev owner : LeafFault → Option Leaf
-owner LeafFault.BadNull = Some null_type
-owner LeafFault.BadOid = Some object_identifier
-owner LeafFault.BadBits = Some bit_string
-owner c = None
-
-owned : (m : Leaf) → EachFault (λ c. (l : Leaf) → owner c ≡ Some l → m ≡ l) m
+owned : (m : Leaf) → EachFault (λ c. (l : Leaf) → leaf_with c ≡ Some l → m ≡ l) m
 owned boolean = λ l e. cc
 owned integer = ((λ l e. cc), (λ l e. cc))
 owned enumerated = ((λ l e. cc), (λ l e. cc))
@@ -396,7 +389,7 @@ no_long LeafFault.BadNull h = cc
 no_long LeafFault.BadOid h = cc
 no_long LeafFault.BadBits h = cc
 
-pub cause_of_leaf : (p : Profile) (x : LeafFault) (l : Leaf) → owner x ≡ Some l → IsOfLeaf p (cause_of x) l
+pub cause_of_leaf : (p : Profile) → CausesAreOfLeaves p
 cause_of_leaf p x l own s f c (inr n) = absurd (no_long x (sym (ap (λ (y : Fault). y.cause) n.0) ∙ c))
 cause_of_leaf p x l own s f c (inl r) = (
   r.0,
@@ -419,7 +412,7 @@ cause_of_leaf p x l own s f c (inl r) = (
     element : (e : Element) → (e ≡ leaf l → HasLeaf p r.0 here l) → OkElement p Ok plain e
     element (leaf m) has = λ octets y q same.
         let one : y ≡ x = sym (leaf_again y) ∙ ap leaf_of same ∙ leaf_again x in
-        has (ap leaf (of_content (λ z. (n : Leaf) → owner z ≡ Some n → m ≡ n) p m octets y (owned m) q l (ap owner one ∙ own)))
+        has (ap leaf (of_content (λ z. (n : Leaf) → leaf_with z ≡ Some n → m ≡ n) p m octets y (owned m) q l (ap leaf_with one ∙ own)))
     element (left_out part) has = λ e. absurd (no_left x part e)
     element (sequence node) has = tt
     element (list node) has = tt

@@ -1,5 +1,5 @@
 -- The one outcome of an input, and what stays of it as the input grows or is cut short.
-use Rattle.std.specs.Prelude.{◌≡◌, ◌≢◌, ◌⊎◌, ℕ, ◌+◌, ◌-◌, ◌<◌, ◌≤◌, Bool, true, false, List, ◌∷◌, ◌++◌, length, take, drop, IsTrue, Some}
+use Rattle.std.specs.Prelude.{◌≡◌, ◌≢◌, ◌⊎◌, ℕ, ◌+◌, ◌-◌, ◌<◌, ◌≤◌, Bool, true, false, List, ◌∷◌, ◌++◌, length, take, drop, IsTrue, Option, Some, None}
 use Rattle.ill_schema.specs.declared.refusal.Cause.{Cause}
 use Rattle.ill_schema.specs.Apdu.{Apdu, Accepts}
 use Rattle.ill_refusals.specs.Fault.{Fault, fault, fault_at, Refuses}
@@ -7,7 +7,9 @@ use Rattle.ber_tree.specs.Octets.{are_octets}
 use Rattle.ill_refusals.specs.Element.{Element, leaf, segment, foreign}
 use Rattle.ill_refusals.specs.Next.{Due, element_of, due}
 use Rattle.ill_refusals.specs.Place.{Open, next_in, bound, IsDue}
-use Rattle.ber_leaf.specs.Leaf.{Leaf}
+use Rattle.ill_schema.specs.Causes.{cause_of}
+use Rattle.ber_leaf.specs.Leaf.{Leaf, boolean, iso_date, iso_time, null_type, object_identifier, bit_string}
+use Rattle.ber_leaf.specs.declared.fault.LeafFault.{LeafFault}
 use Rattle.ber_leaf.specs.Profile.{Profile}
 use Rattle.ber_tree.specs.Identifier.{Tag}
 use Rattle.ber_core.specs.Reading.{read_identifier, identified}
@@ -59,6 +61,22 @@ HasLeaf p path here l =
 abbrev pub IsOfLeaf : Profile → Cause → Leaf → Type 0
 IsOfLeaf p c l = (s : List ℕ) (f : Fault) → f.cause ≡ c → Refuses p s f
     → (path : List Open) × (k : ℕ) × IsDue p s k path × (fault_at p path k (drop k s) ≡ Some f) × HasLeaf p path (take (bound p path - k) (drop k s)) l
+
+-- the leaf whose contents alone have the fault
+abbrev pub leaf_with : LeafFault → Option Leaf
+leaf_with LeafFault.BadBoolean = Some boolean
+leaf_with LeafFault.BadDate = Some iso_date
+leaf_with LeafFault.BadTime = Some iso_time
+leaf_with LeafFault.BadNull = Some null_type
+leaf_with LeafFault.BadOid = Some object_identifier
+leaf_with LeafFault.BadBits = Some bit_string
+leaf_with LeafFault.BadInteger = None
+leaf_with LeafFault.IntegerTooLong = None
+leaf_with LeafFault.BadText = None
+
+-- the cause of such a fault is only of elements of that leaf
+abbrev pub CausesAreOfLeaves : Profile → Type 0
+CausesAreOfLeaves p = (x : LeafFault) (l : Leaf) → leaf_with x ≡ Some l → IsOfLeaf p (cause_of x) l
 
 -- at each place at most 32 elements are open
 abbrev pub FewAreOpen : Profile → Type 0

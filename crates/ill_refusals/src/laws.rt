@@ -3,7 +3,6 @@ ghost use Rattle.std.specs.Prelude.{◌≡◌, ◌≢◌, ℕ, ◌≤◌, List, 
 ghost use Rattle.ber_tree.specs.Identifier.{Tag};
 ghost use Rattle.ber_tree.specs.Tree.{Trees};
 ghost use Rattle.ber_leaf.specs.Profile.{Profile, profile_two, profile_three};
-ghost use Rattle.ber_leaf.specs.Leaf.{null_type, object_identifier, bit_string};
 ghost use Rattle.ill_tables.specs.declared.node.NodeId.{NodeId};
 ghost use Rattle.ill_tables.specs.declared.part.Row.{Row};
 ghost use Rattle.ill_tables.specs.declared.profile.Profile.{Profile as Named};
@@ -18,7 +17,7 @@ ghost use Rattle.ill_refusals.specs.Next.{Next, due, missing, opening, next_afte
 ghost use Rattle.ill_refusals.specs.Bounds.{ValuesAreSmall};
 ghost use Rattle.ill_refusals.specs.Fault.{Fault, fault, Refuses};
 ghost use Rattle.ill_refusals.specs.Retagged.{IsFirstRetagged};
-ghost use Rattle.ill_refusals.specs.Outcome.{OnlyRefuses, OutcomesAreExact, RefusalsStay, PrefixesAreTruncated, TruncatedIsAtTheEnd, PlacesAreApart, FaultsAreLast, FewAreOpen, ComponentsAreShallow, ForeignTreesFit, IsOfLeaf};
+ghost use Rattle.ill_refusals.specs.Outcome.{OnlyRefuses, OutcomesAreExact, RefusalsStay, PrefixesAreTruncated, TruncatedIsAtTheEnd, PlacesAreApart, FaultsAreLast, FewAreOpen, ComponentsAreShallow, ForeignTreesFit, CausesAreOfLeaves};
 
 /// Each input is accepted as one APDU of one size, or refused with one fault.
 pub fn one_outcome()
@@ -50,15 +49,13 @@ pub fn few_elements_are_open()
     ensures foreign { (p : Profile) → ForeignTreesFit p }
 {}
 
-/// The causes of refusals: in profile 2 those with the numbers 1 to 19; in the module profile all but LeftOut. BadNull, BadOid and BadBits
-/// are only of elements of their types.
+/// The causes of refusals: in profile 2 those with the numbers 1 to 19; in the module profile all but LeftOut. A cause of the contents
+/// of one leaf type alone is only of elements of that type.
 pub fn causes_of_profiles()
     ensures two { (s : List ℕ) (f : Fault) → Refuses profile_two s f → cause_number f.cause ≤ 19 }
     ensures module { (s : List ℕ) (f : Fault) → Refuses profile_three s f
         → cause_number f.cause ≢ 8 }
-    ensures null { (p : Profile) → IsOfLeaf p Cause.BadNull null_type }
-    ensures identifier { (p : Profile) → IsOfLeaf p Cause.BadOid object_identifier }
-    ensures bits { (p : Profile) → IsOfLeaf p Cause.BadBits bit_string }
+    ensures leaves { (p : Profile) → CausesAreOfLeaves p }
 {}
 
 /// The texts of an APDU have at most as many octets as its encoding, and its lists and foreign trees together at most half as many
