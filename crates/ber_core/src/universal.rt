@@ -6,8 +6,20 @@ pub const BOOLEAN: u32 = 1;
 /// INTEGER (X.680, 19).
 pub const INTEGER: u32 = 2;
 
+/// BIT STRING (X.680, 22), and so its segments (X.690, 8.6.4).
+pub const BIT_STRING: u32 = 3;
+
 /// OCTET STRING (X.680, 23), and so the segments of a string (X.690, 8.23.6).
 pub const OCTET_STRING: u32 = 4;
+
+/// NULL (X.680, 24).
+pub const NULL: u32 = 5;
+
+/// OBJECT IDENTIFIER (X.680, 32).
+pub const OBJECT_IDENTIFIER: u32 = 6;
+
+/// ObjectDescriptor (X.680, 48).
+pub const OBJECT_DESCRIPTOR: u32 = 7;
 
 /// ENUMERATED (X.680, 20).
 pub const ENUMERATED: u32 = 10;
