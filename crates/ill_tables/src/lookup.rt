@@ -7,35 +7,32 @@ use crate::names::row_names;
 use crate::node::{Kind, LeafKind, NodeId};
 use crate::part::{PartId, Row};
 use crate::table::rows_of;
-use crate::{each_table, types};
+use crate::{each_table, leaves, types};
 
 /// The kind of a table's node.
 macro_rules! kind {
     ($kind:ident $($rest:tt)*) => { Kind::$kind };
 }
 
+/// The kind of each node, given the leaves.
+macro_rules! kinds {
+    ([$value:expr] $($leaf:ident / $kind:ident),*) => {
+        each_table! {
+            $value,
+            kind,
+            $(NodeId::$leaf => Kind::Leaf(LeafKind::$kind),)*
+            NodeId::IllString => Kind::IllString,
+            NodeId::Any => Kind::Any,
+            NodeId::LeftOut => Kind::Seq,
+        }
+    };
+}
+
 /// The kind of a node.
 pub fn kind(node: NodeId) -> Kind
     ensures { result ≡ kind_of node }
 {
-    each_table! {
-        node,
-        kind,
-        NodeId::Boolean => Kind::Leaf(LeafKind::Boolean),
-        NodeId::Integer => Kind::Leaf(LeafKind::Integer),
-        NodeId::Enumerated => Kind::Leaf(LeafKind::Enumerated),
-        NodeId::IsoDate => Kind::Leaf(LeafKind::Date),
-        NodeId::IsoTime => Kind::Leaf(LeafKind::Time),
-        NodeId::PrintableString => Kind::Leaf(LeafKind::Printable),
-        NodeId::Null => Kind::Leaf(LeafKind::Null),
-        NodeId::ObjectIdentifier => Kind::Leaf(LeafKind::ObjectIdentifier),
-        NodeId::OctetString => Kind::Leaf(LeafKind::OctetString),
-        NodeId::BitString => Kind::Leaf(LeafKind::BitString),
-        NodeId::ObjectDescriptor => Kind::Leaf(LeafKind::ObjectDescriptor),
-        NodeId::IllString => Kind::IllString,
-        NodeId::Any => Kind::Any,
-        NodeId::LeftOut => Kind::Seq,
-    }
+    leaves! { kinds [node] }
 }
 
 /// The number of rows that a node has.

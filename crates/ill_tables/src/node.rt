@@ -15,6 +15,18 @@ pub enum LeafKind {
     ObjectDescriptor,
 }
 
+/// Gives the nodes that are leaves to a macro, after what stands in brackets: of each its node, and after `/` the kind of leaf.
+#[macro_export]
+macro_rules! leaves {
+    ($with:ident $given:tt) => {
+        $with! { $given
+            Boolean / Boolean, Integer / Integer, Enumerated / Enumerated, IsoDate / Date, IsoTime / Time,
+            PrintableString / Printable, Null / Null, ObjectIdentifier / ObjectIdentifier,
+            OctetString / OctetString, BitString / BitString, ObjectDescriptor / ObjectDescriptor
+        }
+    };
+}
+
 /// The kind of a node.
 #[derive(Clone, Copy, Debug, PartialEq, Eq)]
 pub enum Kind {
