@@ -28,6 +28,7 @@ use Rattle.ill_grammar.specs.declared.place.Found.{Found as CellFound}
 use Rattle.ill_grammar.specs.declared.cell.ElementType.{ElementType}
 use Rattle.ill_grammar.specs.declared.cell.ElementType.TheVariants as element_type
 use Rattle.ill_grammar.proofs.FirstAndAfter.{element-due}
+use Rattle.ill_grammar.proofs.ReadLeaves.{module_segments, read_segments}
 use Rattle.ill_grammar.proofs.Scanning.{same_tag-swap, sequence_starts}
 use Rattle.ill_grammar.specs.declared.cell.EntryRole.{EntryRole}
 use Rattle.ill_grammar.specs.declared.cell.EntryRole.TheVariants as cell
@@ -444,6 +445,8 @@ begins-at _ p node h = leaf-shape p node (kind_of node) h
 
 -- what comes in what is found when it opens
 pub opens-by : (w : ElementType) (p : PartId) (node : NodeId) → next_is (first_of (element_as p node w)) ≡ next.opening profile_two (element_is (element_as p node w))
+opens-by (element_type.Leaf l) p node = ap next.segments (sym (read_segments l))
+opens-by (element_type.ModuleLeaf l) p node = ap next.segments (sym (module_segments l))
 opens-by element_type.Wrapper p node = go (kind_of node)
   where
     go : (k : Kind) → next_is (first-round (record { part = p; node = node }) k) ≡ elim k as (λ _. next.Next) [ Kind.Any ↦ next.anything (wrapped p node) | _ ↦ rows (wrapped p node ∷ []) ]
@@ -453,7 +456,7 @@ opens-by _ p node = refl
 
 -- what is found, by the definitions
 pub found-means : (w : ElementType) (p : PartId) (node : NodeId) → found_is (found_as p node w) ≡ cells.element_in p node w
-found-means element_type.Boolean p node = refl
+found-means (element_type.Leaf l) p node = refl
 found-means _ p node = refl
 
 -- what is found at a place is placed there

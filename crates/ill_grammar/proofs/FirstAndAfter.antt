@@ -23,6 +23,7 @@ use Rattle.ill_grammar.specs.declared.cell.ElementType.TheVariants as element_ty
 use Rattle.ill_grammar.specs.declared.cell.EntryRole.{EntryRole}
 use Rattle.ill_grammar.specs.declared.cell.EntryRole.TheVariants as slot
 use Rattle.ill_refusals.proofs.Rows.{same_tag-is}
+use Rattle.ill_grammar.proofs.ReadLeaves.{module_segments, read_segments}
 use Rattle.ill_grammar.proofs.Scanning.{drop-next}
 
 row-element : (other : Component) (e : Element) (cs : List Component) → element_of (due_row other e cs) ≡ e
@@ -215,19 +216,9 @@ empty-first p node Kind.Any cs e h = absurd cc
 
 first-kind : (w : ElementType) (p : PartId) (node : NodeId) (k : Kind) (cs : List Component) → kind_of node ≡ k → components profile_two node ≡ cs → opens w (is_strict node) k cs ≡ true
     → next_of_kind k p node (first_position w) ≡ opening profile_two (element_in p node w)
-first-kind element_type.Boolean p node k cs q e h = leaf-first p node k h
-first-kind element_type.Integer p node k cs q e h = leaf-first p node k h
-first-kind element_type.Enumerated p node k cs q e h = leaf-first p node k h
-first-kind element_type.General p node k cs q e h = leaf-first p node k h
-first-kind element_type.Visible p node k cs q e h = leaf-first p node k h
-first-kind element_type.Printable p node k cs q e h = leaf-first p node k h
-first-kind element_type.Date p node k cs q e h = leaf-first p node k h
-first-kind element_type.Time p node k cs q e h = leaf-first p node k h
-first-kind element_type.Null p node k cs q e h = leaf-first p node k h
-first-kind element_type.ObjectIdentifier p node k cs q e h = leaf-first p node k h
-first-kind element_type.OctetString p node k cs q e h = leaf-first p node k h
+first-kind (element_type.Leaf l) p node k cs q e h = leaf-first p node k h ∙ ap segments (sym (read_segments l))
+first-kind (element_type.ModuleLeaf l) p node k cs q e h = leaf-first p node k h ∙ ap segments (sym (module_segments l))
 first-kind element_type.BitString p node k cs q e h = bits-first p node k h
-first-kind element_type.ObjectDescriptor p node k cs q e h = leaf-first p node k h
 first-kind element_type.Segment p node k cs q e h = leaf-first p node k h
 first-kind element_type.BitSegment p node k cs q e h = bits-first p node k h
 first-kind element_type.Foreign p node k cs q e h = any-first p node k h

@@ -21,11 +21,8 @@ use Rattle.ill_grammar.specs.Two.{are_of, is_found_of, is_place_of, is_two_frame
 use Rattle.ill_grammar.specs.declared.frame.Frame.{Frame}
 
 element_two : (w : ElementType) (p : PartId) (node : NodeId) → IsTrue (is_two_type w) → IsTrue (is_two_element (element_as p node w))
-element_two element_type.Null p node h = absurd cc
-element_two element_type.ObjectIdentifier p node h = absurd cc
-element_two element_type.OctetString p node h = absurd cc
+element_two (element_type.ModuleLeaf l) p node h = absurd cc
 element_two element_type.BitString p node h = absurd cc
-element_two element_type.ObjectDescriptor p node h = absurd cc
 element_two element_type.BitSegment p node h = absurd cc
 element_two element_type.Foreign p node h = absurd cc
 element_two _ p node h = refl

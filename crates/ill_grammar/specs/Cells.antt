@@ -3,8 +3,7 @@ use Rattle.std.specs.Prelude.{◌-◌, ◌≡◌, ℕ, ℤ, zero, suc, Bool, tru
 use Rattle.ber_tree.specs.Identifier.{Tag}
 use Rattle.ber_tree.specs.Tree.{octet_string}
 use Rattle.ber_core.specs.Foreign.{foreign_levels}
-use Rattle.ber_leaf.specs.Leaf.{boolean, integer, enumerated, general_string, visible_string, printable_string, iso_date, iso_time, null_type, object_identifier, bit_string, object_descriptor}
-use Rattle.ber_leaf.specs.Leaf as leaves
+use Rattle.ber_leaf.specs.Leaf.{bit_string}
 use Rattle.ber_leaf.specs.Profile.{profile_two}
 use Rattle.ber_leaf.specs.Segments.{segment_tag}
 use Rattle.ill_tables.specs.declared.node.Kind.{Kind}
@@ -19,6 +18,7 @@ use Rattle.ill_schema.specs.Tagging.{untagged, same_tag}
 use Rattle.ill_refusals.specs.Element.{Component, component_starts, components, Element, leaf, sequence, list, wrapper, loose_wrapper, segment, foreign, left_out}
 use Rattle.ill_refusals.specs.Next.{Next, rows, items, either, segments, anything, foreigns, Due, part, octets, any, opening}
 use Rattle.ill_grammar.specs.Elements.{element_with}
+use Rattle.ill_grammar.specs.LeafTypes.{leaf_is, module_leaf_is}
 use Rattle.ill_grammar.specs.declared.cell.Cell.{Cell}
 use Rattle.ill_grammar.specs.declared.cell.ElementType.{ElementType}
 use Rattle.ill_grammar.specs.declared.cell.ElementType.TheVariants as element_type
@@ -71,19 +71,9 @@ next_from p node position = next_of_kind (kind_of node) p node position
 
 -- what an element is, of this part and with this node
 abbrev pub element_in : PartId → NodeId → ElementType → Element
-element_in p node element_type.Boolean = leaf boolean
-element_in p node element_type.Integer = leaf integer
-element_in p node element_type.Enumerated = leaf enumerated
-element_in p node element_type.General = leaf general_string
-element_in p node element_type.Visible = leaf visible_string
-element_in p node element_type.Printable = leaf printable_string
-element_in p node element_type.Date = leaf iso_date
-element_in p node element_type.Time = leaf iso_time
-element_in p node element_type.Null = leaf null_type
-element_in p node element_type.ObjectIdentifier = leaf object_identifier
-element_in p node element_type.OctetString = leaf leaves.octet_string
+element_in p node (element_type.Leaf l) = leaf (leaf_is l)
+element_in p node (element_type.ModuleLeaf l) = leaf (module_leaf_is l)
 element_in p node element_type.BitString = leaf bit_string
-element_in p node element_type.ObjectDescriptor = leaf object_descriptor
 element_in p node element_type.Sequence = sequence node
 element_in p node element_type.List = list node
 element_in p node element_type.Wrapper = wrapper (wrapped p node)
@@ -203,11 +193,8 @@ default_due (any n next) = None
 
 -- as what elements of profile 2 are read
 abbrev pub is_two_type : ElementType → Bool
-is_two_type element_type.Null = false
-is_two_type element_type.ObjectIdentifier = false
-is_two_type element_type.OctetString = false
+is_two_type (element_type.ModuleLeaf l) = false
 is_two_type element_type.BitString = false
-is_two_type element_type.ObjectDescriptor = false
 is_two_type element_type.BitSegment = false
 is_two_type element_type.Foreign = false
 is_two_type _ = true

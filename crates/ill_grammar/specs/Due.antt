@@ -35,8 +35,6 @@ use Rattle.ill_grammar.specs.declared.element.Element.TheVariants.{Leaf, Sequenc
 use Rattle.ill_grammar.specs.Begun.{Begun}
 use Rattle.ill_grammar.specs.Begun as begun
 use Rattle.ill_grammar.specs.declared.element.Wrapped.{Wrapped}
-use Rattle.ill_grammar.specs.declared.leaf_type.LeafType.TheVariants as leaf
-use Rattle.ill_grammar.specs.declared.leaf_type.ModuleLeaf.TheVariants as named
 
 -- what may come next in an explicit tag round a sequence
 abbrev pub shape_around : Bool → Wrapped → Next
@@ -86,24 +84,14 @@ BeginsAt (begun.LeftOut part) first = Unit {0}
 
 -- as what an element of a part with this node is read; one that is left out never is
 abbrev pub element_as : PartId → NodeId → ElementType → CodeElement
-element_as p node element_type.Boolean = Leaf leaf.Boolean
-element_as p node element_type.Integer = Leaf leaf.Integer
-element_as p node element_type.Enumerated = Leaf leaf.Enumerated
-element_as p node element_type.General = Leaf leaf.General
-element_as p node element_type.Visible = Leaf leaf.Visible
-element_as p node element_type.Printable = Leaf leaf.Printable
-element_as p node element_type.Date = Leaf leaf.Date
-element_as p node element_type.Time = Leaf leaf.Time
+element_as p node (element_type.Leaf l) = Leaf l
+element_as p node (element_type.ModuleLeaf l) = ModuleLeaf l
+element_as p node element_type.BitString = BitString
 element_as p node element_type.Sequence = Sequence node
 element_as p node element_type.List = ListOf node
 element_as p node element_type.Wrapper = Wrapper (record { part = p; node = node })
 element_as p node element_type.LooseWrapper = LooseWrapper (record { part = p; node = node })
-element_as p node element_type.Null = ModuleLeaf named.Null
-element_as p node element_type.ObjectIdentifier = ModuleLeaf named.ObjectIdentifier
-element_as p node element_type.OctetString = ModuleLeaf named.OctetString
-element_as p node element_type.ObjectDescriptor = ModuleLeaf named.ObjectDescriptor
 element_as p node element_type.Segment = InString
-element_as p node element_type.BitString = BitString
 element_as p node element_type.BitSegment = InBits
 element_as p node element_type.Foreign = Foreign (levels_in p)
 element_as p node element_type.LeftOut = ListOf node

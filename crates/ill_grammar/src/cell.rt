@@ -2,25 +2,16 @@
 ghost use Rattle.std.specs.Prelude.{◌≡◌};
 ghost use Rattle.ill_grammar.specs.Cells.{is_strict, levels_in};
 
+use crate::leaf_type::{LeafType, ModuleLeaf};
 use ber_core::Class;
 use ill_schema::{NodeId, PartId};
 
 /// The type of an element.
 #[derive(Clone, Copy, Debug, PartialEq, Eq)]
 pub enum ElementType {
-    Boolean,
-    Integer,
-    Enumerated,
-    General,
-    Visible,
-    Printable,
-    Date,
-    Time,
-    Null,
-    ObjectIdentifier,
-    OctetString,
+    Leaf(LeafType),
+    ModuleLeaf(ModuleLeaf),
     BitString,
-    ObjectDescriptor,
     Sequence,
     List,
     /// An explicit tag.

@@ -7,17 +7,18 @@ ghost use Rattle.ill_grammar.specs.Cells.{is_two_cell};
 ghost use Rattle.ill_grammar.specs.code.Meant.{all_open, cells_meant, foreign_cell, nested_starts, node_meant, starts_of_cells};
 
 use crate::cell::{Cell, ElementType, EntryRole};
+use crate::leaf_type::{LeafType, ModuleLeaf, leaf_or};
 use ber_core::{Class, universal};
 use ill_schema::{NodeId, PartId};
 use ill_tables::{each_table, table};
 
 /// A cell of a node by a universal tag, alone and optional: what other cells are made of.
 macro_rules! plain {
-    ($node:ident, $number:expr, $element_type:ident) => {
+    ($node:ident, $number:expr, $($element_type:tt)+) => {
         Cell {
             number: $number,
             class: Class::Universal,
-            element_type: ElementType::$element_type,
+            element_type: ElementType::$($element_type)+,
             part: PartId { node: NodeId::$node, row: 0 },
             node: NodeId::$node,
             slot: EntryRole::Inner,
@@ -42,17 +43,6 @@ macro_rules! placed {
 
 /// A cell by the tag of a node's type, a SEQUENCE's where it isn't a leaf.
 macro_rules! typed {
-    (Boolean) => { plain!(Boolean, universal::BOOLEAN, Boolean) };
-    (Integer) => { plain!(Integer, universal::INTEGER, Integer) };
-    (Enumerated) => { plain!(Enumerated, universal::ENUMERATED, Enumerated) };
-    (IsoDate) => { plain!(IsoDate, universal::VISIBLE_STRING, Date) };
-    (IsoTime) => { plain!(IsoTime, universal::VISIBLE_STRING, Time) };
-    (PrintableString) => { plain!(PrintableString, universal::PRINTABLE_STRING, Printable) };
-    (Null) => { plain!(Null, 5, Null) };
-    (ObjectIdentifier) => { plain!(ObjectIdentifier, 6, ObjectIdentifier) };
-    (OctetString) => { plain!(OctetString, universal::OCTET_STRING, OctetString) };
-    (BitString) => { plain!(BitString, 3, BitString) };
-    (ObjectDescriptor) => { plain!(ObjectDescriptor, 7, ObjectDescriptor) };
     (SendToList) => { typed!(@list SendToList) };
     (AlreadyTriedList) => { typed!(@list AlreadyTriedList) };
     (UnitsPerMediumList) => { typed!(@list UnitsPerMediumList) };
@@ -65,7 +55,9 @@ macro_rules! typed {
     (SpecificUnits) => { typed!(@list SpecificUnits) };
     (ModuleUnitsPerMediumList) => { typed!(@list ModuleUnitsPerMediumList) };
     (@list $node:ident) => { plain!($node, universal::SEQUENCE, List) };
-    ($node:ident) => { plain!($node, universal::SEQUENCE, Sequence) };
+    (@leaf $node:ident, $tag:ident, $($element_type:tt)+) => { plain!($node, universal::$tag, $($element_type)+) };
+    (@sequence $node:ident) => { plain!($node, universal::SEQUENCE, Sequence) };
+    ($node:ident) => { leaf_or!(typed $node) };
 }
 
 /// True for a node that is a choice in a sequence or list without a tag.
@@ -173,8 +165,8 @@ macro_rules! nested {
 
 /// The cell of one of the two strings of an ILL-String.
 macro_rules! string {
-    ($row:literal, $number:expr, $element_type:ident) => {
-        placed!(Row, IllString, $row, plain!(IllString, $number, $element_type))
+    ($row:literal, $tag:ident, $leaf:ident) => {
+        placed!(Row, IllString, $row, plain!(IllString, universal::$tag, Leaf(LeafType::$leaf)))
     };
 }
 
@@ -188,6 +180,7 @@ macro_rules! segment {
 
 /// The cells of a leaf.
 macro_rules! leaf {
+    (BitString) => { &[own!(BitString), segment!(BitString, universal::BIT_STRING, BitSegment)] };
     ($node:ident) => { &[own!($node), segment!($node)] };
 }
 
@@ -262,8 +255,8 @@ pub fn cells_of(node: NodeId) -> &'static [Cell]
         NodeId::Null => leaf!(Null),
         NodeId::ObjectIdentifier => leaf!(ObjectIdentifier),
         NodeId::OctetString => leaf!(OctetString),
+        NodeId::BitString => leaf!(BitString),
         NodeId::ObjectDescriptor => leaf!(ObjectDescriptor),
-        NodeId::BitString => &[own!(BitString), segment!(BitString, 3, BitSegment)],
         NodeId::IllString => &[nested!(IllString), segment!(IllString)],
         NodeId::Any => &[nested!(Any)],
         NodeId::LeftOut => cells!(Seq LeftOut, "", Context:),
@@ -393,8 +386,8 @@ pub fn alternatives_of(node: NodeId) -> &'static [Cell]
         node,
         alternatives,
         NodeId::IllString => &[
-            string!(0, universal::GENERAL_STRING, General),
-            string!(1, universal::VISIBLE_STRING, Visible),
+            string!(0, GENERAL_STRING, General),
+            string!(1, VISIBLE_STRING, Visible),
         ],
         _ => &[],
     }

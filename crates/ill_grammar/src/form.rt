@@ -27,17 +27,17 @@ fn has_form(element_type: ElementType, constructed: bool) -> bool
     ensures { result ≡ has_form element_type constructed }
 {
     match element_type {
+        ElementType::Leaf(leaf) => !constructed || leaf.is_string(),
+        ElementType::ModuleLeaf(leaf) => !constructed || leaf.is_string(),
+        ElementType::BitString
+        | ElementType::Segment
+        | ElementType::BitSegment
+        | ElementType::Foreign => true,
         ElementType::Sequence
         | ElementType::List
         | ElementType::Wrapper
         | ElementType::LooseWrapper => constructed,
-        ElementType::Boolean
-        | ElementType::Integer
-        | ElementType::Enumerated
-        | ElementType::Null
-        | ElementType::ObjectIdentifier => !constructed,
         ElementType::LeftOut => false,
-        _ => true,
     }
 }
 
@@ -57,16 +57,6 @@ pub fn is_usual(found: Found, constructed: bool) -> bool
                 | ElementType::LooseWrapper
         )
     } else {
-        matches!(
-            found.element_type(),
-            ElementType::Boolean
-                | ElementType::Integer
-                | ElementType::Enumerated
-                | ElementType::General
-                | ElementType::Visible
-                | ElementType::Printable
-                | ElementType::Date
-                | ElementType::Time
-        )
+        matches!(found.element_type(), ElementType::Leaf(_))
     }
 }

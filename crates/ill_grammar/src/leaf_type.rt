@@ -1,5 +1,5 @@
 //! The types of leaves, and the values of their contents.
-ghost use Rattle.std.specs.Prelude.{◌≡◌, IsTrue};
+ghost use Rattle.std.specs.Prelude.{◌≡◌, ℕ, List, IsTrue};
 ghost use Rattle.ber_tree.specs.Octets.{are_octets};
 ghost use Rattle.ber_leaf.specs.Content.{IsContent};
 ghost use Rattle.ber_leaf.specs.Leaf.{content_fault, is_string, value};
@@ -12,8 +12,34 @@ use ber_leaf::{
 };
 use ill_schema::{Profile, Value};
 
+/// Gives a node to a macro: one that is a leaf after `@leaf`, with its universal tag and its `ElementType`, another after `@sequence`.
+macro_rules! leaf_or {
+    ($with:ident Boolean) => { $with!(@leaf Boolean, BOOLEAN, Leaf(LeafType::Boolean)) };
+    ($with:ident Integer) => { $with!(@leaf Integer, INTEGER, Leaf(LeafType::Integer)) };
+    ($with:ident Enumerated) => { $with!(@leaf Enumerated, ENUMERATED, Leaf(LeafType::Enumerated)) };
+    ($with:ident IsoDate) => { $with!(@leaf IsoDate, VISIBLE_STRING, Leaf(LeafType::Date)) };
+    ($with:ident IsoTime) => { $with!(@leaf IsoTime, VISIBLE_STRING, Leaf(LeafType::Time)) };
+    ($with:ident PrintableString) => {
+        $with!(@leaf PrintableString, PRINTABLE_STRING, Leaf(LeafType::Printable))
+    };
+    ($with:ident Null) => { $with!(@leaf Null, NULL, ModuleLeaf(ModuleLeaf::Null)) };
+    ($with:ident ObjectIdentifier) => {
+        $with!(@leaf ObjectIdentifier, OBJECT_IDENTIFIER, ModuleLeaf(ModuleLeaf::ObjectIdentifier))
+    };
+    ($with:ident OctetString) => {
+        $with!(@leaf OctetString, OCTET_STRING, ModuleLeaf(ModuleLeaf::OctetString))
+    };
+    ($with:ident BitString) => { $with!(@leaf BitString, BIT_STRING, BitString) };
+    ($with:ident ObjectDescriptor) => {
+        $with!(@leaf ObjectDescriptor, OBJECT_DESCRIPTOR, ModuleLeaf(ModuleLeaf::ObjectDescriptor))
+    };
+    ($with:ident $node:ident) => { $with!(@sequence $node) };
+}
+
+pub(crate) use leaf_or;
+
 /// A type of leaf, with the two strings of an ILL-String apart.
-#[derive(Clone, Copy)]
+#[derive(Clone, Copy, Debug, PartialEq, Eq)]
 pub enum LeafType {
     Boolean,
     Integer,
@@ -26,7 +52,7 @@ pub enum LeafType {
 }
 
 /// A type of leaf that only rows of the module profile have, but for BIT STRING, whose segments are joined in another way.
-#[derive(Clone, Copy)]
+#[derive(Clone, Copy, Debug, PartialEq, Eq)]
 pub enum ModuleLeaf {
     Null,
     ObjectIdentifier,
@@ -34,20 +60,48 @@ pub enum ModuleLeaf {
     ObjectDescriptor,
 }
 
+/// The kind of value that a leaf of the module profile holds, by which it is shown.
+#[derive(Clone, Copy, Debug, PartialEq, Eq)]
+pub enum ValueKind {
+    Null,
+    Identifier,
+    Octets,
+    Text,
+}
+
 impl LeafType {
     ghost use Rattle.ill_schema.specs.Content.{simple};
     ghost use Rattle.ill_schema.specs.Value.{content_of};
-    ghost use Rattle.ill_grammar.specs.LeafTypes.{IsContentIn, leaf_is};
+    ghost use Rattle.ill_grammar.specs.LeafTypes.{IsContentIn, leaf_is, type_name};
     ghost use Rattle.ill_grammar.specs.Written.{is_number};
 
     /// Tells whether it is a string, which may be spelled in segments (X.690, 8.23).
+    #[inline(always)]
     pub fn is_string(self) -> bool
         ensures { result ≡ is_string (leaf_is self) }
     {
-        !matches!(
-            &self,
-            LeafType::Boolean | LeafType::Integer | LeafType::Enumerated
-        )
+        match self {
+            LeafType::Boolean | LeafType::Integer | LeafType::Enumerated => false,
+            LeafType::General
+            | LeafType::Visible
+            | LeafType::Printable
+            | LeafType::Date
+            | LeafType::Time => true,
+        }
+    }
+
+    /// The name of its type in ASN.1.
+    pub fn name(self) -> &'static str
+        ensures { result.now ≡ type_name (leaf_is self) }
+    {
+        match self {
+            LeafType::Boolean => "BOOLEAN",
+            LeafType::Integer => "INTEGER",
+            LeafType::Enumerated => "ENUMERATED",
+            LeafType::General => "GeneralString",
+            LeafType::Visible | LeafType::Date | LeafType::Time => "VisibleString",
+            LeafType::Printable => "PrintableString",
+        }
     }
 
     /// The reason why the octets are no content of it in the profile, None exactly where they are.
@@ -86,7 +140,11 @@ impl LeafType {
             LeafType::Boolean => Flag::read(octets) == (number == 1),
             LeafType::Integer => Whole::read(octets) == number,
             LeafType::Enumerated => Whole::read(octets) == number,
-            _ => false,
+            LeafType::General
+            | LeafType::Visible
+            | LeafType::Printable
+            | LeafType::Date
+            | LeafType::Time => false,
         }
     }
 
@@ -109,16 +167,42 @@ impl LeafType {
 }
 
 impl ModuleLeaf {
-    ghost use Rattle.ill_grammar.specs.LeafTypes.{module_leaf_is};
+    ghost use Rattle.ill_grammar.specs.LeafTypes.{held_as, module_leaf_is, type_name};
 
     /// Tells whether it is a string, which may be spelled in segments (X.690, 8.7 and 8.25).
+    #[inline(always)]
     pub fn is_string(self) -> bool
         ensures { result ≡ is_string (module_leaf_is self) }
     {
-        matches!(
-            &self,
-            ModuleLeaf::OctetString | ModuleLeaf::ObjectDescriptor
-        )
+        match self {
+            ModuleLeaf::Null | ModuleLeaf::ObjectIdentifier => false,
+            ModuleLeaf::OctetString | ModuleLeaf::ObjectDescriptor => true,
+        }
+    }
+
+    /// The name of its type in ASN.1.
+    pub fn name(self) -> &'static str
+        ensures { result.now ≡ type_name (module_leaf_is self) }
+    {
+        match self {
+            ModuleLeaf::Null => "NULL",
+            ModuleLeaf::ObjectIdentifier => "OBJECT IDENTIFIER",
+            ModuleLeaf::OctetString => "OCTET STRING",
+            ModuleLeaf::ObjectDescriptor => "ObjectDescriptor",
+        }
+    }
+
+    /// The kind of value that its contents hold.
+    pub fn value_kind(self) -> ValueKind
+        ensures { (octets : List ℕ)
+            → value (module_leaf_is self) octets ≡ held_as result octets }
+    {
+        match self {
+            ModuleLeaf::Null => ValueKind::Null,
+            ModuleLeaf::ObjectIdentifier => ValueKind::Identifier,
+            ModuleLeaf::OctetString => ValueKind::Octets,
+            ModuleLeaf::ObjectDescriptor => ValueKind::Text,
+        }
     }
 
     /// The reason why the octets are no content of it, None exactly where they are.

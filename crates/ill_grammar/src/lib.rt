@@ -36,7 +36,7 @@ pub use frames::{Frames, MAX_DEPTH};
 pub use hexadecimal::{add_hexadecimal, add_octets};
 pub use identifier::{add_identifier, are_short, next_number};
 pub use judge::{ConstructedElement, Extent, PrimitiveElement};
-pub use leaf_type::{LeafType, ModuleLeaf};
+pub use leaf_type::{LeafType, ModuleLeaf, ValueKind};
 pub use marks::{
     absent_row, after_leading_mark, alternative, ends_number, has_default, is_at_end, is_octet,
     is_set, leading_mark, leading_octets, number_in,

@@ -18,7 +18,7 @@ ghost use Rattle.ill_json.specs.code.Adding.{Adds};
 
 use crate::writing::LineWriter;
 use ber_leaf::BitString;
-use ill_grammar::{Mark, ModuleLeaf};
+use ill_grammar::{Mark, ModuleLeaf, ValueKind};
 use json::Token;
 use std::alloc::{AllocError, Global};
 
@@ -29,11 +29,11 @@ pub fn put_module_leaf(leaf: ModuleLeaf, octets: &[Mark], out: &mut LineWriter)
         → Adds (json_tokens (leaf_json name (value (module_leaf_is leaf) (octets_in octets.now))))
         out.old out.new }
 {
-    match leaf {
-        ModuleLeaf::Null => out.put(Token::Null),
-        ModuleLeaf::ObjectIdentifier => out.identifier(octets),
-        ModuleLeaf::OctetString => put_hexadecimal("octets", octets, out),
-        ModuleLeaf::ObjectDescriptor => out.octets(octets),
+    match leaf.value_kind() {
+        ValueKind::Null => out.put(Token::Null),
+        ValueKind::Identifier => out.identifier(octets),
+        ValueKind::Octets => put_hexadecimal("octets", octets, out),
+        ValueKind::Text => out.octets(octets),
     }
 }
 

@@ -18,7 +18,7 @@ use crate::field_path::{FieldPath, put_line, put_path};
 use crate::leaf::{put_escaped, put_quoted};
 use crate::text_sink::TextSink;
 use ber_core::Sink;
-use ill_grammar::{ModuleLeaf, are_short, leading_octets, next_number};
+use ill_grammar::{ModuleLeaf, ValueKind, are_short, leading_octets, next_number};
 use ill_read::Mark;
 use ill_schema::hexadecimal_digits;
 use itoa::Buffer;
@@ -41,14 +41,14 @@ pub fn put_module_leaf<W: Sink>(
         (sending (W.contents sink.new) (W.is_broken sink.new) out.new) }
     ensures stays { IsTrue (W.is_broken sink.old) → IsTrue (W.is_broken sink.new) }
 {
-    match leaf {
-        ModuleLeaf::Null => {
+    match leaf.value_kind() {
+        ValueKind::Null => {
             put_line(path, b"NULL", out, sink);
             leading_octets(marks)
         }
-        ModuleLeaf::ObjectIdentifier => put_object_identifier(path, marks, out, sink),
-        ModuleLeaf::OctetString => put_octet_string(path, marks, out, sink),
-        ModuleLeaf::ObjectDescriptor => put_quoted(path, "descriptor \"", marks, out, sink),
+        ValueKind::Identifier => put_object_identifier(path, marks, out, sink),
+        ValueKind::Octets => put_octet_string(path, marks, out, sink),
+        ValueKind::Text => put_quoted(path, "descriptor \"", marks, out, sink),
     }
 }
 

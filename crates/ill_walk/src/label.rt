@@ -45,17 +45,10 @@ pub fn label_of(found: Found, id: Id, parent: NodeId, items: usize) -> Label {
 /// The name of a type.
 fn type_name(element_type: ElementType) -> &'static str {
     match element_type {
-        ElementType::Boolean => "BOOLEAN",
-        ElementType::Integer => "INTEGER",
-        ElementType::Enumerated => "ENUMERATED",
-        ElementType::General => "GeneralString",
-        ElementType::Visible | ElementType::Date | ElementType::Time => "VisibleString",
-        ElementType::Printable => "PrintableString",
-        ElementType::Null => "NULL",
-        ElementType::ObjectIdentifier => "OBJECT IDENTIFIER",
-        ElementType::OctetString | ElementType::Segment => "OCTET STRING",
+        ElementType::Leaf(leaf) => leaf.name(),
+        ElementType::ModuleLeaf(leaf) => leaf.name(),
+        ElementType::Segment => "OCTET STRING",
         ElementType::BitString | ElementType::BitSegment => "BIT STRING",
-        ElementType::ObjectDescriptor => "ObjectDescriptor",
         ElementType::Foreign => "ANY",
         ElementType::Sequence
         | ElementType::List

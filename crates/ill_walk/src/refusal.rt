@@ -5,7 +5,7 @@ use crate::found::read_start;
 use crate::lines::LineBuffer;
 use crate::refused_place::{RefusedPlace, first_of};
 use crate::walk::ElementWalk;
-use ill_grammar::ElementType;
+use ill_grammar::{ElementType, LeafType};
 use ill_schema::{Cause, NodeId, Profile, Refusal};
 use std::alloc::{AllocError, Global};
 
@@ -135,7 +135,7 @@ fn is_general(walk: &ElementWalk, rest: &[u8]) -> bool {
         return false;
     };
     match walk.place().find(id) {
-        Some(found) => found.element_type() == ElementType::General,
+        Some(found) => found.element_type() == ElementType::Leaf(LeafType::General),
         None => false,
     }
 }

@@ -1,7 +1,7 @@
 //! The values of leaves.
 use crate::lines::LineBuffer;
-use ber_leaf::{BitString, Leaf, ObjectIdentifier};
-use ill_grammar::{Element, ModuleLeaf, add_identifier};
+use ber_leaf::{BitString, Leaf};
+use ill_grammar::{Element, ValueKind, add_identifier};
 use ill_read::{LeafType, Mark};
 use ill_schema::{PartId, Profile, Value, is_default, row};
 use std::alloc::{AllocError, Global};
@@ -66,21 +66,35 @@ pub fn put_module_leaf(
     content: &[u8],
 ) -> Result<(), AllocError> {
     match element {
-        Element::ModuleLeaf(ModuleLeaf::Null) if content.is_empty() => lines.text("NULL"),
-        Element::ModuleLeaf(ModuleLeaf::ObjectIdentifier)
-            if ObjectIdentifier::check(content).is_none() => {
-            put_identifier(lines, alloc, content)
+        Element::ModuleLeaf(leaf) if leaf.fault(content).is_none() => {
+            put_kind(lines, alloc, leaf.value_kind(), content)
         }
         Element::BitString | Element::BitSegment if BitString::check(content).is_none() => {
             put_bits(lines, content)
         }
-        Element::ModuleLeaf(ModuleLeaf::Null | ModuleLeaf::ObjectIdentifier)
-        | Element::BitString
-        | Element::BitSegment => lines.hex(content),
-        Element::ModuleLeaf(ModuleLeaf::OctetString) | Element::Foreign(_) => {
-            lines.content(content)
-        }
-        _ => lines.quoted(content),
+        Element::ModuleLeaf(_) | Element::BitString | Element::BitSegment => lines.hex(content),
+        Element::Foreign(_) => lines.content(content),
+        Element::Segment
+        | Element::Leaf(_)
+        | Element::Sequence(_)
+        | Element::List(_)
+        | Element::Wrapper(_)
+        | Element::LooseWrapper(_) => lines.quoted(content),
+    }
+}
+
+/// The value that the content of a leaf of the module profile holds, by its kind.
+fn put_kind(
+    lines: &mut LineBuffer,
+    alloc: Global,
+    kind: ValueKind,
+    content: &[u8],
+) -> Result<(), AllocError> {
+    match kind {
+        ValueKind::Null => lines.text("NULL"),
+        ValueKind::Identifier => put_identifier(lines, alloc, content),
+        ValueKind::Octets => lines.content(content),
+        ValueKind::Text => lines.quoted(content),
     }
 }
 

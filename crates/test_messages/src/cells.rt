@@ -3,7 +3,7 @@
 mod contracts;
 
 use ber_core::{Class, Id};
-use ill_grammar::{ElementType, EntryRole, Found, Place};
+use ill_grammar::{ElementType, EntryRole, Found, LeafType, Place};
 use ill_schema::{NodeId, PartId};
 
 /// A tag on the way to a place: of an element that the way goes into, or of one that it passes.
@@ -50,7 +50,7 @@ static ROWS: [Row; 6] = [
             Step::Into(Class::Universal, 16),
         ],
         (Class::Context, 0),
-        (ElementType::Integer, None, None),
+        (ElementType::Leaf(LeafType::Integer), None, None),
     ),
     (
         "ILL-Request.transaction-type",
@@ -61,7 +61,7 @@ static ROWS: [Row; 6] = [
             Step::Past(Class::Context, 2),
         ],
         (Class::Context, 5),
-        (ElementType::Enumerated, None, Some(1)),
+        (ElementType::Leaf(LeafType::Enumerated), None, Some(1)),
     ),
     (
         "ILL-Request.delivery-service",
@@ -86,7 +86,7 @@ static ROWS: [Row; 6] = [
             Step::Into(Class::Context, 7),
         ],
         (Class::Universal, 26),
-        (ElementType::Visible, None, None),
+        (ElementType::Leaf(LeafType::Visible), None, None),
     ),
     (
         "a segment of that",

@@ -2,13 +2,15 @@
 use Rattle.ill_schema.specs.Profiles.{profile_of}
 use Rattle.ill_tables.specs.declared.profile.Profile.{Profile as Named}
 use Rattle.std.specs.Option.{ForSome}
-use Rattle.std.specs.Prelude.{◌≡◌, ℕ, zero, ◌+◌, ◌-◌, ◌<◌, ◌≤◌, Bool, true, false, not, is_some, nat_eq, List, [], ◌∷◌, length, Option, Some, None, Result, Ok, Err, if◌then◌else◌, take, drop}
+use Rattle.std.specs.Prelude.{◌≡◌, ℕ, zero, ◌+◌, ◌-◌, ◌<◌, ◌≤◌, Bool, true, false, not, ◌||◌, is_some, nat_eq, List, [], ◌∷◌, length, Option, Some, None, Result, Ok, Err, if◌then◌else◌, take, drop}
 use Rattle.ber_core.specs.Id.{tag_of_id, form_of_id}
 use Rattle.ber_tree.specs.Identifier.{Tag}
 use Rattle.ber_core.specs.declared.id.Id.{Id}
 use Rattle.ber_leaf.specs.Profile.{Profile, profile_two}
 use Rattle.ill_schema.specs.declared.refusal.Cause.{Cause}
 use Rattle.ill_schema.specs.declared.refusal.Refusal.{Refusal}
+use Rattle.ber_leaf.specs.Leaf.{is_string}
+use Rattle.ill_grammar.specs.LeafTypes.{leaf_is, module_leaf_is}
 use Rattle.ill_grammar.specs.Elements.{element_is, found_is}
 use Rattle.ill_refusals.specs.Fault.{Fault, element_fault, string_fault, fault, fault_of, is_deep}
 use Rattle.ill_refusals.specs.code.Judge.{Judgement, faulty, opens, or_faulty, reads, judge_end, judge_form, judge_tag, closes}
@@ -80,19 +82,9 @@ IsRoom at room octets = (at + room ≤ 1_048_576) × (length octets ≤ room)
 
 -- what is read so may have the form; what is left out has none
 abbrev pub has_form : ElementType → Bool → Bool
-has_form element_type.Boolean constructed = not constructed
-has_form element_type.Integer constructed = not constructed
-has_form element_type.Enumerated constructed = not constructed
-has_form element_type.General constructed = true
-has_form element_type.Visible constructed = true
-has_form element_type.Printable constructed = true
-has_form element_type.Date constructed = true
-has_form element_type.Time constructed = true
-has_form element_type.Null constructed = not constructed
-has_form element_type.ObjectIdentifier constructed = not constructed
-has_form element_type.OctetString constructed = true
+has_form (element_type.Leaf l) constructed = not constructed || is_string (leaf_is l)
+has_form (element_type.ModuleLeaf l) constructed = not constructed || is_string (module_leaf_is l)
 has_form element_type.BitString constructed = true
-has_form element_type.ObjectDescriptor constructed = true
 has_form element_type.Segment constructed = true
 has_form element_type.BitSegment constructed = true
 has_form element_type.Foreign constructed = true
