@@ -13,6 +13,7 @@ pub mod DueCells
 pub mod Entries
 pub mod Meanings
 pub mod DueTags
+pub mod DueLists
 pub mod NormalLeaves
 pub mod Defaults
 pub mod NormalElements

@@ -1,5 +1,6 @@
 pub mod Cells
 pub mod Places
+pub mod DueLists
 pub mod LeafTypes
 pub mod Outline
 pub mod Marks

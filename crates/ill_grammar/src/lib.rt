@@ -43,4 +43,4 @@ pub use marks::{
 };
 pub use need::need_at;
 pub use outline::{Mark, Outline};
-pub use place::{Found, Place};
+pub use place::{DueElement, Found, Place};

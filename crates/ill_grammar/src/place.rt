@@ -12,9 +12,12 @@ ghost use Rattle.ill_grammar.specs.code.Meant.{cell_choice, cell_opens, cell_sta
 ghost use Rattle.ill_refusals.specs.Element.{components};
 ghost use Rattle.ill_grammar.specs.code.Starts.{IsBegunBy};
 
+mod due_elements;
+
 use crate::cell::{Cell, ElementType, EntryRole};
 use crate::cell_tables::{MESSAGE, MODULE_MESSAGE, NOWHERE, alternatives_of, cells_of, foreign_in};
 use ber_core::Id;
+pub use due_elements::DueElement;
 use ill_schema::{Kind, NodeId, PartId, Profile, kind};
 
 /// A place where an element may begin: a position in the cells of a node, at 0 in a wrapper round the node, from 1 on in the node
