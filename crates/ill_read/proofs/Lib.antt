@@ -24,3 +24,4 @@ pub mod WrittenElements
 pub mod OctetDrafts
 pub mod Outlines
 pub mod Accepted
+pub mod PassedHeaders

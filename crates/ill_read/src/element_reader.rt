@@ -1,9 +1,10 @@
 //! Goes through the elements of a message, one at a time.
-ghost use Rattle.std.specs.Prelude.{◌≤◌, length, IfSome};
+ghost use Rattle.std.specs.Prelude.{◌≤◌, length, take, IfSome};
+ghost use Rattle.ber_core.specs.Header.{IsHeader};
 
 use crate::draft::Draft;
 use crate::failure::Failure;
-use crate::reader::Reader;
+use crate::reader::{PassedElement, Reader};
 use ill_grammar::{ConstructedElement, Frame, Frames, LeafType, Place, PrimitiveElement};
 use ill_schema::Profile;
 use std::alloc::{AllocError, Global};
@@ -48,6 +49,16 @@ impl ElementReader {
         ensures { IfSome result (λ len. len ≤ length rest.now) }
     {
         self.reader.step(rest)
+    }
+
+    /// Goes on over one element as [`ElementReader::step`] does, and returns what was read of it. None where `step` returns None, at an end mark
+    /// and where an element of definite length ends; `step` takes these.
+    pub fn pass(&mut self, rest: &[u8]) -> Option<PassedElement>
+        ensures within { IfSome result (λ passed. passed.header_size ≤ length rest.now) }
+        ensures header { IfSome result (λ passed. IsHeader passed.header
+            (take passed.header_size rest.now)) }
+    {
+        self.reader.pass(rest)
     }
 }
 

@@ -40,3 +40,4 @@ pub use laws::decoders_are_apart;
 pub use normal::{NormalForm, NormalReader, decode_normal, read_normal};
 pub use outlined::{OutlineReader, OutlinedMessage, read_outline};
 pub use read::{decode, read_message};
+pub use reader::PassedElement;

@@ -2,6 +2,7 @@
 ghost use Rattle.std.specs.Prelude.{◌≤◌};
 
 mod elements;
+mod pass;
 
 use crate::draft::Draft;
 use crate::failure::Failure;
@@ -9,6 +10,7 @@ use crate::path::Path;
 use ber_core::{Id, LengthRead, first_identifier, length_after};
 use ill_grammar::{Frames, need_at};
 use ill_schema::{Cause, LIMIT, Profile, Refusal};
+pub use pass::PassedElement;
 use std::alloc::Global;
 use std::mem;
 
