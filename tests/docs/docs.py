@@ -166,7 +166,7 @@ def check_sizes(path, text):
 
 
 def check_version():
-    wanted = re.search(r'\.version\("([^"]+)"\)', (ROOT / "crates/ill_args/src/commands.rt").read_text()).group(1)
+    wanted = re.search(r'\.version\("([^"]+)"\)', (ROOT / "crates/ill_args/src/program.rt").read_text()).group(1)
     for file, pattern in [
         ("bindings/c/Makefile", r"^VERSION = (\S+)"),
         ("bindings/c/illcanon.h", r'ILLCANON_VERSION "([^"]+)"'),
@@ -181,7 +181,7 @@ def check_version():
         path = ROOT / file
         found = re.search(pattern, path.read_text(), re.M)
         if not found or found.group(1) != wanted:
-            fault(path, 1, f"the version is not {wanted}, that of crates/ill_args/src/commands.rt")
+            fault(path, 1, f"the version is not {wanted}, that of crates/ill_args/src/program.rt")
 
 
 def check_causes():

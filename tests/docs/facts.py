@@ -14,7 +14,7 @@ from model.schema import Schema
 from model.tables import ALL_ROWS, NAMES, ROOTS, reached
 
 ROOT = Path(__file__).resolve().parents[2]
-HELP, TOPICS, COMMANDS = (f"crates/ill_args/src/{name}.rt" for name in ("help", "topics", "commands"))
+HELP, TOPICS, COMMANDS, ARGUMENT, LINE = (f"crates/ill_args/src/{name}.rt" for name in ("help", "topics", "commands", "argument", "program"))
 MAN, GUIDE, DEFINITIONS, PERFORMANCE, SECURITY = "man/illcanon.1", "docs/GUIDE.md", "docs/DEFINITIONS.md", "docs/PERFORMANCE.md", "SECURITY.md"
 HEADER, RESULTS, REFUSAL, WALK = "bindings/c/illcanon.h", "docs/results.schema.json", "crates/ill_schema/src/refusal.rt", "crates/ill_walk/src/refusal.rt"
 WORDS = {"two": 2, "three": 3, "four": 4, "five": 5, "six": 6, "seven": 7, "eight": 8, "nine": 9, "ten": 10, "eleven": 11, "twelve": 12}
@@ -24,7 +24,7 @@ LIMITS = {
     "octets": [("crates/ill_schema/src/size.rt", r"pub const LIMIT: u32 = ([\d_]+);")],
     "messages": [
         ("crates/ill_normal/src/messages.rt", r"pub const MAX_MESSAGES: u32 = ([\d_]+);"),
-        (COMMANDS, r"ValueParser::unsigned\(1, ([\d_]+)\)"),
+        (ARGUMENT, r"ValueParser::unsigned\(1, ([\d_]+)\)"),
     ],
     "open": [("crates/ill_grammar/src/frames.rt", r"pub const MAX_DEPTH: usize = ([\d_]+);"), ("crates/ill_walk/src/unjudged.rt", r"const MAX_OPEN: usize = ([\d_]+);")],
     "levels": [("crates/ber_core/specs/Foreign.antt", r"^foreign_levels = (\d+)"), ("crates/ill_text/src/foreign.rt", r"const LEVELS: u8 = (\d+);")],
@@ -57,14 +57,12 @@ SAID = {
     SECURITY: {"octets": 1, "messages": 1},
 }
 # What says numbers, and is not of the documents that docs.py names.
-TEXTS = [HELP, TOPICS, COMMANDS, MAN, REFUSAL, WALK, HEADER]
+TEXTS = [HELP, TOPICS, COMMANDS, ARGUMENT, MAN, REFUSAL, WALK, HEADER]
 # What says what was measured or what was so once.
 NOT_COMPARED = {PERFORMANCE, "CHANGELOG.md", "vectors/README.md"}
 # What names the kit or the gate, too, and is not of the documents that docs.py names.
 OTHER_DOCUMENTS = ["bindings/web/README.md"]
 
-# The commands, by the constant of the end of their help.
-ENDS = {"SHOW": "show", "CHECK": "check", "DIGEST": "digest", "DUMP": "dump", "SAME": "same", "CANONICALISE": "canonicalise"}
 # How each help topic begins.
 BEGINNINGS = {"causes": "Why a message is refused.", "profile": "A profile is what is read of ISO 10161-1."}
 # What both the help and the man page say of an option, and of no other. A new option gets a line here.
@@ -252,9 +250,24 @@ def check_edits_and_laws():
         fault("README.md", "says of `make check` that it tries edits where it doesn't, or not where it does")
 
 
+def ends_of_help():
+    """The commands, by the constant of the end of their help."""
+    _, _, named = read(COMMANDS).partition("pub fn name")
+    words, _, more = named.partition("pub fn about")
+    word_of = dict(re.findall(r'(Verb::\S+) => "(\w+)",', words))
+    ends = re.findall(r"(Verb::\S+) => (\w+),", more.partition("pub fn after_help")[2].partition("pub fn arguments")[0])
+    return {end: word_of[verb] for verb, end in ends}
+
+
+def help_texts():
+    """The end of the help of the program, and of each command."""
+    ends = ends_of_help()
+    return {"PROGRAM": constants(HELP)["PROGRAM"], **{name: text for name, text in constants(COMMANDS).items() if name in ends}}
+
+
 def constants(path):
     """The texts of a file of help."""
-    return {name: text.replace('\\"', '"').replace("\\\\", "\\") for name, text in re.findall(r'^pub const (\w+): &str =\s*"(?:\\\n)?((?:[^"\\]|\\.)*)";', read(path), re.M | re.S)}
+    return {name: text.replace('\\"', '"').replace("\\\\", "\\") for name, text in re.findall(r'^(?:pub )?const (\w+): &str =\s*"(?:\\\n)?((?:[^"\\]|\\.)*)";', read(path), re.M | re.S)}
 
 
 def statuses_of_code():
@@ -272,12 +285,11 @@ def statuses_of_code():
 
 def status_lists():
     """Each list of statuses: its place, the text of each status, and whether that of several files has to follow."""
-    for name, text in constants(HELP).items():
-        if name in ENDS or name == "PROGRAM":
-            found = re.search(r"^Status: (.*)\Z", text, re.M | re.S)
-            said = " ".join(found[1].split()) if found else ""
-            said, _, several = said.partition(" Of several files: ")
-            yield f"{HELP} {name}", dict(re.findall(r"(?:^|; )(\d) (.*?)(?=; \d |\.?$)", said)), several, name not in ("PROGRAM", "SAME")
+    for name, text in help_texts().items():
+        found = re.search(r"^Status: (.*)\Z", text, re.M | re.S)
+        said = " ".join(found[1].split()) if found else ""
+        said, _, several = said.partition(" Of several files: ")
+        yield f"{COMMANDS} {name}", dict(re.findall(r"(?:^|; )(\d) (.*?)(?=; \d |\.?$)", said)), several, name not in ("PROGRAM", "SAME")
     man = re.sub(r"\n\.(?!It|Pp|El)\w+ ?", " ", read(MAN).partition(".Sh EXIT STATUS")[2].partition(".Sh")[0])
     yield MAN, {status: " ".join(text.split()) for status, text in re.findall(r"^\.It (\d)\n(.*?)(?=\n\.)", man, re.M | re.S)}, man.partition("Of several files")[2], True
     guide = read(GUIDE)
@@ -313,28 +325,26 @@ def check_statuses():
 
 def check_examples():
     """Each example in the help of a command is of this command."""
-    for name, text in constants(HELP).items():
-        if name not in ENDS:
-            continue
+    ends, texts = ends_of_help(), help_texts()
+    for name, word in ends.items():
+        text = texts[name]
         lines = re.search(r"^Example: (.*\n(?: {9}.*\n)*)", text, re.M)
         if not lines:
-            fault(HELP, f"{name} has no example")
+            fault(COMMANDS, f"{name} has no example")
             continue
         for line in lines[1].splitlines():
-            if not re.search(rf"\billcanon {ENDS[name]}\b", line):
-                fault(HELP, f"{name} has an example of another command: {line.strip()}")
+            if not re.search(rf"\billcanon {word}\b", line):
+                fault(COMMANDS, f"{name} has an example of another command: {line.strip()}")
 
 
 def check_wiring():
     """Each command has its own end of the help, and each topic its own text, by the source alone."""
-    source = read(COMMANDS)
-    for name, word in ENDS.items():
-        ends = re.findall(rf"Verb::{word.capitalize()} => help::(\w+)", source)
-        if ends != [name]:
-            fault(COMMANDS, f"the help of {word} has not the end help::{name}, but {ends}")
-    topics = dict(re.findall(r'topic\(alloc, "(\w+)", topics::(\w+)\)', source))
+    for name, word in ends_of_help().items():
+        if name != word.upper():
+            fault(COMMANDS, f"the help of {word} has the end {name}")
+    topics = dict(re.findall(r'topic\(alloc, "(\w+)", topics::(\w+)\)', read(LINE)))
     if topics != {word: word.upper() for word in BEGINNINGS}:
-        fault(COMMANDS, f"the topics are {topics}")
+        fault(LINE, f"the topics are {topics}")
     texts = constants(TOPICS)
     for word, beginning in BEGINNINGS.items():
         if not texts.get(word.upper(), "").startswith(beginning):
@@ -362,7 +372,7 @@ def check_option(place, name, text):
 def check_max_refused():
     """The man page has the greatest N of `--max-refused`, as the command line has it, and the status of work that it ended."""
     text = " ".join(man_options().get("max-refused", "").split())
-    number = re.search(r'Number\("max-refused",', read(COMMANDS)) and re.search(r"ValueParser::unsigned\(1, ([\d_]+)\)", read(COMMANDS))
+    number = re.search(r'Number\("max-refused",', read(COMMANDS)) and re.search(r"ValueParser::unsigned\(1, ([\d_]+)\)", read(ARGUMENT))
     status = re.search(r"ProgramError::RefusedEnough\(_\)\) => (\d)", read("crates/ill_files/src/error.rt"))
     found = re.search(r"at most ([\d,]+) messages, with a line on standard error and status (\d)\.", text)
     if not (number and status and found and found.groups() == (f"{int(number[1].replace('_', '')):,}", status[1])):
@@ -399,17 +409,17 @@ def check_program(program):
     def help_of(*words):
         return subprocess.run([program, *words], capture_output=True, text=True, check=True).stdout
 
-    ends, topics = constants(HELP), constants(TOPICS)
-    if not help_of("--help").endswith(ends["PROGRAM"] + "\n"):
+    ends, texts, topics = ends_of_help(), help_texts(), constants(TOPICS)
+    if not help_of("--help").endswith(texts["PROGRAM"] + "\n"):
         fault(HELP, "the program's help has another end: is it older than the sources?")
-    for name, word in ENDS.items():
+    for name, word in ends.items():
         for words in (word, "--help"), ("help", word):
-            if not help_of(*words).endswith("\n" + ends[name] + "\n"):
+            if not help_of(*words).endswith("\n" + texts[name] + "\n"):
                 fault(HELP, f"`illcanon {' '.join(words)}` has another end than {name}: is the program older than the sources?")
     for word in BEGINNINGS:
         if help_of("help", word).strip() != topics[word.upper()].strip():
             fault(TOPICS, f"`illcanon help {word}` prints something else than {word.upper()}: is the program older than the sources?")
-    check_options(help_of, ENDS.values())
+    check_options(help_of, ends.values())
 
 
 def objects_in(schema, at):

@@ -21,6 +21,8 @@ ROOT = Path(__file__).resolve().parents[2]
 PROGRAM = ROOT / "crates/illcanon/out/illcanon"
 TOPICS = {"causes", "profile"}
 PROFILES = {"2", "module"}
+# The completions ask the program itself.
+WITH_PROGRAM = {**os.environ, "PATH": f"{PROGRAM.parent}:{os.environ['PATH']}"}
 faults, skipped = [], []
 
 
@@ -71,7 +73,7 @@ def check_man_page(commands):
     described = text[text.index(".Sh OPTIONS") : text.index(".Sh EXIT STATUS")]
     listed = {"-" + option for line in re.findall(r"^\.It (Fl .*)$", described, re.M) for option in re.findall(r"(?:Fl|,) (-?\w[\w-]*)", line)}
     expect(listed, set().union(*commands.values()), "man/illcanon.1, options")
-    version = re.search(r'\.version\("([^"]+)"\)', (ROOT / "crates/ill_args/src/commands.rt").read_text(encoding="utf-8"))[1]
+    version = re.search(r'\.version\("([^"]+)"\)', (ROOT / "crates/ill_args/src/program.rt").read_text(encoding="utf-8"))[1]
     for flag in "--version", "-V":
         done = run([PROGRAM, flag])
         expect((done.returncode, done.stdout, done.stderr), (0, f"illcanon {version}\n", ""), flag)
@@ -85,7 +87,7 @@ def check_man_page(commands):
 def questions(commands):
     """What is completed: the words after the program's name, the last one begun, and what may be offered; None stands for names of files."""
     names = {name for name in commands if name}
-    asked = [([""], names | {"help"} | commands[None]), (["c"], {"check", "canonicalise"}), (["help", ""], names | TOPICS | {"help"}), (["help", "ca"], {"causes", "canonicalise"})]
+    asked = [([""], names | {"help"} | commands[None]), (["c"], {name for name in names if name.startswith("c")}), (["help", ""], names | TOPICS | {"help"}), (["help", "ca"], {name for name in names | TOPICS if name.startswith("ca")})]
     for name in names:
         asked.append(([name, "-"], commands[name]))
         asked.append(([name, "--h"], {option for option in commands[name] if option.startswith("--h")}))
@@ -108,7 +110,7 @@ def check_bash(commands):
         printf '%s\\n' "${COMPREPLY[@]}"
     """
     for words, wanted in questions(commands):
-        done = run(["bash", "-c", script, "bash", ROOT / "completions/illcanon.bash", *words])
+        done = run(["bash", "-c", script, "bash", ROOT / "completions/illcanon.bash", *words], env=WITH_PROGRAM)
         found = set(done.stdout.split())
         expect((found, done.stderr), ({"FILES"} if wanted is None else wanted, ""), f"bash: {words}")
     typed = at_a_terminal("illcanon che\t--li\t")
@@ -127,7 +129,7 @@ def at_a_terminal(keys):
         child, terminal = pty.fork()
         if child == 0:
             os.chdir(folder)
-            os.environ.update(TERM="dumb", PS1="$ ", INPUTRC="/dev/null")
+            os.environ.update(WITH_PROGRAM, TERM="dumb", PS1="$ ", INPUTRC="/dev/null")
             os.execvp("bash", ["bash", "--norc", "--noprofile", "-i"])
         os.write(terminal, f"source {ROOT}/completions/illcanon.bash\n".encode())
         time.sleep(0.5)
@@ -150,32 +152,24 @@ def check_zsh(commands):
     if not shutil.which("zsh"):
         skipped.append("zsh is not installed: its completion was not run")
         return
-    # `_arguments` and `_describe` are replaced by functions that print what they get.
+    # `_describe` and `_files` are replaced by functions that print what they offer.
     script = """
-        _arguments() { if [[ $1 == -C ]]; then [[ $want == top ]] && print -rl -- "$@"; state=$want_state; return 1; fi; print -rl -- "$@"; }
-        _describe() { shift 2; for name in "$@"; do [[ $name == -- ]] || print -rl -- "${(P@)name%%:*}"; done; }
-        want=$2 want_state=$3
-        words=($4)
+        _describe() {
+            local array
+            for array in ${@:#-*}; do [[ ${(Pt)array} == array* ]] && print -rl -- "${(P@)array%%:*}"; done
+        }
+        _files() { print FILES; }
+        words=(illcanon "${@:2}")
+        CURRENT=$#
         source $1
     """
     path = ROOT / "completions/_illcanon"
-
-    def options(text):
-        return {option for line in text.splitlines() for option in re.findall(r"^(?:\([^)]*\))?(--?\w[\w-]*)[=+]*\[", line)}
-
-    done = run(["zsh", "-fc", script, "zsh", path, "top", "", ""])
-    expect((options(done.stdout), done.stderr), (commands[None], ""), "zsh: options of the program")
-    done = run(["zsh", "-fc", script, "zsh", path, "", "command", ""])
-    expect(set(done.stdout.split()), {name for name in commands if name} | {"help"}, "zsh: commands")
-    done = run(["zsh", "-fc", script, "zsh", path, "", "argument", "help"])
-    expect(set(done.stdout.split()), {name for name in commands if name} | {"help"} | TOPICS, "zsh: topics")
-    for name in commands:
-        if name:
-            done = run(["zsh", "-fc", script, "zsh", path, "", "argument", name])
-            expect((options(done.stdout), done.stderr), (commands[name], ""), f"zsh: {name}")
-            expect("_files" in done.stdout, True, f"zsh: {name} has no files")
-            values = re.findall(r"^--profile=\[.*\]:profile:\((.*)\)$", done.stdout, re.M)
-            expect([set(text.split()) for text in values], [PROFILES], f"zsh: profiles of {name}")
+    for words, wanted in questions(commands):
+        begun = words[-1]
+        done = run(["zsh", "-fc", script, "zsh", path, *words], env=WITH_PROGRAM)
+        # zsh itself leaves out what doesn't begin with the word.
+        found = {word for word in done.stdout.split() if word == "FILES" or word.startswith(begun)}
+        expect((found, done.stderr), ({"FILES"} if wanted is None else wanted, ""), f"zsh: {words}")
 
 
 def check_fish(commands):
@@ -192,7 +186,7 @@ def check_fish(commands):
             for last in asked:
                 line = " ".join(["illcanon", *words[:-1], last])
                 script = f"source {ROOT}/completions/illcanon.fish; complete -C '{line}'"
-                done = run(["fish", "--no-config", "-c", script], cwd=folder, env={**os.environ, "HOME": folder})
+                done = run(["fish", "--no-config", "-c", script], cwd=folder, env={**WITH_PROGRAM, "HOME": folder})
                 found |= {text.split("\t")[0] for text in done.stdout.splitlines()}
             expect(found, wanted, f"fish: {words}")
 

@@ -5,7 +5,7 @@ use Rattle.clap.specs.Simple.{App, with_rule, with_subcommand}
 use Rattle.clap.specs.Walk.{Rule}
 use Rattle.ill_args.specs.CommandLine.{command_for, with_commands, with_rules, ProfileNames}
 use Rattle.ill_args.specs.code.Arguments.{rule_for}
-use Rattle.ill_args.specs.declared.commands.Argument.{Argument}
+use Rattle.ill_args.specs.declared.argument.Argument.{Argument}
 use Rattle.ill_args.specs.declared.orders.Verb.{Verb}
 
 one_more : (a : App) (rs : List Rule) (r : Rule) → with_rules a (rs ++ r ∷ []) ≡ with_rule (with_rules a rs) r

@@ -12,8 +12,7 @@ use Rattle.clap.specs.Lexer.{long_of, short_of}
 use Rattle.clap.specs.Simple.{App, Shape, argument_words, built, entered, label_of, names_of, rows_at, subcommand_of}
 use Rattle.clap.specs.Takes.{is_given}
 use Rattle.clap.specs.Walk.{Held, Names, Outcome, Row, Rule, Step, Text, Waiting, Walk, after_flag, after_step, answers_to, arg_by_index, bundle, done, finished, idle, is_empty, long_or_other, next, nothing_held, option, plain, plain_word, positional, refused, rows_after, short_or_plain, subcommand, subcommand_met, subcommand_or_other, to_positional, trailing, value, waits, walk, walk_from, walked, walked_from, word_met}
-use Rattle.ill_args.specs.CommandLine.{all_verbs, program}
-use Rattle.ill_args.specs.Orders.{verb_name}
+use Rattle.ill_args.specs.CommandLine.{all_verbs, program, verb_name}
 use Rattle.ill_args.specs.code.Commands.{HasBoth, IsCommand}
 use Rattle.ill_args.specs.declared.orders.Verb.{Verb}
 use Rattle.clap.proofs.SimpleLemmas.{is_nil}

@@ -25,7 +25,7 @@ use Rattle.clap.specs.declared.error.kind.ErrorKind.{ErrorKind}
 use Rattle.clap.specs.declared.parser.matches.ValueSource.{ValueSource}
 use Rattle.clap.proofs.SimpleLemmas.{is_nil}
 use Rattle.ill_tables.specs.declared.profile.Profile.{Profile}
-use Rattle.ill_args.specs.Orders.{profile_name}
+use Rattle.ill_args.specs.CommandLine.{profile_name}
 use Rattle.ill_args.specs.code.Commands.{HasProfile}
 use Rattle.ill_args.proofs.Found.{find_passes}
 

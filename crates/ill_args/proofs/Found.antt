@@ -1,7 +1,7 @@
 -- A command that was found, from its name and its rows.
 use Rattle.std.proofs.Common.{◌≡◌, ◌∙◌, Bool, cond, codes, true, false, refl, sym, ap, List, [], ◌∷◌, ℕ, Option, Some, None, option_map, unwrap_or, IfSome, inl, inr}
 use Rattle.std.specs.Prelude.{find}
-use Rattle.std.specs.List.{list_all}
+use Rattle.std.specs.List.{list_all, list_any}
 use Rattle.std.specs.Option.{option_map_or}
 use Rattle.std.specs.Str.{bytes_eq}
 use Rattle.std.specs.Str.Parse.{ExplainsUnsignedError, HasUnsignedDigitsIfOk, ParsesBool, ParsesUnsigned}
@@ -9,10 +9,13 @@ use Rattle.std.proofs.lemmas.Bool.{and_parts}
 use Rattle.std.proofs.lemmas.Slice.Eq.{bytes_eq-Decides}
 use Rattle.clap.specs.Words.{ReadsOne}
 use Rattle.clap.specs.Walk.{Row, Text}
-use Rattle.ill_args.specs.Orders.{verb_name, IsOptionNumber}
+use Rattle.ill_args.specs.CommandLine.{all_verbs, verb_name}
+use Rattle.ill_args.specs.Orders.{IsOptionNumber}
 use Rattle.ill_args.specs.Refused.{IsFaultOf}
 use Rattle.ill_args.specs.code.Commands.{IsFault}
 use Rattle.ill_args.specs.declared.fault.LineFault.{LineFault}
+use Rattle.ill_args.specs.declared.orders.FileJob.{FileJob}
+use Rattle.ill_args.specs.declared.orders.Report.{Report}
 use Rattle.ill_args.specs.declared.orders.Verb.{Verb}
 
 abbrev pair : {X : Type 0} → (X → Text) → (X → List Row) → X → Text × List Row
@@ -56,3 +59,10 @@ pub found_fault : (found : Option (Text × List Row)) (verb : Verb) (rows : List
 found_fault found verb rows (LineFault.Line error) is h = tt
 found_fault found verb rows _ is (inl memory) = absurd memory
 found_fault found verb rows _ is (inr h) = (verb, rows, is, h)
+
+-- each command is in the list of all
+pub is_command_name : (verb : Verb) → list_any (λ one. bytes_eq (verb_name one) (verb_name verb)) all_verbs ≡ true
+is_command_name (Verb.Print (FileJob.Report Report.Check)) = refl
+is_command_name (Verb.Print (FileJob.Report _)) = refl
+is_command_name (Verb.Print _) = refl
+is_command_name _ = refl

@@ -6,8 +6,23 @@ use Rattle.clap.specs.Simple.{App, new_app, new_rule, with_rule, with_subcommand
 use Rattle.clap.specs.declared.builder.action.ArgAction.TheVariants.{Append, SetTrue}
 use Rattle.clap.specs.declared.builder.value_parser.ValueParser.TheVariants.{Names, Unsigned}
 use Rattle.ill_tables.specs.declared.profile.Profile.{Profile}
+use Rattle.ill_args.specs.declared.orders.FileJob.{FileJob}
+use Rattle.ill_args.specs.declared.orders.Report.{Report}
 use Rattle.ill_args.specs.declared.orders.Verb.{Verb}
-use Rattle.ill_args.specs.Orders.{profile_name, verb_name}
+
+-- the word for a command
+abbrev pub verb_name : Verb → Text
+verb_name (Verb.Print FileJob.Show) = codes "show"
+verb_name (Verb.Print (FileJob.Report Report.Check)) = codes "check"
+verb_name (Verb.Print (FileJob.Report Report.Digest)) = codes "digest"
+verb_name Verb.Dump = codes "dump"
+verb_name Verb.Same = codes "same"
+verb_name Verb.Canonicalise = codes "canonicalise"
+
+-- the word for a profile
+abbrev pub profile_name : Profile → Text
+profile_name Profile.Two = codes "2"
+profile_name Profile.Module = codes "module"
 
 -- the flag `--NAME`
 abbrev pub flag_rule : Text → Rule
@@ -83,16 +98,16 @@ abbrev pub canonicalise_rules : List Rule
 canonicalise_rules = refusal_rules ++ flag_rule (codes "lines") ∷ flag_rule (codes "whole") ∷ output_rule ∷ inputs_rules
 
 abbrev pub rules_of : Verb → List Rule
-rules_of Verb.Show = show_rules
-rules_of Verb.Check = report_rules
-rules_of Verb.Digest = report_rules
+rules_of (Verb.Print FileJob.Show) = show_rules
+rules_of (Verb.Print (FileJob.Report report)) = report_rules
 rules_of Verb.Dump = dump_rules
 rules_of Verb.Same = same_rules
 rules_of Verb.Canonicalise = canonicalise_rules
 
 -- all commands
 abbrev pub all_verbs : List Verb
-all_verbs = Verb.Show ∷ Verb.Check ∷ Verb.Digest ∷ Verb.Dump ∷ Verb.Same ∷ Verb.Canonicalise ∷ []
+all_verbs =
+    Verb.Print FileJob.Show ∷ Verb.Print (FileJob.Report Report.Check) ∷ Verb.Print (FileJob.Report Report.Digest) ∷ Verb.Dump ∷ Verb.Same ∷ Verb.Canonicalise ∷ []
 
 -- a command to which these arguments are added
 abbrev pub with_rules : App → List Rule → App

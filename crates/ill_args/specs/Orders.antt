@@ -1,11 +1,12 @@
 -- Which words give an order.
-use Rattle.std.specs.Prelude.{◌≡◌, ◌≢◌, ◌⊎◌, ◌<◌, ◌+◌, ◌^◌, ℕ, Bool, true, false, List, [], ◌∷◌, map, codes, count_by, Option, Some, None, option_and_then, option_map, unwrap_or, IsSomeAnd}
+use Rattle.std.specs.Prelude.{◌≡◌, ◌≢◌, ◌⊎◌, ◌<◌, ◌+◌, ◌^◌, ℕ, Bool, true, false, List, [], ◌∷◌, map, codes, count_by, Option, Some, None, option_and_then, option_map, unwrap_or, IfSome, IsSomeAnd}
 use Rattle.std.specs.Option.{option_map_or}
 use Rattle.std.specs.Borrow.{Bor}
 use Rattle.std.specs.Str.{bytes_eq}
 use Rattle.std.specs.Str.Parse.{IsNumeral, digits_value, without_leading_plus}
 use Rattle.clap.specs.Walk.{Row, Text, all_of, first_of, one_of}
 use Rattle.ill_tables.specs.declared.profile.Profile.{Profile}
+use Rattle.ill_args.specs.CommandLine.{profile_name, verb_name}
 use Rattle.ill_args.specs.declared.orders.Elements.{Elements}
 use Rattle.ill_args.specs.declared.orders.FileJob.{FileJob}
 use Rattle.ill_args.specs.declared.orders.Inputs.{Inputs}
@@ -20,34 +21,18 @@ use Rattle.ill_args.specs.declared.orders.Target.{Target}
 use Rattle.ill_args.specs.declared.orders.Verb.{Verb}
 use Rattle.ill_args.specs.declared.orders.Work.{Work}
 
-abbrev pub verb_name : Verb → Text
-verb_name Verb.Show = codes "show"
-verb_name Verb.Check = codes "check"
-verb_name Verb.Digest = codes "digest"
-verb_name Verb.Dump = codes "dump"
-verb_name Verb.Same = codes "same"
-verb_name Verb.Canonicalise = codes "canonicalise"
+-- the report that a job writes, which it can write of lines, too
+abbrev pub report_of : FileJob → Option Report
+report_of (FileJob.Report report) = Some report
+report_of _ = None
 
--- the word for a profile
-abbrev pub profile_name : Profile → Text
-profile_name Profile.Two = codes "2"
-profile_name Profile.Module = codes "module"
-
--- the command that a report is of, a job, the results of lines, work, and an order
-abbrev pub verb_of_report : Report → Verb
-verb_of_report Report.Check = Verb.Check
-verb_of_report Report.Digest = Verb.Digest
-
-abbrev pub verb_of_job : FileJob → Verb
-verb_of_job FileJob.Show = Verb.Show
-verb_of_job (FileJob.Report report) = verb_of_report report
-
+-- the command that the results of lines are of, work, and an order
 abbrev pub verb_of_results : LineResults → Verb
-verb_of_results (LineResults.Report report) = verb_of_report report
+verb_of_results (LineResults.Report report) = Verb.Print (FileJob.Report report)
 verb_of_results _ = Verb.Canonicalise
 
 abbrev pub verb_of_work : Work → Verb
-verb_of_work (Work.Print job json with_filename messages inputs) = verb_of_job job
+verb_of_work (Work.Print job json with_filename messages inputs) = Verb.Print job
 verb_of_work (Work.Dump elements with_filename inputs) = Verb.Dump
 verb_of_work (Work.Write messages input output) = Verb.Canonicalise
 verb_of_work (Work.Collect messages inputs output) = Verb.Canonicalise
@@ -229,10 +214,9 @@ HasResults rows input (LineResults.Report report) = HasOne rows input
 HasResults rows input (LineResults.Write output) = AreInAndOut rows input output
 HasResults rows input (LineResults.Collect output) = HasOne rows input × HasOutput rows output
 
--- messages are read, and not lines; `show` has no `--lines`
+-- messages are read, and not lines, of which only a report can be written
 abbrev pub IsByMessage : List Row → FileJob → Type 0
-IsByMessage rows FileJob.Show = Unit {0}
-IsByMessage rows (FileJob.Report report) = is_set (codes "lines") rows ≡ false
+IsByMessage rows job = IfSome (report_of job) (λ report. is_set (codes "lines") rows ≡ false)
 
 abbrev pub HasWork : List Row → Work → Type 0
 HasWork rows (Work.Print job json with_filename messages inputs) =

@@ -7,7 +7,8 @@ use Rattle.ill_args.specs.declared.orders.Order.{Order}
 use Rattle.ill_args.specs.declared.orders.Verb.{Verb}
 use Rattle.ill_args.specs.declared.fault.LineFault.{LineFault}
 use Rattle.ill_args.specs.declared.fault.LineFault.TheVariants.{Line, SameWord, InputTwice, OutputIsRead, Missing, Unexpected, LinesAndHex, LinesAndKeepGoing, LinesAndSummary, LinesAndJson, NotOneFile, MaxRefusedNeedsKeepGoing, RefusedNeedsKeepGoing, RefusedIsShared, WholeNeedsFile}
-use Rattle.ill_args.specs.Orders.{files_in, is_set, list_in, verb_name, HasOne, HasPair, HasTwo, IsOptionNumber, NamesNothing, ReadsInputTwice, ReadsOutput, SharesRefused}
+use Rattle.ill_args.specs.CommandLine.{verb_name}
+use Rattle.ill_args.specs.Orders.{files_in, is_set, list_in, HasOne, HasPair, HasTwo, IsOptionNumber, NamesNothing, ReadsInputTwice, ReadsOutput, SharesRefused}
 
 -- the command has any number of files: not `same`, nor `canonicalise` with IN and OUT
 abbrev pub HasAnyFiles : Verb → List Row → Type 0

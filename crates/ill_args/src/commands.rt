@@ -1,25 +1,143 @@
-//! The commands and their flags, as clap takes them.
-ghost use Rattle.std.specs.Prelude.{◌≡◌, false, map, IfOk};
-ghost use Rattle.clap.specs.Words.{app_of, rule_of};
-ghost use Rattle.clap.specs.Simple.{App, with_subcommand};
-ghost use Rattle.clap.specs.declared.builder.command.Command.TheViews.{out-Command as fields_of};
-ghost use Rattle.ill_args.specs.CommandLine.{bare_program, command_for, file_rule, filename_rule, files_rule, flag_rule, number_rule, output_rule, profile_rule, program_of, rules_of, topic, value_rule, with_commands, with_hex, with_rules};
-ghost use Rattle.ill_args.specs.Orders.{verb_name};
-ghost use Rattle.ill_args.specs.code.Commands.{AreAllNames};
+//! The commands: the word for each, its arguments, and what its help says.
+ghost use Rattle.std.specs.Prelude.{◌≡◌, map};
+ghost use Rattle.ill_args.specs.CommandLine.{rules_of, verb_name};
 ghost use Rattle.ill_args.specs.code.Arguments.{rule_for};
 
-use crate::orders::Verb;
-use crate::{help, topics};
-use clap::builder::ValueParser;
-use clap::{Arg, ArgAction, Command};
-use std::alloc::{AllocError, Global};
+use crate::argument::Argument;
+use crate::argument::Argument::{File, Filename, Files, Flag, Number, Output, Value};
+use crate::orders::{FileJob, Report, Verb};
 
-/// The names of all profiles.
-static PROFILES: [&str; 2] = ["2", "module"];
+impl Verb {
+    /// All commands.
+    pub const ALL: [Verb; 6] = [
+        Verb::Print(FileJob::Show),
+        Verb::Print(FileJob::Report(Report::Check)),
+        Verb::Print(FileJob::Report(Report::Digest)),
+        Verb::Dump,
+        Verb::Same,
+        Verb::Canonicalise,
+    ];
 
-const PROFILE: &str = "Reads the messages in this profile; see `illcanon help profile`";
+    /// The word for the command.
+    pub fn name<'a>(self) -> &'a str
+        ensures { result.now ≡ verb_name self }
+    {
+        match self {
+            Verb::Print(FileJob::Show) => "show",
+            Verb::Print(FileJob::Report(Report::Check)) => "check",
+            Verb::Print(FileJob::Report(Report::Digest)) => "digest",
+            Verb::Dump => "dump",
+            Verb::Same => "same",
+            Verb::Canonicalise => "canonicalise",
+        }
+    }
 
-const HEX: &str = "The input is hexadecimal text, in either case, with or without blanks";
+    /// What the command does.
+    pub fn about<'a>(self) -> &'a str {
+        match self {
+            Verb::Print(FileJob::Show) => "Writes the messages as text",
+            Verb::Print(FileJob::Report(Report::Check)) => {
+                "Reports for each message whether it is in normal form"
+            }
+            Verb::Print(FileJob::Report(Report::Digest)) => {
+                "Writes the digest of each message, the same however it is spelled"
+            }
+            Verb::Dump => {
+                "Writes each element of the messages as it is spelled, and why one is refused"
+            }
+            Verb::Same => "Reports whether two files hold the same message, however it is spelled",
+            Verb::Canonicalise => {
+                "Writes the normal form (DER) of each message in IN, or in each FILE, to OUT"
+            }
+        }
+    }
+
+    /// The end of the help of the command.
+    pub fn after_help<'a>(self) -> &'a str {
+        match self {
+            Verb::Print(FileJob::Show) => SHOW,
+            Verb::Print(FileJob::Report(Report::Check)) => CHECK,
+            Verb::Print(FileJob::Report(Report::Digest)) => DIGEST,
+            Verb::Dump => DUMP,
+            Verb::Same => SAME,
+            Verb::Canonicalise => CANONICALISE,
+        }
+    }
+
+    /// The arguments of the command besides `--hex` and `--profile`.
+    pub fn arguments(self) -> &'static [Argument]
+        ensures { map rule_for result.now ≡ rules_of self }
+    {
+        match self {
+            Verb::Print(FileJob::Show) => SHOW_ARGUMENTS.as_slice(),
+            Verb::Print(FileJob::Report(_)) => REPORT_ARGUMENTS.as_slice(),
+            Verb::Dump => DUMP_ARGUMENTS.as_slice(),
+            Verb::Same => SAME_ARGUMENTS.as_slice(),
+            Verb::Canonicalise => CANONICALISE_ARGUMENTS.as_slice(),
+        }
+    }
+}
+
+static SHOW_ARGUMENTS: [Argument; 8] = [
+    FILES_FROM,
+    Files(MESSAGES),
+    Filename,
+    KEEP_GOING_FLAG,
+    REFUSED_FILE,
+    MAX_REFUSED_NUMBER,
+    SUMMARY_FLAG,
+    Flag("json", JSON),
+];
+
+/// The arguments of `check` and `digest`.
+static REPORT_ARGUMENTS: [Argument; 9] = [
+    KEEP_GOING_FLAG,
+    REFUSED_FILE,
+    MAX_REFUSED_NUMBER,
+    SUMMARY_FLAG,
+    Flag("lines", LINES),
+    FILES_FROM,
+    Files(MESSAGES),
+    Filename,
+    Flag("json", RESULTS_AS_JSON),
+];
+
+static DUMP_ARGUMENTS: [Argument; 7] = [
+    FILES_FROM,
+    Files(MESSAGES),
+    Filename,
+    KEEP_GOING_FLAG,
+    MAX_REFUSED_NUMBER,
+    Number("message", MESSAGE),
+    Flag("html", HTML),
+];
+
+static SAME_ARGUMENTS: [Argument; 2] = [
+    File("first", "FILE", "A message; `-` is standard input"),
+    File("second", "OTHER", "Another; `-` is standard input"),
+];
+
+static CANONICALISE_ARGUMENTS: [Argument; 9] = [
+    KEEP_GOING_FLAG,
+    REFUSED_FILE,
+    MAX_REFUSED_NUMBER,
+    SUMMARY_FLAG,
+    Flag("lines", LINES),
+    Flag("whole", WHOLE),
+    Output,
+    FILES_FROM,
+    Files("IN and OUT; or with `-o OUT` the messages; `-` is standard input or output"),
+];
+
+const KEEP_GOING_FLAG: Argument = Flag("keep-going", KEEP_GOING);
+
+const REFUSED_FILE: Argument = Value("refused", "FILE", REFUSED);
+
+const MAX_REFUSED_NUMBER: Argument = Number("max-refused", MAX_REFUSED);
+
+const SUMMARY_FLAG: Argument = Flag("summary", SUMMARY);
+
+const FILES_FROM: Argument = Value("files-from", "LIST", LIST);
 
 const KEEP_GOING: &str =
     "Reports a message that is refused, and goes on with the next one, where its end is known";
@@ -28,9 +146,6 @@ const REFUSED: &str =
     "Writes the octets of refused messages to FILE, where their ends are known; needs --keep-going";
 
 const MAX_REFUSED: &str = "Stops after N refused messages of all files; needs --keep-going";
-
-const WITH_FILENAME: &str =
-    "Names the file in each line, even if there is one file; with --lines it changes nothing";
 
 const SUMMARY: &str =
     "Writes a line to standard error at the end: how many files, messages and octets there were";
@@ -49,349 +164,190 @@ const MESSAGES: &str = "The messages; `-` is standard input";
 const WHOLE: &str =
     "Replaces OUT only if every message of every input was good, and otherwise leaves it as it was";
 
-const OUTPUT: &str =
-    "Writes the normal forms of the messages of each FILE to OUT; `-` is standard output";
-
 const LIST: &str = "Reads names of files from LIST, each ended by a NUL; `-` is standard input";
 
 const LINES: &str =
     "Each line of the input is a message in hexadecimal, and each line of the output its result";
 
-/// The names of all profiles.
-pub fn profiles<'a>() -> &'a [&'a str]
-    ensures { AreAllNames result }
-{
-    PROFILES.as_slice()
-}
+const SHOW: &str = "\
+Each message is a line `message 1 Expired` and then a line for each leaf, as
+`service-date-time.date-time-of-this-service.date = 20240229`. Of several files, the
+first line of each message begins with the name of its file and `: `.
 
-/// The flag `--NAME`.
-fn flag<'a>(alloc: Global, name: &'a str, help: &'a str) -> Arg<'a>
-    ensures rule { rule_of result ≡ flag_rule name.entry.now }
-    ensures local { result.global ≡ false }
-{
-    Arg::new(alloc, name)
-        .long(name)
-        .action(ArgAction::SetTrue)
-        .help(help)
-}
+With --json each message is one line of JSON: its number, its offset and size in octets,
+its APDU, whether it is in normal form, and its value, nested by the names of the tables.
+Of several files, the line has the name of its file as `file`.
 
-fn file<'a>(alloc: Global, id: &'a str, name: &'a str, help: &'a str) -> Arg<'a>
-    ensures rule { rule_of result ≡ file_rule id.entry.now }
-    ensures local { result.global ≡ false }
-{
-    Arg::new(alloc, id)
-        .value_name(name)
-        .required(true)
-        .help(help)
-}
+With --keep-going each message that is refused has its line on standard error, and the
+next one is read, where the end of the refused one is known.
 
-/// The option `--NAME VALUE`.
-fn value<'a>(alloc: Global, name: &'a str, value: &'a str, help: &'a str) -> Arg<'a>
-    ensures rule { rule_of result ≡ value_rule name.entry.now }
-    ensures local { result.global ≡ false }
-{
-    Arg::new(alloc, name)
-        .long(name)
-        .value_name(value)
-        .help(help)
-}
+With --refused FILE the octets of each message that is refused, and whose end is known,
+go to FILE, one message after the other. FILE is replaced as OUT of `canonicalise` is.
 
-/// The option `--NAME N`, where N is a number from 1 to 1,000,000.
-fn number<'a>(alloc: Global, name: &'a str, help: &'a str) -> Arg<'a>
-    ensures rule { rule_of result ≡ number_rule name.entry.now }
-    ensures local { result.global ≡ false }
-{
-    value(alloc, name, "N", help).value_parser(ValueParser::unsigned(1, 1_000_000))
-}
+With --summary a line on standard error at the end says how many files, messages and
+octets were read, how many messages are in normal form, are not, and are refused, and
+how many files could not be opened, or were left before their end. Lines say where.
+On a terminal, a line says how far the work is, where it takes more than two seconds.
 
-/// The flag `-H`.
-fn filename<'a>(alloc: Global) -> Arg<'a>
-    ensures rule { rule_of result ≡ filename_rule }
-    ensures local { result.global ≡ false }
-{
-    flag(alloc, "with-filename", WITH_FILENAME).short('H')
-}
+Example: illcanon show messages.ber
+         illcanon show --keep-going messages.ber 2> refused.txt
+         illcanon show --profile module messages.ber
+         illcanon show --json messages.ber | jq -r .apdu | sort | uniq -c
 
-fn output<'a>(alloc: Global) -> Arg<'a>
-    ensures rule { rule_of result ≡ output_rule }
-    ensures local { result.global ≡ false }
-{
-    value(alloc, "output", "OUT", OUTPUT).short('o')
-}
+Status: 0 done; 1 a message is refused, or the hexadecimal text is invalid; 2 usage;
+3 memory, files or pipes. Of several files: 3 if one gave 3, else 1 if one gave 1.";
 
-/// The option `--profile NAME`, where NAME is one of these.
-fn profile<'a>(alloc: Global, names: &'a [&'a str]) -> Arg<'a>
-    ensures rule { rule_of result ≡ profile_rule names.entry }
-    ensures local { result.global ≡ false }
-{
-    value(alloc, "profile", "NAME", PROFILE)
-        .value_parser(names)
-        .default_value("2")
-}
+const CHECK: &str = "\
+Each message has a line, as `message 1: Expired, 33 octets, normal` or
+`message 2: Expired, 47 octets, not normal, normal form 33 octets`. Of several files,
+each line begins with the name of its file and `: `.
 
-fn files<'a>(alloc: Global, help: &'a str) -> Arg<'a>
-    ensures rule { rule_of result ≡ files_rule }
-    ensures local { result.global ≡ false }
-{
-    Arg::new(alloc, "file")
-        .value_name("FILE")
-        .action(ArgAction::Append)
-        .help(help)
-}
+With --json each message is one line of JSON: its number, its offset and size in octets,
+its APDU, and whether it is in normal form. A refused message has its line there, too,
+and none on standard error: the cause, its offset in the message, and whether the message
+is invalid or only `not read`: --profile module reads on there, or a limit is passed.
 
-/// An argument that not all commands have, with what the help says of it where commands differ in that.
-#[derive(Clone, Copy)]
-enum Argument {
-    /// The flag `--NAME`.
-    Flag(&'static str, &'static str),
-    /// A file that must be named: its id, and its name in the usage.
-    File(&'static str, &'static str, &'static str),
-    /// Any number of files.
-    Files(&'static str),
-    /// The option `--NAME VALUE`: its name, and that of the value in the usage.
-    Value(&'static str, &'static str, &'static str),
-    /// The option `--NAME N`.
-    Number(&'static str, &'static str),
-    Filename,
-    Output,
-}
+With --keep-going each message that is refused has its line on standard error, and the
+next one is read, where the end of the refused one is known.
 
-use Argument::{File, Filename, Files, Flag, Number, Output, Value};
+With --refused FILE the octets of each message that is refused, and whose end is known,
+go to FILE, one message after the other. FILE is replaced as OUT of `canonicalise` is.
 
-const KEEP_GOING_FLAG: Argument = Flag("keep-going", KEEP_GOING);
+With --summary a line on standard error at the end says how many files, messages and
+octets were read, how many messages are in normal form, are not, and are refused, and
+how many files could not be opened, or were left before their end. Lines say where.
+On a terminal, a line says how far the work is, where it takes more than two seconds.
 
-const REFUSED_FILE: Argument = Value("refused", "FILE", REFUSED);
+With --json it is a line of JSON, the last one of the output.
 
-const MAX_REFUSED_NUMBER: Argument = Number("max-refused", MAX_REFUSED);
+Example: illcanon check messages.ber | grep 'not normal'
+         illcanon check --keep-going archive/*.ber > lines.txt 2> refused.txt
+         find archive -name '*.ber' -print0 | illcanon check --files-from -
+         illcanon check --lines messages.txt | grep -n refused
+         illcanon check --keep-going --summary archive/*.ber > lines.txt
+         illcanon check --json --keep-going ./*.ber | jq -r '.refused.cause // empty'
 
-const SUMMARY_FLAG: Argument = Flag("summary", SUMMARY);
+Status: 0 all are normal; 1 one is not normal or is refused, or the hexadecimal text
+is invalid; 2 usage; 3 memory, files or pipes. Of several files: 3 if one gave 3,
+else 1 if one gave 1.";
 
-const FILES_FROM: Argument = Value("files-from", "LIST", LIST);
+const DIGEST: &str = "\
+Each message has a line: its digest, which is SHA-256 of its normal form, in hexadecimal
+digits, two blanks, the name of the file, `:` and the number of the message. Messages
+that say the same have the same digest, however they are spelled.
 
-static SHOW: [Argument; 8] = [
-    FILES_FROM,
-    Files(MESSAGES),
-    Filename,
-    KEEP_GOING_FLAG,
-    REFUSED_FILE,
-    MAX_REFUSED_NUMBER,
-    SUMMARY_FLAG,
-    Flag("json", JSON),
-];
+With --json each message has the line of `check --json`, and its digest as `digest`.
 
-/// The arguments of `check` and `digest`.
-static REPORT: [Argument; 9] = [
-    KEEP_GOING_FLAG,
-    REFUSED_FILE,
-    MAX_REFUSED_NUMBER,
-    SUMMARY_FLAG,
-    Flag("lines", LINES),
-    FILES_FROM,
-    Files(MESSAGES),
-    Filename,
-    Flag("json", RESULTS_AS_JSON),
-];
+With --keep-going each message that is refused has its line on standard error, and the
+next one is read, where the end of the refused one is known.
 
-static DUMP: [Argument; 7] = [
-    FILES_FROM,
-    Files(MESSAGES),
-    Filename,
-    KEEP_GOING_FLAG,
-    MAX_REFUSED_NUMBER,
-    Number("message", MESSAGE),
-    Flag("html", HTML),
-];
+With --refused FILE the octets of each message that is refused, and whose end is known,
+go to FILE, one message after the other. FILE is replaced as OUT of `canonicalise` is.
 
-static SAME: [Argument; 2] = [
-    File("first", "FILE", "A message; `-` is standard input"),
-    File("second", "OTHER", "Another; `-` is standard input"),
-];
+With --summary a line on standard error at the end says how many files, messages and
+octets were read, how many messages are in normal form, are not, and are refused, and
+how many files could not be opened, or were left before their end. Lines say where.
+On a terminal, a line says how far the work is, where it takes more than two seconds.
 
-static CANONICALISE: [Argument; 9] = [
-    KEEP_GOING_FLAG,
-    REFUSED_FILE,
-    MAX_REFUSED_NUMBER,
-    SUMMARY_FLAG,
-    Flag("lines", LINES),
-    Flag("whole", WHOLE),
-    Output,
-    FILES_FROM,
-    Files("IN and OUT; or with `-o OUT` the messages; `-` is standard input or output"),
-];
+With --json it is a line of JSON, the last one of the output.
 
-/// An argument as clap takes it.
-fn arg<'a>(alloc: Global, argument: Argument) -> Arg<'a>
-    ensures rule { rule_of result ≡ rule_for argument }
-    ensures local { result.global ≡ false }
-{
-    match argument {
-        Flag(name, help) => flag(alloc, name, help),
-        File(id, name, help) => file(alloc, id, name, help),
-        Files(help) => files(alloc, help),
-        Value(name, of, help) => value(alloc, name, of, help),
-        Number(name, help) => number(alloc, name, help),
-        Filename => filename(alloc),
-        Output => output(alloc),
-    }
-}
+Example: illcanon digest ./*.ber | sort | uniq -w 64 -D    # copies
+         illcanon digest --keep-going archive/*.ber > digests.txt 2> refused.txt
+         illcanon digest --lines messages.txt | paste - messages.txt
 
-/// A command as clap takes it.
-pub fn command_of<'a>(
-    alloc: Global,
-    profiles: &'a [&'a str],
-    verb: Verb,
-) -> Result<Command<'a>, AllocError>
-    ensures { IfOk result (λ c. (app_of c ≡ command_for profiles.entry verb)
-        × ((fields_of c).has_globals ≡ false)) }
-{
-    let command = by_hex(alloc, profiles, verb)?;
-    let command = with_arguments(alloc, command, arguments_of(verb))?;
-    match verb {
-        Verb::Canonicalise => Ok(command.override_usage(help::CANONICALISE_USAGE)),
-        _ => Ok(command),
-    }
-}
+Status: 0 done; 1 a message is refused, or the hexadecimal text is invalid; 2 usage;
+3 memory, files or pipes. Of several files: 3 if one gave 3, else 1 if one gave 1.";
 
-/// A command that reads hexadecimal text, too, and any of these profiles.
-fn by_hex<'a>(alloc: Global, profiles: &'a [&'a str], verb: Verb) -> Result<Command<'a>, AllocError>
-    ensures { IfOk result (λ c. (app_of c ≡ with_hex profiles.entry (verb_name verb))
-        × ((fields_of c).has_globals ≡ false)) }
-{
-    Command::new(alloc, verb.name())
-        .about(about(verb))
-        .after_help(after_help(verb))
-        .arg(flag(alloc, "hex", HEX))?
-        .arg(profile(alloc, profiles))
-}
+const DUMP: &str = "\
+Each message has the line that `check` writes, and then a line for each element as it is
+spelled: its offset in the message, its identifier and length octets, its name in the
+tables, and the value of a leaf; and in brackets what is not normal in its spelling, as
+`indefinite`, `length in 3 octets where 1 does`, `segment`, `default written`,
+`TRUE as 01` or `without inner SEQUENCE`. Where a message is refused, the elements
+before the place have their lines, and then comes the refusal: the cause in words, the
+names of the elements around the place, what was found there, and which tags were due.
+A part that ISO's module has and the profile doesn't is not wrong, and a line says so.
+The elements from the place on are listed as their identifiers and lengths give them,
+each as `(not judged)`.
 
-/// What a command does.
-fn about<'a>(verb: Verb) -> &'a str {
-    match verb {
-        Verb::Show => "Writes the messages as text",
-        Verb::Check => "Reports for each message whether it is in normal form",
-        Verb::Digest => "Writes the digest of each message, the same however it is spelled",
-        Verb::Dump => {
-            "Writes each element of the messages as it is spelled, and why one is refused"
-        }
-        Verb::Same => "Reports whether two files hold the same message, however it is spelled",
-        Verb::Canonicalise => {
-            "Writes the normal form (DER) of each message in IN, or in each FILE, to OUT"
-        }
-    }
-}
+With --keep-going each message that is refused also has its line on standard error, and
+the next one is read, where the end of the refused one is known.
 
-/// The end of the help of a command.
-fn after_help<'a>(verb: Verb) -> &'a str {
-    match verb {
-        Verb::Show => help::SHOW,
-        Verb::Check => help::CHECK,
-        Verb::Digest => help::DIGEST,
-        Verb::Dump => help::DUMP,
-        Verb::Same => help::SAME,
-        Verb::Canonicalise => help::CANONICALISE,
-    }
-}
+With --message N only message N of each FILE is written, and nothing after it is read.
+An earlier one that is refused ends the work on FILE, unless --keep-going is given.
 
-/// The arguments of a command besides `--hex` and `--profile`.
-fn arguments_of(verb: Verb) -> &'static [Argument]
-    ensures { map rule_for result.now ≡ rules_of verb }
-{
-    match verb {
-        Verb::Show => SHOW.as_slice(),
-        Verb::Check | Verb::Digest => REPORT.as_slice(),
-        Verb::Dump => DUMP.as_slice(),
-        Verb::Same => SAME.as_slice(),
-        Verb::Canonicalise => CANONICALISE.as_slice(),
-    }
-}
+With --html the lines are parts of one HTML document for all files, each element with
+the octets of its content beside it. It loads nothing, and has no script.
 
-/// The command with these arguments added.
-fn with_arguments<'a>(
-    alloc: Global,
-    command: Command<'a>,
-    arguments: &[Argument],
-) -> Result<Command<'a>, AllocError>
-    requires { (fields_of command).has_globals ≡ false }
-    ensures { IfOk result (λ c. (app_of c ≡ with_rules (app_of command.entry)
-        (map rule_for arguments.now)) × ((fields_of c).has_globals ≡ false)) }
-{
-    let mut command = command;
-    for argument in arguments {
-        command = command.arg(arg(alloc, *argument))?;
-    }
-    Ok(command)
-}
+Example: illcanon dump messages.ber
+         illcanon dump --keep-going --message 331 messages.ber
+         illcanon dump --html --keep-going messages.ber > messages.html
+         echo 740430020500 | illcanon dump --hex -
 
-/// A topic of `help`: a command that only has a help text.
-fn topic<'a>(alloc: Global, name: &'a str, text: &'a str) -> Command<'a>
-    ensures app { app_of result ≡ topic name.entry.now }
-    ensures local { (fields_of result).has_globals ≡ false }
-{
-    Command::new(alloc, name)
-        .hide(true)
-        .override_help(text)
-        .subcommand_required(true)
-        .arg_required_else_help(true)
-}
+`illcanon help causes` explains each cause, and `illcanon help profile` says what is
+read of a message in each profile.
 
-/// The program without its commands.
-fn bare_program<'a>(alloc: Global) -> Result<Command<'a>, AllocError>
-    ensures { IfOk result (λ c. app_of c ≡ bare_program) }
-{
-    let program = Command::new(alloc, "illcanon").bin_name("illcanon")?;
-    Ok(
-        program
-            .version("0.2.0")
-            .about(
-                "The canonical form of ISO interlibrary loan messages (ILL APDUs of ISO 10161-1 in BER)",
-            )
-            .after_help(help::PROGRAM)
-            .subcommand_required(true)
-            .arg_required_else_help(true),
-    )
-}
+Status: 0 done; 1 a message is refused, there is no message N, or the hexadecimal text
+is invalid; 2 usage; 3 memory, files or pipes. Of several files: 3 if one gave 3,
+else 1 if one gave 1.";
 
-/// The program with one command more.
-fn with_command<'a>(
-    program: Command<'a>,
-    command: Result<Command<'a>, AllocError>,
-) -> Result<Command<'a>, AllocError>
-    ensures { IfOk result (λ c. (a : App) → IfOk command.entry (λ command.
-        (app_of command ≡ a) × ((fields_of command).has_globals ≡ false))
-        → app_of c ≡ with_subcommand (app_of program.entry) a.top) }
-{
-    program.subcommand(command?)
-}
+const SAME: &str = "\
+Writes `same` or `different`. Each file holds one message; at most one file is `-`.
 
-/// The names of profiles.
-#[derive(Clone, Copy)]
-struct ProfileNames<'a> {
-    names: &'a [&'a str],
-}
+`same` is never wrong. With --profile module `different` may be too fine:
+`illcanon help profile` says where.
 
-/// The program with these commands.
-fn with_commands<'a>(
-    alloc: Global,
-    program: Command<'a>,
-    profiles: ProfileNames<'a>,
-    verbs: &[Verb],
-) -> Result<Command<'a>, AllocError>
-    ensures { IfOk result (λ c. app_of c
-        ≡ with_commands profiles.entry.names (app_of program.entry) verbs.now) }
-{
-    let mut program = program;
-    for verb in verbs {
-        program = with_command(program, command_of(alloc, profiles.names, *verb))?;
-    }
-    Ok(program)
-}
+Example: illcanon same sent.ber received.ber
 
-pub fn program<'a>(alloc: Global, profiles: &'a [&'a str]) -> Result<Command<'a>, AllocError>
-    ensures { IfOk result (λ c. app_of c ≡ program_of profiles.entry) }
-{
-    let names = ProfileNames { names: profiles };
-    let program = with_commands(alloc, bare_program(alloc)?, names, &Verb::ALL)?;
-    program
-        .subcommand(topic(alloc, "causes", topics::CAUSES))?
-        .subcommand(topic(alloc, "profile", topics::PROFILE))
-}
+Status: 0 same; 1 different, or a file is not one message; 2 usage; 3 memory, files
+or pipes.";
+
+const CANONICALISE: &str = "\
+OUT is replaced, whatever it held. Where a message is refused, it then holds only the
+messages before it: none if the first is refused, or if the hexadecimal text is invalid.
+With --whole OUT is replaced only if every message of every input was good; otherwise it
+stays as it was.
+
+OUT also stays as it was if the input can't be read, if the output can't be written, if
+memory runs out, or if the command is killed: where OUT is absent, or a regular file with
+one name, the output is written to a new file beside it, OUT.part, which takes the name
+OUT at the end. If the command is killed, OUT.part is left, and may be removed. If it is
+there already, OUT.part1 to OUT.part99 are tried. All other files (devices, pipes, links,
+files with several names) are written directly, and so is OUT where no new file can be
+made; a line on standard error says so if a regular file is written. --whole refuses
+them. Access control lists and extended attributes of OUT are not kept.
+
+With --hex the output has a line of hexadecimal digits for each message, and otherwise
+the octets. IN and OUT must be different files.
+
+With -o OUT the normal forms of the messages of each FILE go to OUT, one file after the
+other. A file that can't be opened doesn't stop the others, unless --whole is given. OUT
+is as it was if none can be opened. It must not be one of the files.
+
+With --keep-going each message that is refused has its line on standard error, and the
+next one is read, where the end of the refused one is known.
+
+With --refused FILE the octets of each message that is refused, and whose end is known,
+go to FILE, one message after the other. FILE is replaced as OUT of `canonicalise` is.
+
+With --summary a line on standard error at the end says how many files, messages and
+octets were read, how many messages are in normal form, are not, and are refused, and
+how many files could not be opened, or were left before their end. Lines say where.
+On a terminal, a line says how far the work is, where it takes more than two seconds.
+
+With --lines each line of OUT is the normal form of the message in this line of IN, or
+why the line is not a message, as `refused at 0: Truncated` or `hex: odd number of digits`.
+
+Example: illcanon canonicalise messages.ber messages.der
+         illcanon canonicalise --whole messages.ber messages.der
+         illcanon canonicalise --keep-going -o all.der archive/*.ber
+         illcanon canonicalise --lines messages.txt - | sort -u
+
+Status: 0 done; 1 a message is refused, or the hexadecimal text is invalid; 2 usage,
+or IN and OUT are the same file; 3 memory, files or pipes. Of several files: 3 if one
+gave 3, else 1 if one gave 1.";
+
+/// The two forms of `canonicalise`.
+pub const CANONICALISE_USAGE: &str = "\
+illcanon canonicalise [OPTIONS] <IN> <OUT>
+       illcanon canonicalise [OPTIONS] -o <OUT> <FILE>...";

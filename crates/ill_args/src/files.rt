@@ -7,11 +7,11 @@ ghost use Rattle.ill_args.specs.Refused.{HasAnyFiles};
 ghost use Rattle.ill_args.specs.code.Commands.{IsFault, IsNotOne};
 ghost use Rattle.ill_args.specs.declared.orders.Verb.{Verb};
 
-use crate::commands::{command_of, profiles};
 use crate::fault::LineFault;
 use crate::help;
 use crate::matches::{files_of, inputs_of, reads, value_of};
 use crate::orders::{Inputs, Verb};
+use crate::program::{command_of, profiles};
 use clap::error::ErrorKind;
 use clap::{ArgMatches, Error};
 use std::alloc::{AllocError, Global};

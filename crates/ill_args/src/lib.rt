@@ -9,6 +9,7 @@
 //! ```
 #![tactic(auto)]
 
+mod argument;
 mod commands;
 mod fault;
 mod files;
@@ -17,6 +18,7 @@ mod help;
 mod line;
 mod matches;
 mod orders;
+mod program;
 mod topics;
 
 pub use fault::LineFault;

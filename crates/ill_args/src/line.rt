@@ -1,11 +1,12 @@
 //! The order that the words of a command line give.
-ghost use Rattle.std.specs.Prelude.{◌≡◌, ◌≢◌, [], map, codes, Some, IfOk, IfErr};
+ghost use Rattle.std.specs.Prelude.{◌≡◌, ◌≢◌, [], map, codes, true, Some, IfOk, IfErr};
 ghost use Rattle.std.specs.String.{string_bytes};
 ghost use Rattle.clap.specs.Words.{fault_of, first_of, found_of, rows_of, subcommand_of, subcommand_rows_of};
 ghost use Rattle.ill_args.specs.CommandLine.{program};
-ghost use Rattle.ill_args.specs.Orders.{verb_of_job, verb_of_report, AreInputs, HasTwo, IsByMessage, IsOrderOf};
+ghost use Rattle.ill_args.specs.Orders.{is_set, HasTwo, IsOrderOf};
 ghost use Rattle.ill_args.specs.Refused.{IsFaultOf, IsRefusedBy};
 ghost use Rattle.ill_args.specs.code.Commands.{HasBoth, HasProfile, IsCommand, IsFault, IsOrder, IsWork};
+ghost use Rattle.ill_args.specs.declared.orders.FileJob.{FileJob};
 ghost use Rattle.ill_args.specs.declared.orders.Verb.{Verb};
 
 use crate::fault::LineFault;
@@ -14,7 +15,7 @@ use crate::flags::{check_lines, limit, messages, stops, target};
 use crate::matches::{
     is_set, matches_of, number_of, profile_of, reading_of, required, value_of, verb_of,
 };
-use crate::orders::{Elements, FileJob, Inputs, LineResults, Order, Report, Verb, Work};
+use crate::orders::{Elements, FileJob, LineResults, Order, Report, Verb, Work};
 use clap::ArgMatches;
 use std::alloc::Global;
 
@@ -63,34 +64,41 @@ fn order_by<'a>(alloc: Global, verb: Verb, words: &ArgMatches<'a>) -> Result<Ord
     ensures fault { IfErr result (IsFault verb (rows_of (found_of words.now))) }
 {
     match verb {
-        Verb::Show => Ok(Order::Each(show(alloc, words)?)),
-        Verb::Check => Ok(Order::Each(report(alloc, Report::Check, words)?)),
-        Verb::Digest => Ok(Order::Each(report(alloc, Report::Digest, words)?)),
+        Verb::Print(job) => Ok(Order::Each(print(alloc, job, words)?)),
         Verb::Dump => Ok(Order::Each(dump(alloc, words)?)),
         Verb::Same => same(words),
         Verb::Canonicalise => Ok(Order::Each(canonicalise(alloc, words)?)),
     }
 }
 
-fn show<'a>(alloc: Global, words: &ArgMatches<'a>) -> Result<Work<'a>, LineFault>
+/// The work of a command that prints what a job writes.
+fn print<'a>(alloc: Global, job: FileJob, words: &ArgMatches<'a>) -> Result<Work<'a>, LineFault>
     requires { HasProfile (rows_of (found_of words.now)) }
-    ensures order { IfOk result (IsWork Verb.Show (rows_of (found_of words.now))) }
-    ensures fault { IfErr result (IsFault Verb.Show (rows_of (found_of words.now))) }
+    ensures order { IfOk result (IsWork (Verb.Print job) (rows_of (found_of words.now))) }
+    ensures fault { IfErr result (IsFault (Verb.Print job) (rows_of (found_of words.now))) }
 {
-    let inputs = inputs(alloc, Verb::Show, words)?;
-    print(FileJob::Show, words, inputs)
+    let inputs = inputs(alloc, Verb::Print(job), words)?;
+    match job.report() {
+        Some(report) if is_set(words, "lines") => report_lines(report, words),
+        _ => Ok(Work::Print {
+            job,
+            json: is_set(words, "json"),
+            with_filename: is_set(words, "with-filename"),
+            messages: messages(words)?,
+            inputs,
+        }),
+    }
 }
 
-/// The work of `check` or `digest`.
-fn report<'a>(alloc: Global, report: Report, words: &ArgMatches<'a>) -> Result<Work<'a>, LineFault>
-    requires { HasProfile (rows_of (found_of words.now)) }
-    ensures order { IfOk result (IsWork (verb_of_report report) (rows_of (found_of words.now))) }
-    ensures fault { IfErr result (IsFault (verb_of_report report) (rows_of (found_of words.now))) }
+/// The work of a report on each line.
+fn report_lines<'a>(report: Report, words: &ArgMatches<'a>) -> Result<Work<'a>, LineFault>
+    requires profile { HasProfile (rows_of (found_of words.now)) }
+    requires lines { is_set (codes "lines") (rows_of (found_of words.now)) ≡ true }
+    ensures order { IfOk result (IsWork (Verb.Print (FileJob.Report report))
+        (rows_of (found_of words.now))) }
+    ensures fault { IfErr result (IsFault (Verb.Print (FileJob.Report report))
+        (rows_of (found_of words.now))) }
 {
-    let inputs = inputs(alloc, report.verb(), words)?;
-    if !is_set(words, "lines") {
-        return print(FileJob::Report(report), words, inputs);
-    }
     check_lines(words)?;
     let input = one_file(words)?;
     stops(words)?;
@@ -98,27 +106,6 @@ fn report<'a>(alloc: Global, report: Report, words: &ArgMatches<'a>) -> Result<W
         profile: profile_of(words),
         input,
         results: LineResults::Report(report),
-    })
-}
-
-/// The work of a job that is printed.
-fn print<'a>(
-    job: FileJob,
-    words: &ArgMatches<'a>,
-    inputs: Inputs<'a>,
-) -> Result<Work<'a>, LineFault>
-    requires profile { HasProfile (rows_of (found_of words.now)) }
-    requires by_message { IsByMessage (rows_of (found_of words.now)) job }
-    requires inputs { AreInputs (rows_of (found_of words.now)) inputs }
-    ensures order { IfOk result (IsWork (verb_of_job job) (rows_of (found_of words.now))) }
-    ensures fault { IfErr result (IsFault (verb_of_job job) (rows_of (found_of words.now))) }
-{
-    Ok(Work::Print {
-        job,
-        json: is_set(words, "json"),
-        with_filename: is_set(words, "with-filename"),
-        messages: messages(words)?,
-        inputs,
     })
 }
 

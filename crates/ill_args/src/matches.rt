@@ -3,12 +3,12 @@ ghost use Rattle.std.specs.Prelude.{◌≡◌, map, is_some, option_map, true, S
 ghost use Rattle.std.specs.String.{string_bytes};
 ghost use Rattle.clap.specs.Walk.{one_of};
 ghost use Rattle.clap.specs.Words.{FailsBy, fault_of, first_of, found_of, rows_of, subcommand_of, subcommand_rows_of};
-ghost use Rattle.ill_args.specs.CommandLine.{program};
-ghost use Rattle.ill_args.specs.Orders.{files_in, is_set, reads, verb_name, HasInputs, IsOptionNumber, IsReading, NamesProfile};
+ghost use Rattle.ill_args.specs.CommandLine.{program, verb_name};
+ghost use Rattle.ill_args.specs.Orders.{files_in, is_set, reads, HasInputs, IsOptionNumber, IsReading, NamesProfile};
 ghost use Rattle.ill_args.specs.code.Commands.{HasProfile, IsCommand, IsVerb};
 
-use crate::commands::{profiles, program};
 use crate::orders::{Inputs, Reading, Verb};
+use crate::program::{profiles, program};
 use clap::{ArgMatches, Error};
 use ill_tables::Profile;
 use std::alloc::{AllocError, Global};
@@ -27,15 +27,12 @@ pub fn verb_of(name: &str) -> Verb
     requires { IsVerb name.now }
     ensures { name.now ≡ verb_name result }
 {
-    match name {
-        "show" => Verb::Show,
-        "check" => Verb::Check,
-        "digest" => Verb::Digest,
-        "dump" => Verb::Dump,
-        "same" => Verb::Same,
-        "canonicalise" => Verb::Canonicalise,
-        _ => unreachable!(),
+    for verb in Verb::ALL {
+        if verb.name() == name {
+            return verb;
+        }
     }
+    unreachable!()
 }
 
 /// Tells whether a flag is set.

@@ -5,9 +5,8 @@ use std::alloc::{AllocError, Global};
 /// A command of the program.
 #[derive(Clone, Copy, Debug, PartialEq, Eq)]
 pub enum Verb {
-    Show,
-    Check,
-    Digest,
+    /// The command that prints what a job writes.
+    Print(FileJob),
     Dump,
     Same,
     Canonicalise,
@@ -230,46 +229,17 @@ impl<'a> Inputs<'a> {
     }
 }
 
-impl Verb {
+impl FileJob {
     ghost use Rattle.std.specs.Prelude.{◌≡◌};
-    ghost use Rattle.ill_args.specs.Orders.{verb_name};
+    ghost use Rattle.ill_args.specs.Orders.{report_of};
 
-    /// All commands.
-    pub const ALL: [Verb; 6] = [
-        Verb::Show,
-        Verb::Check,
-        Verb::Digest,
-        Verb::Dump,
-        Verb::Same,
-        Verb::Canonicalise,
-    ];
-
-    /// The word for the command.
-    pub fn name<'a>(self) -> &'a str
-        ensures { result.now ≡ verb_name self }
+    /// The report that it writes, which it can write of lines, too; None where it writes something else.
+    pub(crate) fn report(self) -> Option<Report>
+        ensures { result ≡ report_of self }
     {
         match self {
-            Verb::Show => "show",
-            Verb::Check => "check",
-            Verb::Digest => "digest",
-            Verb::Dump => "dump",
-            Verb::Same => "same",
-            Verb::Canonicalise => "canonicalise",
-        }
-    }
-}
-
-impl Report {
-    ghost use Rattle.std.specs.Prelude.{◌≡◌};
-    ghost use Rattle.ill_args.specs.Orders.{verb_of_report};
-
-    /// The command that writes it.
-    pub(crate) fn verb(self) -> Verb
-        ensures { result ≡ verb_of_report self }
-    {
-        match self {
-            Report::Check => Verb::Check,
-            Report::Digest => Verb::Digest,
+            FileJob::Show => None,
+            FileJob::Report(report) => Some(report),
         }
     }
 }

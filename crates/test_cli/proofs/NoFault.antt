@@ -3,13 +3,12 @@ use Rattle.std.proofs.Common.{◌≡◌, ◌∙◌, ◌+◌, ◌<◌, ◌⊎◌,
 use Rattle.std.specs.Prelude.{IsTrue}
 use Rattle.std.specs.Str.{bytes_eq}
 use Rattle.clap.specs.Walk.{Row, Text, first_of}
-use Rattle.ill_args.specs.Orders.{files_in, list_in, target_name, verb, verb_name, verb_of_job, verb_of_report, AreInAndOut, HasOne, HasOutput, HasWords, IsOrderOf, NamesNothing, ReadsInputTwice, ReadsOutput}
+use Rattle.ill_args.specs.CommandLine.{verb_name}
+use Rattle.ill_args.specs.Orders.{files_in, list_in, target_name, verb, AreInAndOut, HasOne, HasOutput, HasWords, IsOrderOf, NamesNothing, ReadsInputTwice, ReadsOutput}
 use Rattle.ill_args.specs.Refused.{ExceedsTwo, HasAnyFiles, HasFault, HasSameWord, IsFaultOf, LacksTwo}
 use Rattle.ill_args.specs.declared.fault.LineFault.{LineFault}
-use Rattle.ill_args.specs.declared.orders.FileJob.{FileJob}
 use Rattle.ill_args.specs.declared.orders.LineResults.{LineResults}
 use Rattle.ill_args.specs.declared.orders.Order.{Order}
-use Rattle.ill_args.specs.declared.orders.Report.{Report}
 use Rattle.ill_args.specs.declared.orders.Target.{Target}
 use Rattle.ill_args.specs.declared.orders.Verb.{Verb}
 use Rattle.ill_args.specs.declared.orders.Work.{Work}
@@ -57,14 +56,6 @@ of_plain _ rows p once some = record {
   not_many = λ f. f;
 }
 
-report_is_plain : (report : Report) → IsPlain (verb_of_report report)
-report_is_plain Report.Check = tt
-report_is_plain _ = tt
-
-job_is_plain : (job : FileJob) → IsPlain (verb_of_job job)
-job_is_plain (FileJob.Report report) = report_is_plain report
-job_is_plain _ = tt
-
 -- with `-o` there are no IN and OUT
 of_output : (rows : List Row) (output : Target) → HasOutput rows output → (ReadsInputTwice rows → ⊥) → (NamesNothing rows → ⊥) → AreSound Verb.Canonicalise rows
 of_output rows output h once some = record {
@@ -106,11 +97,11 @@ one_some : (rows : List Row) (file : Text) → HasOne rows file → NamesNothing
 one_some rows file h f = absurd (let g = sym h.0 ∙ f.0 in cc)
 
 sound : (rows : List Row) (order : Order) → HasWords rows order → AreSound (verb order) rows
-sound rows (Order.Each (Work.Print job json named messages inputs)) h = of_plain _ rows (job_is_plain job) h.4.once h.4.some
+sound rows (Order.Each (Work.Print job json named messages inputs)) h = of_plain _ rows tt h.4.once h.4.some
 sound rows (Order.Each (Work.Dump elements named inputs)) h = of_plain _ rows tt h.2.once h.2.some
 sound rows (Order.Each (Work.Write messages input output)) h = of_in_and_out rows input.now output h.2
 sound rows (Order.Each (Work.Collect messages inputs output)) h = of_output rows output h.3 h.2.once h.2.some
-sound rows (Order.Each (Work.Lines profile input (LineResults.Report report))) h = of_plain _ rows (report_is_plain report) (one_once rows input.now h.2) (one_some rows input.now h.2)
+sound rows (Order.Each (Work.Lines profile input (LineResults.Report report))) h = of_plain _ rows tt (one_once rows input.now h.2) (one_some rows input.now h.2)
 sound rows (Order.Each (Work.Lines profile input (LineResults.Write output))) h = of_in_and_out rows input.now output h.2
 sound rows (Order.Each (Work.Lines profile input (LineResults.Collect output))) h = of_output rows output h.2.1 (one_once rows input.now h.2.0) (one_some rows input.now h.2.0)
 sound rows (Order.Compare reading first second) h = record {

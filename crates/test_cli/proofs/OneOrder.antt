@@ -3,8 +3,8 @@ use Rattle.std.proofs.Common.{◌≡◌, ℕ, Bool, true, IfOk, List, [], ◌∷
 use Rattle.std.specs.Prelude.{find, if◌then◌else◌}
 use Rattle.std.specs.Str.{bytes_eq}
 use Rattle.clap.specs.Walk.{Row, Text, first_of}
-use Rattle.ill_args.specs.CommandLine.{all_verbs}
-use Rattle.ill_args.specs.Orders.{is_set, profile_name, target_name, verb, verb_name, verb_of_job, verb_of_report, verb_of_results, verb_of_work, AreElements, AreMessages, HasInputs, HasResults, HasWords, HasWork, IsByMessage, IsKeepGoing, IsLimit, IsOptionNumber, IsOrderOf, IsReading, IsTarget, NamesProfile}
+use Rattle.ill_args.specs.CommandLine.{all_verbs, profile_name, verb_name}
+use Rattle.ill_args.specs.Orders.{is_set, target_name, verb, verb_of_results, verb_of_work, AreElements, AreMessages, HasInputs, HasResults, HasWords, HasWork, IsByMessage, IsKeepGoing, IsLimit, IsOptionNumber, IsOrderOf, IsReading, IsTarget, NamesProfile}
 use Rattle.ill_tables.specs.declared.profile.Profile.{Profile}
 use Rattle.ill_args.specs.declared.fault.LineFault.{LineFault}
 use Rattle.ill_args.specs.declared.orders.Elements.{Elements}
@@ -27,7 +27,9 @@ abbrev verb_of : Text → Verb
 verb_of name = unwrap_or (find (λ v. bytes_eq name (verb_name v)) all_verbs) Verb.Same
 
 verb_again : (v : Verb) → verb_of (verb_name v) ≡ v
-verb_again Verb.Show = refl
+verb_again (Verb.Print (FileJob.Report Report.Check)) = refl
+verb_again (Verb.Print (FileJob.Report _)) = refl
+verb_again (Verb.Print _) = refl
 verb_again _ = refl
 
 pub verb_is : (v w : Verb) → verb_name v ≡ verb_name w → v ≡ w
@@ -97,22 +99,18 @@ form_of (Order.Each work) = form_of_work work
 form_of (Order.Compare reading first second) = 5
 
 abbrev form_in : Verb → Bool → Bool → ℕ
-form_in Verb.Show lines collects = 0
+form_in (Verb.Print (FileJob.Report report)) lines collects = if lines then 4 else 0
+form_in (Verb.Print _) lines collects = 0
 form_in Verb.Dump lines collects = 1
 form_in Verb.Same lines collects = 5
 form_in Verb.Canonicalise lines collects = if lines then 4 else if collects then 3 else 2
-form_in _ lines collects = if lines then 4 else 0
 
-form_of_report : (report : Report) (lines collects : Bool) → form_in (verb_of_report report) lines collects ≡ (if lines then 4 else 0)
-form_of_report Report.Check lines collects = refl
-form_of_report _ lines collects = refl
-
-form_of_job : (rows : List Row) (job : FileJob) (collects : Bool) → IsByMessage rows job → 0 ≡ form_in (verb_of_job job) (is_set (codes "lines") rows) collects
-form_of_job rows (FileJob.Report report) collects h = rw (form_of_report report, h) refl
+form_of_job : (rows : List Row) (job : FileJob) (collects : Bool) → IsByMessage rows job → 0 ≡ form_in (Verb.Print job) (is_set (codes "lines") rows) collects
+form_of_job rows (FileJob.Report report) collects h = rw h refl
 form_of_job rows _ collects h = refl
 
 form_of_results : (results : LineResults) (collects : Bool) → 4 ≡ form_in (verb_of_results results) true collects
-form_of_results (LineResults.Report report) collects = sym (form_of_report report true collects)
+form_of_results (LineResults.Report report) collects = refl
 form_of_results _ collects = refl
 
 form_is : (rows : List Row) (order : Order) → HasWords rows order → form_of order ≡ form_in (verb order) (is_set (codes "lines") rows) (is_some (first_of (codes "output") rows))
@@ -129,30 +127,6 @@ is_work _ e = absurd cc
 
 -- ---- one order
 
-abbrev report_of : Verb → Report
-report_of Verb.Check = Report.Check
-report_of _ = Report.Digest
-
-report_again : (r : Report) → report_of (verb_of_report r) ≡ r
-report_again Report.Check = refl
-report_again _ = refl
-
-abbrev job_of : Verb → FileJob
-job_of Verb.Show = FileJob.Show
-job_of v = FileJob.Report (report_of v)
-
-report_is_job : (r : Report) → job_of (verb_of_report r) ≡ FileJob.Report r
-report_is_job Report.Check = refl
-report_is_job _ = refl
-
-job_again : (job : FileJob) → job_of (verb_of_job job) ≡ job
-job_again (FileJob.Report r) = report_is_job r
-job_again _ = refl
-
-is_not_canonical : (r : Report) → verb_of_report r ≡ Verb.Canonicalise → ⊥
-is_not_canonical Report.Check e = cc
-is_not_canonical _ e = cc
-
 one_file : (files : List Text) (a b : Text) → files ≡ a ∷ [] → files ≡ b ∷ [] → a ≡ b
 one_file files a b e f = cc
 
@@ -161,11 +135,11 @@ two_files files a b c d e f = (cc, cc)
 
 one_results : (rows : List Row) (input input' : Text) (r s : LineResults) → verb_of_results r ≡ verb_of_results s → HasResults rows input r → HasResults rows input' s
     → (input ≡ input') × IsSameResults r s
-one_results rows input input' (LineResults.Report r) (LineResults.Report s) e h k = (one_file _ input input' h.0 k.0, sym (report_again r) ∙ ap report_of e ∙ report_again s)
-one_results rows input input' (LineResults.Report r) (LineResults.Write u) e h k = absurd (is_not_canonical r e)
-one_results rows input input' (LineResults.Report r) (LineResults.Collect u) e h k = absurd (is_not_canonical r e)
-one_results rows input input' (LineResults.Write t) (LineResults.Report s) e h k = absurd (is_not_canonical s (sym e))
-one_results rows input input' (LineResults.Collect t) (LineResults.Report s) e h k = absurd (is_not_canonical s (sym e))
+one_results rows input input' (LineResults.Report r) (LineResults.Report s) e h k = (one_file _ input input' h.0 k.0, cc)
+one_results rows input input' (LineResults.Report r) (LineResults.Write u) e h k = absurd cc
+one_results rows input input' (LineResults.Report r) (LineResults.Collect u) e h k = absurd cc
+one_results rows input input' (LineResults.Write t) (LineResults.Report s) e h k = absurd cc
+one_results rows input input' (LineResults.Collect t) (LineResults.Report s) e h k = absurd cc
 one_results rows input input' (LineResults.Write t) (LineResults.Write u) e h k =
     let f = two_files _ input (target_name t) input' (target_name u) h.words.0 k.words.0 in
     (f.0, one_target rows t u f.1 h.target k.target)
@@ -185,7 +159,7 @@ one_elements rows a b h k =
 
 one_work : (rows : List Row) (one other : Work) → form_of_work one ≡ form_of_work other → verb_of_work one ≡ verb_of_work other → HasWork rows one → HasWork rows other → IsSameWork one other
 one_work rows (Work.Print job json named messages inputs) (Work.Print job' json' named' messages' inputs') f e h k = (
-  sym (job_again job) ∙ ap job_of e ∙ job_again job',
+  cc,
   h.1 ∙ sym k.1,
   h.2 ∙ sym k.2,
   one_messages rows messages messages' h.3 k.3,

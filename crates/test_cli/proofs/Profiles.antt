@@ -5,7 +5,8 @@ use Rattle.clap.specs.declared.error.kind.ErrorKind.TheVariants.{ArgumentConflic
 use Rattle.clap.proofs.OnLiterals.{clap_on_literals}
 use Rattle.ill_tables.specs.declared.profile.Profile.{Profile}
 use Rattle.ill_args.specs.CommandLine.{program}
-use Rattle.ill_args.specs.Orders.{profile_name, IsOrderOf}
+use Rattle.ill_args.specs.CommandLine.{profile_name}
+use Rattle.ill_args.specs.Orders.{IsOrderOf}
 use Rattle.ill_args.specs.declared.orders.Order.{Order}
 use Rattle.test_cli.specs.Orders.{profile_of}
 use Rattle.test_cli.proofs.OneOrder.{has_profile}

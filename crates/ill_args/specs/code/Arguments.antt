@@ -1,7 +1,7 @@
 -- The arguments of a command, as clap's contracts see them.
 use Rattle.clap.specs.Walk.{Rule}
 use Rattle.ill_args.specs.CommandLine.{file_rule, filename_rule, files_rule, flag_rule, number_rule, output_rule, value_rule}
-use Rattle.ill_args.specs.declared.commands.Argument.{Argument}
+use Rattle.ill_args.specs.declared.argument.Argument.{Argument}
 
 abbrev pub rule_for : Argument → Rule
 rule_for (Argument.Flag name help) = flag_rule name.now

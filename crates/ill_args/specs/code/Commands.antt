@@ -2,8 +2,8 @@
 use Rattle.std.specs.Prelude.{◌≡◌, ◌⊎◌, true, false, List, [], ◌∷◌, map, codes, Option, Some, is_some}
 use Rattle.clap.specs.Walk.{Row, Text, first_of}
 use Rattle.ill_tables.specs.declared.profile.Profile.{Profile}
-use Rattle.ill_args.specs.CommandLine.{ProfileNames}
-use Rattle.ill_args.specs.Orders.{is_set, profile_name, verb, verb_name, verb_of_work, HasOne, HasTwo, HasWords, HasWork, NamesProfile}
+use Rattle.ill_args.specs.CommandLine.{profile_name, verb_name, ProfileNames}
+use Rattle.ill_args.specs.Orders.{is_set, verb, verb_of_work, HasOne, HasTwo, HasWords, HasWork, NamesProfile}
 use Rattle.ill_args.specs.Refused.{HasFault, IsOutOfMemory}
 use Rattle.ill_args.specs.declared.fault.LineFault.{LineFault}
 use Rattle.ill_args.specs.declared.fault.LineFault.TheVariants.{NotOneFile}

@@ -1,7 +1,7 @@
 use Rattle.std.proofs.Common.{◌∙◌}
 use Rattle.clap.specs.Simple.{app_of}
 use Rattle.ill_args.proofs.Arguments.{next_command}
-use Rattle.ill_args.proofs.commands.with_commands.Goals as goal
+use Rattle.ill_args.proofs.program.with_commands.Goals as goal
 
 pub loop-verb-preserved : goal.loop-verb-preserved
 loop-verb-preserved c =

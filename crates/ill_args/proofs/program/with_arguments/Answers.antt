@@ -2,7 +2,7 @@ use Rattle.std.proofs.Common.{◌∙◌, ◌||◌, Bool, ap, ap₂}
 use Rattle.clap.specs.Simple.{app_of, with_rule}
 use Rattle.clap.specs.Walk.{Rule}
 use Rattle.ill_args.proofs.Arguments.{next_argument}
-use Rattle.ill_args.proofs.commands.with_arguments.Goals as goal
+use Rattle.ill_args.proofs.program.with_arguments.Goals as goal
 
 pub loop-argument-preserved : goal.loop-argument-preserved
 loop-argument-preserved c =

@@ -2,7 +2,7 @@ use Rattle.std.proofs.Common.{◌≡◌, ◌∙◌, ap, ap₂}
 use Rattle.std.proofs.lemmas.Result.{IfOk-weaker}
 use Rattle.clap.specs.Simple.{App, with_subcommand}
 use Rattle.ill_args.specs.CommandLine.{all_verbs, with_commands}
-use Rattle.ill_args.proofs.commands.program.Goals as goal
+use Rattle.ill_args.proofs.program.program.Goals as goal
 
 pub returns : goal.returns
 returns c =

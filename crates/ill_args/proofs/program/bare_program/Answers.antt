@@ -1,6 +1,6 @@
 use Rattle.std.proofs.Common.{◌≡◌, ◌∙◌, ap, true, codes}
 use Rattle.clap.specs.Simple.{App, app_of, app_of_fields, new_app}
-use Rattle.ill_args.proofs.commands.bare_program.Goals as goal
+use Rattle.ill_args.proofs.program.bare_program.Goals as goal
 
 abbrev with_version : App → App
 with_version a = record a { top = record a.top { has_version = true } }
