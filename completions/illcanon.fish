@@ -1,31 +1,47 @@
-# Completion of illcanon for fish: commands, options, topics of `help`, and files.
+# Completion of illcanon for fish: commands, options, topics of `help`, and files. The program's own help says which there are.
 
-complete -c illcanon -n __fish_use_subcommand -f -s h -l help -d 'Print help'
-complete -c illcanon -n __fish_use_subcommand -f -s V -l version -d 'Print the version'
-complete -c illcanon -n __fish_use_subcommand -f -a show -d 'Write the messages as text'
-complete -c illcanon -n __fish_use_subcommand -f -a check -d 'Report for each message whether it is in normal form'
-complete -c illcanon -n __fish_use_subcommand -f -a digest -d 'Write the digest of each message'
-complete -c illcanon -n __fish_use_subcommand -f -a dump -d 'Write each element of the messages as it is spelled'
-complete -c illcanon -n __fish_use_subcommand -f -a same -d 'Report whether two files hold the same message'
-complete -c illcanon -n __fish_use_subcommand -f -a canonicalise -d 'Write the normal form of each message'
-complete -c illcanon -n __fish_use_subcommand -f -a help -d 'Print help'
+# What a help text lists under a heading, each with what it does.
+function __illcanon_listed -a heading
+    awk -v heading="$heading:" '
+        $0 == heading { listed = 1; next }
+        !NF { listed = 0 }
+        listed {
+            what = $0
+            sub(/^ *((-., )?--[a-z-]+( <[A-Z]+>)?|[a-z-]+) +/, "", what)
+            for (i = 1; i <= NF && (i == 1 || $i ~ /^-/); i++) { sub(/,$/, "", $i); print $i "\t" what }
+        }'
+end
 
-complete -c illcanon -n '__fish_seen_subcommand_from help' -f -a 'show check digest dump same canonicalise help'
-complete -c illcanon -n '__fish_seen_subcommand_from help' -f -a causes -d 'Why messages are refused'
-complete -c illcanon -n '__fish_seen_subcommand_from help' -f -a profile -d 'What is read of a message, and what is not'
+# The command among the words before; empty where there is none.
+function __illcanon_command
+    for word in (commandline -opc)[2..]
+        if not string match -q -- '-*' $word
+            echo $word
+            return
+        end
+    end
+    echo
+end
 
-complete -c illcanon -n '__fish_seen_subcommand_from show check digest dump same canonicalise' -s h -l help -d 'Print help'
-complete -c illcanon -n '__fish_seen_subcommand_from show check digest dump same canonicalise' -l hex -d 'The input is hexadecimal text'
-complete -c illcanon -n '__fish_seen_subcommand_from show check digest dump same canonicalise' -l profile -x -a '2 module' -d 'Read messages in this profile'
-complete -c illcanon -n '__fish_seen_subcommand_from show check digest dump canonicalise' -l keep-going -d 'Go on after a message that is refused'
-complete -c illcanon -n '__fish_seen_subcommand_from show check digest canonicalise' -l refused -r -F -d 'Write the octets of refused messages to this file'
-complete -c illcanon -n '__fish_seen_subcommand_from show check digest dump canonicalise' -l max-refused -x -d 'Stop after this number of refused messages'
-complete -c illcanon -n '__fish_seen_subcommand_from show check digest canonicalise' -l summary -d 'Report numbers at the end'
-complete -c illcanon -n '__fish_seen_subcommand_from show check digest' -l json -d 'Write a line of JSON for each message'
-complete -c illcanon -n '__fish_seen_subcommand_from dump' -l message -x -d 'Write this message alone'
-complete -c illcanon -n '__fish_seen_subcommand_from dump' -l html -d 'Write an HTML document'
-complete -c illcanon -n '__fish_seen_subcommand_from check digest canonicalise' -l lines -d 'Each line is a message in hexadecimal'
-complete -c illcanon -n '__fish_seen_subcommand_from show check digest dump' -s H -l with-filename -d 'Name the file in each line'
-complete -c illcanon -n '__fish_seen_subcommand_from show check digest dump canonicalise' -l files-from -r -F -d 'Read names of files, each ended by a NUL'
-complete -c illcanon -n '__fish_seen_subcommand_from canonicalise' -l whole -d 'Replace the output only if every message was good'
-complete -c illcanon -n '__fish_seen_subcommand_from canonicalise' -s o -l output -r -F -d 'Write all normal forms to one file'
+# The help text of the command, or of the program.
+function __illcanon_help
+    set -l command (__illcanon_command)
+    if test -n "$command"
+        illcanon $command --help
+    else
+        illcanon --help
+    end
+end
+
+function __illcanon_profiles
+    __illcanon_help | sed -n 's/^ *--profile .*\[possible values: \(.*\)\].*/\1/p' | string split ', '
+end
+
+function __illcanon_topics
+    illcanon --help | sed -n 's/`illcanon help \([a-z]*\)`/\n\1\n/gp' | grep -x '[a-z]*'
+end
+
+complete -c illcanon -n 'test -z (__illcanon_command)' -f -a '(illcanon --help | __illcanon_listed Commands; illcanon --help | __illcanon_listed Options)'
+complete -c illcanon -n 'test (__illcanon_command) = help' -f -a '(illcanon --help | __illcanon_listed Commands; __illcanon_topics)'
+complete -c illcanon -n 'string match -q -- "-*" (commandline -ct)' -a '(__illcanon_help | __illcanon_listed Options)'
+complete -c illcanon -n 'test -n (__illcanon_command)' -l profile -x -a '(__illcanon_profiles)'

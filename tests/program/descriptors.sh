@@ -4,6 +4,7 @@
 # built: (cd crates/illcanon && rt run -- --version). The last line is 'N passed, M failed'.
 # What is to be read of a closed standard input is a read fault, with status 3: OUT and the file of refused messages stay as they were.
 program=$(cd "$(dirname "$0")/../.." && pwd)/crates/illcanon/out/illcanon
+. "$(dirname "$0")/commands.sh"
 examples=$(cd "$(dirname "$0")/../../examples" && pwd)
 folder=$(mktemp -d) && cd "$folder" || exit 1
 passed=0 failed=0
@@ -100,7 +101,7 @@ row() {
     done
 }
 
-for command in check show digest dump 'show --json'; do
+for command in $(commands_with --with-filename) 'show --json'; do
     row $command every.ber
     row $command mixed.ber long.ber absent.ber
     row $command --files-from list
@@ -109,7 +110,7 @@ for command in check show digest dump 'show --json'; do
     row $command --hex -
     row $command --files-from -
 done
-for command in check show digest; do
+for command in $(commands_with --json); do
     row $command --keep-going --summary mixed.ber long.ber
 done
 row same long.ber long.ber

@@ -2,6 +2,7 @@
 # What the built program does where memory, room, a pipe or its input fails under it: status 3 and its line, or the message's refusal, and in
 # the output exactly what the line says. Run by hand, from anywhere, with the program built. The last line is 'N passed, M failed'.
 program=$(cd "$(dirname "$0")/../.." && pwd)/crates/illcanon/out/illcanon
+. "$(dirname "$0")/commands.sh"
 folder=$(mktemp -d) && cd "$folder" || exit 1
 passed=0 failed=0
 
@@ -110,7 +111,8 @@ stays() {
     cmp -s OLD R || { failed=$((failed + 1)) && echo "failed: $1: the file of refused messages has changed"; }
     [ ! -e R.part ] || { failed=$((failed + 1)) && rm R.part && echo "failed: $1: a new file is left"; }
 }
-for words in 'canonicalise -' 'canonicalise OUT' 'check' 'check --json' 'digest' 'digest --json' 'show' 'show --json'; do
+{ echo canonicalise - && echo canonicalise OUT && commands_with --json && commands_with --json | sed 's/$/ --json/'; } >WORDS
+while read -r words; do
     out=''
     set -- $words
     case $words in canonicalise*) out=$2 && set -- canonicalise ;; esac
@@ -138,7 +140,7 @@ for words in 'canonicalise -' 'canonicalise OUT' 'check' 'check --json' 'digest'
     "$program" "$@" $keep MIXED $out >PART 2>err
     status=$?
     [ $status = 1 ] && cat BAD BAD | cmp -s - R || { failed=$((failed + 1)) && echo "failed: refused messages: $words: status $status, or not the two"; }
-done
+done <WORDS
 # Of several files one can't be read.
 cp OLD R
 "$program" check --keep-going --refused R MIXED FOLDER >PART 2>err

@@ -3,6 +3,7 @@
 # status, standard output and standard error. Run by hand, from anywhere, with the program built:
 # (cd crates/illcanon && rt run -- --version). The last line is 'N passed, M failed'.
 program=$(cd "$(dirname "$0")/../.." && pwd)/crates/illcanon/out/illcanon
+. "$(dirname "$0")/commands.sh"
 folder=$(mktemp -d) && cd "$folder" || exit 1
 passed=0 failed=0
 
@@ -137,7 +138,7 @@ required='error: the following required arguments were not provided:\n  '
 usage='\n\nUsage: illcanon '
 help="\n\nFor more information, try '--help'.\n"
 two_forms="${usage}canonicalise [OPTIONS] <IN> <OUT>\n       illcanon canonicalise [OPTIONS] -o <OUT> <FILE>...$help"
-for command in show check digest; do
+for command in $(commands_with --json); do
     row "no-file: $command" 2 '' "$required<FILE>..., or --files-from <LIST>$usage$command [OPTIONS] [FILE]...$help" $command
 done
 row no-in 2 '' "$required<IN>\n  <OUT>$two_forms" canonicalise
@@ -155,21 +156,25 @@ row dump-of-message-0 2 '' "error: invalid value '0' for '--message <N>': 0 is n
 row dump-of-message-x 2 '' "error: invalid value 'x' for '--message <N>': invalid digit found in string$help" dump --message x F
 row check-has-no-message 2 '' any check --message 1 F
 values="\n  [possible values: 2, module]$help"
-for command in show check digest dump 'same F' 'canonicalise F'; do
-    row "no-such-profile: $command" 2 '' "error: invalid value '3' for '--profile <NAME>'$values" $command --profile 3 F
+for command in $(commands); do
+    row "no-such-profile: $command" 2 '' "error: invalid value '3' for '--profile <NAME>'$values" $(words_of $command) --profile 3 F
 done
 row profile-without-name 2 '' "error: a value is required for '--profile <NAME>' but none was supplied$values" check F --profile
 row profile-without-name-before-a-flag 2 '' "error: a value is required for '--profile <NAME>' but none was supplied$values" check --profile --hex F
 row profile-twice 2 '' "error: the argument '--profile <NAME>' cannot be used multiple times${usage}check [OPTIONS] [FILE]...$help" check --profile module --profile=2 F
 row program-has-no-profile 2 '' any --profile 2 check F
 row version 0 'illcanon 0.2.0\n' '' --version
-for words in --help 'show --help' 'check --help' 'same --help' 'canonicalise --help' 'dump --help' 'help same'; do
+while read -r words; do
     "$program" $words >out 2>err
     status=$?
     grep -q '^Example: ' out && grep -q '^Status: ' out && cp out want-out || echo no example or status >want-out
     : >want-err
     compare "help: $words" 0
-done
+done <<LINES
+--help
+help same
+$(commands | sed 's/$/ --help/')
+LINES
 
 for words in 'help causes' 'help profile'; do
     "$program" $words >out 2>err
@@ -188,15 +193,10 @@ while IFS='|' read -r words sentence; do
     case $(cat out) in "$sentence"*) cp out want-out ;; *) echo "$sentence" >want-out ;; esac
     : >want-err
     compare "first line: $words" 0
-done <<'LINES'
+done <<LINES
 help causes|Why a message is refused.
 help profile|A profile is what is read of ISO 10161-1.
-help show|
-help check|
-help digest|
-help dump|
-help same|
-help canonicalise|
+$(commands | sed 's/.*/help &|/')
 LINES
 rm ALL
 # A topic of help is no command.
@@ -719,7 +719,8 @@ row max-refused-of-many-into-one 1 '' "illcanon: MIDDLE: refused at 2 in message
 cp OLD OUT
 row max-refused-whole 1 '' "$second$one" canonicalise --whole --keep-going --max-refused 1 TWICE OUT
 kept max-refused-whole
-for command in show check digest dump 'canonicalise -o OUT'; do
+for command in $(commands_with --max-refused); do
+    [ $command != canonicalise ] || command='canonicalise -o OUT'
     row "max-refused-needs: $command" 2 '' 'illcanon: --max-refused needs --keep-going\n' $command --max-refused 1 GOOD
     for number in 0 1000001; do
         row "max-refused-$number: $command" 2 '' "error: invalid value '$number' for '--max-refused <N>': $number is not in 1..=1000000$help" $command --keep-going --max-refused $number GOOD

@@ -1,0 +1,19 @@
+# The commands of the built program, as its own help lists them, for scripts that set `program`.
+
+# commands: each command
+commands() {
+    "$program" --help | sed -n '/^Commands:/,/^$/s/^  \([a-z][a-z-]*\)  .*/\1/p' | grep -vx help
+}
+
+# commands_with OPTION: each command that has the option
+commands_with() {
+    local name
+    for name in $(commands); do
+        if "$program" "$name" --help | grep -q -- "^ .* $1\b"; then echo "$name"; fi
+    done
+}
+
+# words_of COMMAND: it, with the files that it needs besides one: IN, or the first of two
+words_of() {
+    case $1 in same | canonicalise) echo "$1 F" ;; *) echo "$1" ;; esac
+}
