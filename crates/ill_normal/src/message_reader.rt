@@ -5,7 +5,9 @@ ghost use Rattle.ill_read.specs.Answers.{ReadsNextIn};
 ghost use Rattle.ill_normal.specs.ReadMessages.{IsMessage};
 
 use ber_core::Source;
-use ill_read::{NormalForm, NormalReader, Outline, OutlineReader, OutlinedMessage, ReadFailure};
+use ill_read::{
+    NoRecorder, NormalForm, NormalReader, Outline, OutlineReader, OutlinedMessage, ReadFailure,
+};
 use ill_schema::Profile;
 use std::alloc::Global;
 use std::mem;
@@ -112,7 +114,10 @@ impl MessageReader {
                 Err(failure) => Err(failure),
             };
         }
-        match self.normal.read(profile, source, memory) {
+        match self
+            .normal
+            .read_recording(profile, source, memory, &mut NoRecorder)
+        {
             Ok(Some(read)) => Ok(Some(self.keep(read))),
             Ok(None) => Ok(None),
             Err(failure) => Err(failure),
@@ -146,7 +151,10 @@ impl MessageReader {
                 Err(failure) => Err(failure),
             };
         }
-        match self.outline.read(profile, source, memory) {
+        match self
+            .outline
+            .read_recording(profile, source, memory, &mut NoRecorder)
+        {
             Ok(Some(read)) => Ok(Some(self.keep_outlined(read))),
             Ok(None) => Ok(None),
             Err(failure) => Err(failure),

@@ -41,3 +41,4 @@ pub use normal::{NormalForm, NormalReader, decode_normal, read_normal};
 pub use outlined::{OutlineReader, OutlinedMessage, read_outline};
 pub use read::{decode, read_message};
 pub use reader::PassedElement;
+pub use recorder::{NoRecorder, Recorder};

@@ -72,7 +72,7 @@ impl NormalReader {
             (IsNormalIn (profile_of profile)) result }
         ensures few { open_count self.new.reader ≤ 32 }
     {
-        self.read_into(profile, source, buffer, &mut NoRecorder)
+        self.read_recording(profile, source, buffer, &mut NoRecorder)
     }
 
     /// Reads a normal form as [`NormalReader::read`] does, and appends the octets that the message had to `recorded`.
@@ -81,40 +81,22 @@ impl NormalReader {
     ///
     /// Those of [`read_message`](crate::read_message), in the profile; some octets may have been recorded then.
     #[inline(always)]
-    pub fn read_recording<R: Source>(
+    pub fn read_recording<R: Source, K: Recorder>(
         &mut self,
         profile: Profile,
         source: &mut R,
         buffer: Vec<u8>,
-        recorded: &mut Vec<u8>,
+        recorded: &mut K,
     ) -> Result<Option<NormalForm>, ReadFailure>
         ensures next { ReadsNextIn (profile_of profile) (R.left source.old) (R.left source.new)
             (R.is_broken source.old) (R.is_broken source.new)
             (λ n octets. IsNormalIn (profile_of profile) n octets
-            × (recorded.new.items ≡ recorded.old.items ++ octets)) result }
-        ensures few { open_count self.new.reader ≤ 32 }
-    {
-        self.read_into(profile, source, buffer, recorded)
-    }
-
-    /// Reads a normal form in the memory of `buffer`, and hands the octets that the message had to what keeps them.
-    #[inline(always)]
-    fn read_into<R: Source, K: Recorder>(
-        &mut self,
-        profile: Profile,
-        source: &mut R,
-        buffer: Vec<u8>,
-        recorder: &mut K,
-    ) -> Result<Option<NormalForm>, ReadFailure>
-        ensures next { ReadsNextIn (profile_of profile) (R.left source.old) (R.left source.new)
-            (R.is_broken source.old) (R.is_broken source.new)
-            (λ n octets. IsNormalIn (profile_of profile) n octets
-            × Appends (K.recorded recorder.old) (K.recorded recorder.new) octets) result }
+            × Appends (K.recorded recorded.old) (K.recorded recorded.new) octets) result }
         ensures few { open_count self.new.reader ≤ 32 }
     {
         self.reader
             .restart(profile, NormalFormDraft::new(self.alloc, buffer));
-        match read_draft(&mut self.reader, source, recorder) {
+        match read_draft(&mut self.reader, source, recorded) {
             Ok(Some(read)) => Ok(Some(self.normal(read))),
             Ok(None) => Ok(None),
             Err(failure) => Err(failure),

@@ -87,7 +87,7 @@ impl OutlineReader {
             (IsOutlinedIn (profile_of profile)) result }
         ensures few { open_count self.new.reader ≤ 32 }
     {
-        self.read_into(profile, source, memory, &mut NoRecorder)
+        self.read_recording(profile, source, memory, &mut NoRecorder)
     }
 
     /// Reads an outline as [`OutlineReader::read`] does, and appends the octets that the message had to `recorded`.
@@ -96,35 +96,17 @@ impl OutlineReader {
     ///
     /// Those of [`read_message`](crate::read_message), in the profile; some octets may have been recorded then.
     #[inline(always)]
-    pub fn read_recording<R: Source>(
+    pub fn read_recording<R: Source, K: Recorder>(
         &mut self,
         profile: Profile,
         source: &mut R,
         memory: OutlinedMessage,
-        recorded: &mut Vec<u8>,
+        recorded: &mut K,
     ) -> Result<Option<OutlinedMessage>, ReadFailure>
         ensures next { ReadsNextIn (profile_of profile) (R.left source.old) (R.left source.new)
             (R.is_broken source.old) (R.is_broken source.new)
             (λ o octets. IsOutlinedIn (profile_of profile) o octets
-            × (recorded.new.items ≡ recorded.old.items ++ octets)) result }
-        ensures few { open_count self.new.reader ≤ 32 }
-    {
-        self.read_into(profile, source, memory, recorded)
-    }
-
-    /// Reads an outline in the memory of another message, and hands the octets that the message had to what keeps them.
-    #[inline(always)]
-    fn read_into<R: Source, K: Recorder>(
-        &mut self,
-        profile: Profile,
-        source: &mut R,
-        memory: OutlinedMessage,
-        recorder: &mut K,
-    ) -> Result<Option<OutlinedMessage>, ReadFailure>
-        ensures next { ReadsNextIn (profile_of profile) (R.left source.old) (R.left source.new)
-            (R.is_broken source.old) (R.is_broken source.new)
-            (λ o octets. IsOutlinedIn (profile_of profile) o octets
-            × Appends (K.recorded recorder.old) (K.recorded recorder.new) octets) result }
+            × Appends (K.recorded recorded.old) (K.recorded recorded.new) octets) result }
         ensures few { open_count self.new.reader ≤ 32 }
     {
         let OutlinedMessage {
@@ -134,7 +116,7 @@ impl OutlineReader {
         } = memory;
         self.reader
             .restart(profile, OutlineDraft::new(self.alloc, outline, normal));
-        match read_draft(&mut self.reader, source, recorder) {
+        match read_draft(&mut self.reader, source, recorded) {
             Ok(Some(read)) => Ok(Some(self.outlined(read))),
             Ok(None) => Ok(None),
             Err(failure) => Err(failure),

@@ -4,8 +4,8 @@ ghost use Rattle.std.specs.Io.KnownBytes.{Appends};
 
 use std::alloc::AllocError;
 
-/// A recorder of the octets that a message is read from.
-pub(crate) trait Recorder {
+/// A recorder of the octets that a message is read from, as `Vec<u8>` is.
+pub trait Recorder {
     // The recorded octets, where it records them.
     ghost recorded: { Self → Option (List ℕ) };
 
@@ -16,7 +16,7 @@ pub(crate) trait Recorder {
 
 /// Records nothing.
 #[derive(Drop)]
-pub(crate) struct NoRecorder;
+pub struct NoRecorder;
 
 impl Recorder for NoRecorder {
     ghost recorded = { λ _. None };
