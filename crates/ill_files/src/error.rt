@@ -4,7 +4,7 @@ ghost use Rattle.ill_files.specs.Status.{is_output_lost, is_read_fault, keeps_ou
 
 use crate::count::Count;
 use crate::names::{FileName, FileNameRef};
-use crate::open_obstacle::OpenObstacle;
+use crate::opening::{NAME_NOT_TEXT, why_not_opened};
 use crate::replacement::ReplaceObstacle;
 use clap::Error as LineError;
 use clap::error::ErrorKind;
@@ -43,9 +43,9 @@ pub enum ProgramError {
     /// This number of messages is refused, and no more of them were asked for.
     #[error("stopped after {0}")]
     RefusedEnough(RefusedCount),
-    /// A file with this name can't be opened for reading or writing, for this reason.
+    /// A file with this name can't be opened for reading or writing, since the system's call failed so.
     #[error("cannot open {0}")]
-    CannotOpen(FileName, OpenObstacle),
+    CannotOpen(FileName, io::ErrorKind),
     /// No new file can be written or given this name, for this reason. The file with this name is as it was.
     #[error("cannot replace {0}: {1}")]
     CannotReplace(FileName, ReplaceObstacle),
@@ -76,16 +76,16 @@ impl ProgramError {
         }
     }
 
-    /// The file with this name can't be opened for reading or writing, for this reason.
-    pub fn cannot_open(alloc: Global, name: &str, why: OpenObstacle) -> ProgramError {
+    /// The file with this name can't be opened for reading or writing, since the system's call failed so.
+    pub fn cannot_open(alloc: Global, name: &str, kind: io::ErrorKind) -> ProgramError {
         // A word of the command line that is no UTF-8 text begins so.
-        let why = if name.starts_with('\0') {
-            OpenObstacle::NotText
+        let kind = if name.starts_with('\0') {
+            NAME_NOT_TEXT
         } else {
-            why
+            kind
         };
         match FileName::of(alloc, name) {
-            Ok(name) => ProgramError::CannotOpen(name, why),
+            Ok(name) => ProgramError::CannotOpen(name, kind),
             Err(_) => ProgramError::out_of_memory(),
         }
     }
@@ -331,23 +331,28 @@ pub fn print_error_of<R: Print + Eprint + Files>(
     error: &ProgramError,
 ) -> io::Result<()> {
     match error {
-        ProgramError::CannotOpen(name, OpenObstacle::Unknown) => {
-            eprintln!(rt; "illcanon: cannot open {name}")
-        }
-        ProgramError::CannotOpen(name, why) => eprintln!(rt; "illcanon: cannot open {name}: {why}"),
+        ProgramError::CannotOpen(name, kind) => print_unopened(rt, name, *kind),
         ProgramError::Closed => Ok(()),
         // These name the file themselves.
         ProgramError::CannotReplace(..) | ProgramError::NamesAreTaken(_) => {
             eprintln!(rt; "illcanon: {error}")
         }
         error if is_of_folder(rt, name, error) => {
-            eprintln!(rt;
-                "illcanon: cannot open {}: {}",
-                FileNameRef(name),
-                OpenObstacle::Folder
-            )
+            print_unopened(rt, &FileNameRef(name), io::ErrorKind::IsADirectory)
         }
         error => eprintln!(rt; "illcanon: {}: {error}", FileNameRef(name)),
+    }
+}
+
+/// Prints that a file can't be opened, and why, where that is known.
+fn print_unopened<R: Eprint, N: fmt::Display>(
+    rt: &R,
+    name: &N,
+    kind: io::ErrorKind,
+) -> io::Result<()> {
+    match why_not_opened(kind) {
+        Some(why) => eprintln!(rt; "illcanon: cannot open {name}: {why}"),
+        None => eprintln!(rt; "illcanon: cannot open {name}"),
     }
 }
 

@@ -3,7 +3,6 @@ ghost use Rattle.ill_files.specs.Opened.{hand_len_of, is_broken_of, left_of};
 
 use crate::error::ProgramError;
 use crate::host::Host;
-use crate::open_obstacle::OpenObstacle;
 use crate::output::{FlushBeforeRead, Output, OutputOf};
 use crate::progress::{ProgressLine, ProgressReader};
 use crate::same_file::FileId;
@@ -143,10 +142,7 @@ fn standard_input<R: Input + AllocGlobal>(rt: &R) -> Result<Box<R::Reader>, Prog
 fn open_file<R: Files + AllocGlobal>(rt: &R, name: &str) -> Result<R::File, ProgramError> {
     match fs::open(rt, name) {
         Ok(file) => Ok(file),
-        Err(error) => {
-            let why = OpenObstacle::of(error.kind());
-            Err(ProgramError::cannot_open(rt.alloc(), name, why))
-        }
+        Err(error) => Err(ProgramError::cannot_open(rt.alloc(), name, error.kind())),
     }
 }
 

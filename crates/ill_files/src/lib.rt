@@ -14,7 +14,7 @@ mod host;
 mod input;
 mod listed;
 mod names;
-mod open_obstacle;
+mod opening;
 mod output;
 mod progress;
 mod replacement;
@@ -33,7 +33,6 @@ pub use input::{
 };
 pub use listed::{input_names, list_of, text_of};
 pub use names::{FileName, FileNameRef, printable, printed, word};
-pub use open_obstacle::OpenObstacle;
 pub use output::{
     FlushBeforeRead, Output, OutputDestination, OutputOf, ToOutput, close_output, open_output,
     open_standard_output,

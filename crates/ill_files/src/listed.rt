@@ -5,7 +5,7 @@ ghost use Rattle.ill_files.specs.code.Listed.{names_in};
 use crate::error::ProgramError;
 use crate::input::read_whole;
 use crate::names::FileName;
-use crate::open_obstacle::OpenObstacle;
+use crate::opening::NAME_NOT_TEXT;
 use crate::same_file::FileId;
 use ill_args::LineFault;
 use std::alloc::{AllocError, Global};
@@ -118,7 +118,7 @@ pub fn text_of(alloc: Global, name: &[u8]) -> Result<&str, ProgramError> {
     match str::from_utf8(name) {
         Ok(text) => Ok(text),
         Err(_) => match name.to_vec(alloc) {
-            Ok(octets) => Err(ProgramError::CannotOpen(FileName(octets), OpenObstacle::NotText)),
+            Ok(octets) => Err(ProgramError::CannotOpen(FileName(octets), NAME_NOT_TEXT)),
             Err(AllocError) => Err(ProgramError::out_of_memory()),
         },
     }

@@ -4,7 +4,6 @@ ghost use Rattle.std.specs.Prelude.{◌≤◌, length, IfOk};
 use crate::error::{ProgramError, RunLine, is_output_lost, keeps_output};
 use crate::host::Host;
 use crate::names::FileNameRef;
-use crate::open_obstacle::OpenObstacle;
 use crate::replacement::{self, ReplaceMode, ReplaceObstacle, Replacement, sync_folder};
 use crate::same_file::{FileId, is_standard_output};
 use ill_inputs::{RunFault, Verdict};
@@ -307,10 +306,7 @@ fn open_directly<'r, R: Print + Eprint + Host + AllocGlobal>(
     let alloc = rt.alloc();
     let file = match fs::create(rt, name) {
         Ok(file) => file,
-        Err(error) => {
-            let why = OpenObstacle::of(error.kind());
-            return Err(ProgramError::cannot_open(alloc, name, why));
-        }
+        Err(error) => return Err(ProgramError::cannot_open(alloc, name, error.kind())),
     };
     output.open(alloc, OutputKind::File(file))?;
     if obstacle != ReplaceObstacle::NoRegularFile {

@@ -1,7 +1,6 @@
 //! A new file that is written beside the one that it replaces, so that this one is replaced or as it was.
 use crate::error::ProgramError;
 use crate::host::Host;
-use crate::open_obstacle::OpenObstacle;
 use std::alloc::{AllocError, Global};
 use std::fmt;
 use std::fs::{self, Metadata, OpenFile, OpenOptions, Permissions};
@@ -164,7 +163,7 @@ fn begin_beside<R: Host + AllocGlobal>(
     }
     let _ = fs::remove_file(rt, new.name.as_str());
     match taken_over {
-        Ok(_) => Err(ProgramError::cannot_open(alloc, name, OpenObstacle::Denied)),
+        Ok(_) => Err(ProgramError::cannot_open(alloc, name, ErrorKind::PermissionDenied)),
         Err(error) if keeps_owner(error.kind()) => {
             Ok(ReplaceMode::Direct(ReplaceObstacle::Owner))
         }

@@ -1,8 +1,9 @@
 //! The lines that the program prints where a job fails, and its statuses.
 use ill_commands::RunFault;
-use ill_files::{OpenObstacle, ProgramError, RefusedCount, RunLine, print_error_of, status_of};
+use ill_files::{ProgramError, RefusedCount, RunLine, print_error_of, status_of};
 use ill_normal::{Cause, NodeId, PartId, Refusal, Side};
 use std::alloc::{AllocError, Global};
+use std::io::ErrorKind;
 use std::test::Fail;
 use test_host::{Fake, NO_FAULTS, Start, Watch};
 
@@ -147,7 +148,7 @@ fn line_of_unknown(rt: &HostRuntime) -> Result<Vec<u8>, Fail> {
             watch: &watch,
         },
     );
-    let error = ProgramError::cannot_open(rt.alloc(), "A", OpenObstacle::Unknown);
+    let error = ProgramError::cannot_open(rt.alloc(), "A", ErrorKind::Other);
     let printed = print_error_of(&fake, b"A", &error);
     let ended = fake.ended(0);
     printed?;
