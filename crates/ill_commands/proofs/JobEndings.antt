@@ -45,11 +45,7 @@ module _ (work : JobOptions) where
     where
       plain : 0 + good_of (counts_as_good q Job.CheckJson compares) ms ≡ good_of (counts_as_good q Job.CheckJson compares) ms
       plain = omega arith
-  is_verdict Job.DigestJson compares counts ms count none goods = ap verdict_if (ap (λ (n : ℕ). n == 0) none ∙ sym (all_true ms))
-  is_verdict Job.Show compares counts ms count none goods = ap verdict_if (ap (λ (n : ℕ). n == 0) none ∙ sym (all_true ms))
-  is_verdict Job.Json compares counts ms count none goods = ap verdict_if (ap (λ (n : ℕ). n == 0) none ∙ sym (all_true ms))
-  is_verdict Job.Digest compares counts ms count none goods = ap verdict_if (ap (λ (n : ℕ). n == 0) none ∙ sym (all_true ms))
-  is_verdict Job.Canonicalise compares counts ms count none goods = ap verdict_if (ap (λ (n : ℕ). n == 0) none ∙ sym (all_true ms))
+  is_verdict _ compares counts ms count none goods = ap verdict_if (ap (λ (n : ℕ). n == 0) none ∙ sym (all_true ms))
 
   done_all : (left left' held held' : Option (List ℕ)) (counts : Counts) → PassesAll q (message_output work) (is_counted_good work) left left' held held' counts
       → Done work left left' held held' (verdict_of_counts work.job counts)

@@ -76,12 +76,7 @@ message_output work = text_by work.job work
 abbrev pub output : JobOptions → List Spelling → List ℕ
 output work ms = output_from (message_output work) first ms
 
--- whether a job asks for messages in normal form, and whether its lines are JSON
-abbrev pub is_check : Job → Bool
-is_check Job.Check = true
-is_check Job.CheckJson = true
-is_check _ = false
-
+-- whether the lines of a job are JSON
 abbrev pub is_json : Job → Bool
 is_json Job.Json = true
 is_json Job.CheckJson = true

@@ -48,14 +48,7 @@ pub struct JobOptions<'a> {
 
 impl Job {
     ghost use Rattle.std.specs.Prelude.{◌≡◌};
-    ghost use Rattle.ill_commands.specs.Output.{is_check, is_json};
-
-    /// Tells whether the job asks for messages in normal form.
-    pub fn is_check(self) -> bool
-        ensures { result ≡ is_check self }
-    {
-        matches!(self, Job::Check | Job::CheckJson)
-    }
+    ghost use Rattle.ill_commands.specs.Output.{is_json};
 
     /// Tells whether the lines of the job are JSON.
     pub fn is_json(self) -> bool

@@ -19,8 +19,7 @@ needs_of Job.Json compares = wants true true
 needs_of Job.Check compares = wants true false
 needs_of Job.CheckJson compares = wants true false
 needs_of Job.DigestJson compares = wants true false
-needs_of Job.Digest compares = wants compares false
-needs_of Job.Canonicalise compares = wants compares false
+needs_of _ compares = wants compares false
 
 -- the piece has what the job writes of the message that was read, unless memory ran out
 abbrev pub Renders : Job → JobOptions → MessagePlace → ReadMessage → Result RenderedMessage AllocError → Type 0
