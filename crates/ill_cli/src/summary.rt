@@ -98,7 +98,7 @@ impl Summary {
     }
 
     /// The number of messages.
-    fn messages(&self) -> u64
+    pub fn messages(&self) -> u64
         ensures { result ≡ messages_of self.now }
     {
         self.normal
