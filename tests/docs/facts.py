@@ -266,8 +266,13 @@ def help_texts():
 
 
 def constants(path):
-    """The texts of a file of help."""
-    return {name: text.replace('\\"', '"').replace("\\\\", "\\") for name, text in re.findall(r'^(?:pub )?const (\w+): &str =\s*"(?:\\\n)?((?:[^"\\]|\\.)*)";', read(path), re.M | re.S)}
+    """The texts of a file of help. Some have what `with_refusals` says between two texts."""
+    source, string = read(path), r'"(?:\\\n)?((?:[^"\\]|\\.)*)"'
+    said = re.search(rf"concat!\(\s*\$before,\s*{string},\s*\$after\s*\)", source)
+    found = dict(re.findall(rf"^(?:pub )?const (\w+): &str =\s*{string};", source, re.M))
+    for name, before, after in re.findall(rf"^const (\w+): &str = with_refusals!\(\s*{string},\s*{string}\s*\);", source, re.M):
+        found[name] = before + said[1] + after
+    return {name: text.replace('\\"', '"').replace("\\\\", "\\") for name, text in found.items()}
 
 
 def statuses_of_code():

@@ -1,7 +1,7 @@
 //! Arguments of commands, as clap takes them.
 ghost use Rattle.std.specs.Prelude.{◌≡◌, false};
 ghost use Rattle.clap.specs.Words.{rule_of};
-ghost use Rattle.ill_args.specs.CommandLine.{file_rule, filename_rule, files_rule, flag_rule, number_rule, output_rule, profile_rule, value_rule};
+ghost use Rattle.ill_args.specs.CommandLine.{flag_rule, profile_rule, value_rule};
 ghost use Rattle.ill_args.specs.code.Arguments.{rule_for};
 
 use clap::builder::ValueParser;
@@ -27,9 +27,11 @@ pub enum Argument {
     Files(&'static str),
     /// The option `--NAME VALUE`: its name, and that of the value in the usage.
     Value(&'static str, &'static str, &'static str),
-    /// The option `--NAME N`.
+    /// The option `--NAME N`, where N is a number from 1 to 1,000,000.
     Number(&'static str, &'static str),
+    /// The flag `-H`.
     Filename,
+    /// The option `-o OUT`.
     Output,
 }
 
@@ -48,12 +50,20 @@ pub fn arg<'a>(alloc: Global, argument: Argument) -> Arg<'a>
 {
     match argument {
         Flag(name, help) => flag(alloc, name, help),
-        File(id, name, help) => file(alloc, id, name, help),
-        Files(help) => files(alloc, help),
+        File(id, name, help) => Arg::new(alloc, id)
+            .value_name(name)
+            .required(true)
+            .help(help),
+        Files(help) => Arg::new(alloc, "file")
+            .value_name("FILE")
+            .action(ArgAction::Append)
+            .help(help),
         Value(name, of, help) => value(alloc, name, of, help),
-        Number(name, help) => number(alloc, name, help),
-        Filename => filename(alloc),
-        Output => output(alloc),
+        Number(name, help) => {
+            value(alloc, name, "N", help).value_parser(ValueParser::unsigned(1, 1_000_000))
+        }
+        Filename => flag(alloc, "with-filename", WITH_FILENAME).short('H'),
+        Output => value(alloc, "output", "OUT", OUTPUT).short('o'),
     }
 }
 
@@ -68,16 +78,6 @@ fn flag<'a>(alloc: Global, name: &'a str, help: &'a str) -> Arg<'a>
         .help(help)
 }
 
-fn file<'a>(alloc: Global, id: &'a str, name: &'a str, help: &'a str) -> Arg<'a>
-    ensures rule { rule_of result ≡ file_rule id.entry.now }
-    ensures local { result.global ≡ false }
-{
-    Arg::new(alloc, id)
-        .value_name(name)
-        .required(true)
-        .help(help)
-}
-
 /// The option `--NAME VALUE`.
 fn value<'a>(alloc: Global, name: &'a str, value: &'a str, help: &'a str) -> Arg<'a>
     ensures rule { rule_of result ≡ value_rule name.entry.now }
@@ -89,29 +89,6 @@ fn value<'a>(alloc: Global, name: &'a str, value: &'a str, help: &'a str) -> Arg
         .help(help)
 }
 
-/// The option `--NAME N`, where N is a number from 1 to 1,000,000.
-fn number<'a>(alloc: Global, name: &'a str, help: &'a str) -> Arg<'a>
-    ensures rule { rule_of result ≡ number_rule name.entry.now }
-    ensures local { result.global ≡ false }
-{
-    value(alloc, name, "N", help).value_parser(ValueParser::unsigned(1, 1_000_000))
-}
-
-/// The flag `-H`.
-fn filename<'a>(alloc: Global) -> Arg<'a>
-    ensures rule { rule_of result ≡ filename_rule }
-    ensures local { result.global ≡ false }
-{
-    flag(alloc, "with-filename", WITH_FILENAME).short('H')
-}
-
-fn output<'a>(alloc: Global) -> Arg<'a>
-    ensures rule { rule_of result ≡ output_rule }
-    ensures local { result.global ≡ false }
-{
-    value(alloc, "output", "OUT", OUTPUT).short('o')
-}
-
 /// The option `--profile NAME`, where NAME is one of these.
 pub fn profile<'a>(alloc: Global, names: &'a [&'a str]) -> Arg<'a>
     ensures rule { rule_of result ≡ profile_rule names.entry }
@@ -120,14 +97,4 @@ pub fn profile<'a>(alloc: Global, names: &'a [&'a str]) -> Arg<'a>
     value(alloc, "profile", "NAME", PROFILE)
         .value_parser(names)
         .default_value("2")
-}
-
-fn files<'a>(alloc: Global, help: &'a str) -> Arg<'a>
-    ensures rule { rule_of result ≡ files_rule }
-    ensures local { result.global ≡ false }
-{
-    Arg::new(alloc, "file")
-        .value_name("FILE")
-        .action(ArgAction::Append)
-        .help(help)
 }

@@ -7,6 +7,28 @@ use crate::argument::Argument;
 use crate::argument::Argument::{File, Filename, Files, Flag, Number, Output, Value};
 use crate::orders::{FileJob, Report, Verb};
 
+/// The end of the help of a command that can go on after refused messages: what it says of that stands between the two texts.
+macro_rules! with_refusals {
+    ($before:literal, $after:literal) => {
+        concat!(
+            $before,
+            "
+With --keep-going each message that is refused has its line on standard error, and the
+next one is read, where the end of the refused one is known.
+
+With --refused FILE the octets of each message that is refused, and whose end is known,
+go to FILE, one message after the other. FILE is replaced as OUT of `canonicalise` is.
+
+With --summary a line on standard error at the end says how many files, messages and
+octets were read, how many messages are in normal form, are not, and are refused, and
+how many files could not be opened, or were left before their end. Lines say where.
+On a terminal, a line says how far the work is, where it takes more than two seconds.
+",
+            $after
+        )
+    };
+}
+
 impl Verb {
     /// All commands.
     pub const ALL: [Verb; 6] = [
@@ -169,7 +191,8 @@ const LIST: &str = "Reads names of files from LIST, each ended by a NUL; `-` is 
 const LINES: &str =
     "Each line of the input is a message in hexadecimal, and each line of the output its result";
 
-const SHOW: &str = "\
+const SHOW: &str = with_refusals!(
+    "\
 Each message is a line `message 1 Expired` and then a line for each leaf, as
 `service-date-time.date-time-of-this-service.date = 20240229`. Of several files, the
 first line of each message begins with the name of its file and `: `.
@@ -177,27 +200,19 @@ first line of each message begins with the name of its file and `: `.
 With --json each message is one line of JSON: its number, its offset and size in octets,
 its APDU, whether it is in normal form, and its value, nested by the names of the tables.
 Of several files, the line has the name of its file as `file`.
-
-With --keep-going each message that is refused has its line on standard error, and the
-next one is read, where the end of the refused one is known.
-
-With --refused FILE the octets of each message that is refused, and whose end is known,
-go to FILE, one message after the other. FILE is replaced as OUT of `canonicalise` is.
-
-With --summary a line on standard error at the end says how many files, messages and
-octets were read, how many messages are in normal form, are not, and are refused, and
-how many files could not be opened, or were left before their end. Lines say where.
-On a terminal, a line says how far the work is, where it takes more than two seconds.
-
+",
+    "
 Example: illcanon show messages.ber
          illcanon show --keep-going messages.ber 2> refused.txt
          illcanon show --profile module messages.ber
          illcanon show --json messages.ber | jq -r .apdu | sort | uniq -c
 
 Status: 0 done; 1 a message is refused, or the hexadecimal text is invalid; 2 usage;
-3 memory, files or pipes. Of several files: 3 if one gave 3, else 1 if one gave 1.";
+3 memory, files or pipes. Of several files: 3 if one gave 3, else 1 if one gave 1."
+);
 
-const CHECK: &str = "\
+const CHECK: &str = with_refusals!(
+    "\
 Each message has a line, as `message 1: Expired, 33 octets, normal` or
 `message 2: Expired, 47 octets, not normal, normal form 33 octets`. Of several files,
 each line begins with the name of its file and `: `.
@@ -206,18 +221,8 @@ With --json each message is one line of JSON: its number, its offset and size in
 its APDU, and whether it is in normal form. A refused message has its line there, too,
 and none on standard error: the cause, its offset in the message, and whether the message
 is invalid or only `not read`: --profile module reads on there, or a limit is passed.
-
-With --keep-going each message that is refused has its line on standard error, and the
-next one is read, where the end of the refused one is known.
-
-With --refused FILE the octets of each message that is refused, and whose end is known,
-go to FILE, one message after the other. FILE is replaced as OUT of `canonicalise` is.
-
-With --summary a line on standard error at the end says how many files, messages and
-octets were read, how many messages are in normal form, are not, and are refused, and
-how many files could not be opened, or were left before their end. Lines say where.
-On a terminal, a line says how far the work is, where it takes more than two seconds.
-
+",
+    "
 With --json it is a line of JSON, the last one of the output.
 
 Example: illcanon check messages.ber | grep 'not normal'
@@ -229,26 +234,18 @@ Example: illcanon check messages.ber | grep 'not normal'
 
 Status: 0 all are normal; 1 one is not normal or is refused, or the hexadecimal text
 is invalid; 2 usage; 3 memory, files or pipes. Of several files: 3 if one gave 3,
-else 1 if one gave 1.";
+else 1 if one gave 1."
+);
 
-const DIGEST: &str = "\
+const DIGEST: &str = with_refusals!(
+    "\
 Each message has a line: its digest, which is SHA-256 of its normal form, in hexadecimal
 digits, two blanks, the name of the file, `:` and the number of the message. Messages
 that say the same have the same digest, however they are spelled.
 
 With --json each message has the line of `check --json`, and its digest as `digest`.
-
-With --keep-going each message that is refused has its line on standard error, and the
-next one is read, where the end of the refused one is known.
-
-With --refused FILE the octets of each message that is refused, and whose end is known,
-go to FILE, one message after the other. FILE is replaced as OUT of `canonicalise` is.
-
-With --summary a line on standard error at the end says how many files, messages and
-octets were read, how many messages are in normal form, are not, and are refused, and
-how many files could not be opened, or were left before their end. Lines say where.
-On a terminal, a line says how far the work is, where it takes more than two seconds.
-
+",
+    "
 With --json it is a line of JSON, the last one of the output.
 
 Example: illcanon digest ./*.ber | sort | uniq -w 64 -D    # copies
@@ -256,7 +253,8 @@ Example: illcanon digest ./*.ber | sort | uniq -w 64 -D    # copies
          illcanon digest --lines messages.txt | paste - messages.txt
 
 Status: 0 done; 1 a message is refused, or the hexadecimal text is invalid; 2 usage;
-3 memory, files or pipes. Of several files: 3 if one gave 3, else 1 if one gave 1.";
+3 memory, files or pipes. Of several files: 3 if one gave 3, else 1 if one gave 1."
+);
 
 const DUMP: &str = "\
 Each message has the line that `check` writes, and then a line for each element as it is
@@ -302,7 +300,8 @@ Example: illcanon same sent.ber received.ber
 Status: 0 same; 1 different, or a file is not one message; 2 usage; 3 memory, files
 or pipes.";
 
-const CANONICALISE: &str = "\
+const CANONICALISE: &str = with_refusals!(
+    "\
 OUT is replaced, whatever it held. Where a message is refused, it then holds only the
 messages before it: none if the first is refused, or if the hexadecimal text is invalid.
 With --whole OUT is replaced only if every message of every input was good; otherwise it
@@ -323,18 +322,8 @@ the octets. IN and OUT must be different files.
 With -o OUT the normal forms of the messages of each FILE go to OUT, one file after the
 other. A file that can't be opened doesn't stop the others, unless --whole is given. OUT
 is as it was if none can be opened. It must not be one of the files.
-
-With --keep-going each message that is refused has its line on standard error, and the
-next one is read, where the end of the refused one is known.
-
-With --refused FILE the octets of each message that is refused, and whose end is known,
-go to FILE, one message after the other. FILE is replaced as OUT of `canonicalise` is.
-
-With --summary a line on standard error at the end says how many files, messages and
-octets were read, how many messages are in normal form, are not, and are refused, and
-how many files could not be opened, or were left before their end. Lines say where.
-On a terminal, a line says how far the work is, where it takes more than two seconds.
-
+",
+    "
 With --lines each line of OUT is the normal form of the message in this line of IN, or
 why the line is not a message, as `refused at 0: Truncated` or `hex: odd number of digits`.
 
@@ -345,7 +334,8 @@ Example: illcanon canonicalise messages.ber messages.der
 
 Status: 0 done; 1 a message is refused, or the hexadecimal text is invalid; 2 usage,
 or IN and OUT are the same file; 3 memory, files or pipes. Of several files: 3 if one
-gave 3, else 1 if one gave 1.";
+gave 3, else 1 if one gave 1."
+);
 
 /// The two forms of `canonicalise`.
 pub const CANONICALISE_USAGE: &str = "\
