@@ -14,7 +14,7 @@ use crate::put::put;
 use crate::refusal::{IllcanonRefusal, report};
 use crate::status::Status;
 use crate::whole::read_whole_outline;
-use ill_json::{LineHead, json_line_as};
+use ill_json::{LineHead, json_line};
 use ill_normal::{MessagePlace, Profile};
 use ill_read::OutlinedMessage;
 use std::alloc::{AllocError, Global};
@@ -100,7 +100,7 @@ fn line(
         ≡ json_in place.number place.offset octets.now (profile_of profile) a) }
 {
     let head = head(octets, place, message);
-    json_line_as(
+    json_line(
         alloc,
         profile,
         Vec::new(alloc),

@@ -19,7 +19,7 @@ ghost use Rattle.ill_commands.specs.code.Writing.{IsCheckOf, IsWritten};
 use crate::job::{Job, JobOptions};
 use crate::result::{check_json_message, digest_json_message};
 use crate::written::{JobOutput, RenderedMessage};
-use ill_json::{LineHead, json_line_as};
+use ill_json::{LineHead, json_line};
 use ill_normal::{
     Checked, MessagePlace, ReadMessage, Wants, apdu_name_or_empty, apdu_number, normal_digest,
     put_check_words,
@@ -138,7 +138,7 @@ fn json_message(
     let is_good = is_normal(message);
     let head = head(place, message.len, is_good);
     let outline = &message.outline;
-    let line = json_line_as(alloc, work.profile, buffer, file_of(work), head, outline)?;
+    let line = json_line(alloc, work.profile, buffer, file_of(work), head, outline)?;
     Ok(RenderedMessage {
         text: JobOutput::Octets(line),
         is_good,

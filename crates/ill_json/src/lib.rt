@@ -3,7 +3,7 @@
 //! ```
 //! let head = LineHead { number: 1, offset: 0, octets: 33, is_normal: true };
 //! // {"number":1,"offset":0,"octets":33,"apdu":"Expired","normal":true,"value":{..}}
-//! let line = json_line(alloc, Vec::new(alloc), None, head, &outline)?;
+//! let line = json_line(alloc, Profile::Two, Vec::new(alloc), None, head, &outline)?;
 //! ```
 #![tactic(auto)]
 
@@ -17,5 +17,5 @@ mod value;
 mod writing;
 
 pub use ill_inputs::RefusalPlace;
-pub use line::{LineHead, json_line, json_line_as};
+pub use line::{LineHead, json_line};
 pub use result::{RefusalKind, RefusedHead, refused_line, result_line};

@@ -4,7 +4,7 @@ ghost use Rattle.json.specs.Tree.{json_tokens};
 ghost use Rattle.ill_schema.specs.Apdu.{Apdu, choice_of};
 ghost use Rattle.ill_schema.specs.Profiles.{profile_of};
 ghost use Rattle.ill_grammar.specs.Outline.{IsMarked, IsOutlineOf};
-ghost use Rattle.ill_json.specs.Json.{json_line_in, json_line_of, line_json_in};
+ghost use Rattle.ill_json.specs.Json.{json_line_in, line_json_in};
 ghost use Rattle.ill_json.specs.code.Adding.{Adds, file_tokens, head_tokens};
 
 use crate::value::put_value;
@@ -27,7 +27,7 @@ pub struct LineHead {
     pub is_normal: bool,
 }
 
-/// The line of JSON of the message that the outline is of, in the memory of `buffer`, whose octets are forgotten,
+/// The line of JSON of the message in the profile that the outline is of, in the memory of `buffer`, whose octets are forgotten,
 /// or in new memory where a character is written by its number.
 ///
 /// It ends in a line feed, and is an object of these members, in this order:
@@ -43,25 +43,6 @@ pub struct LineHead {
 /// of an ILL-String is an object of `general` or `visible`. In a string each octet is the character of
 /// its number. The line is ASCII: DEL and each character beyond ASCII is written by its number, as `\u00e9`.
 ///
-/// # Errors
-///
-/// Only out of memory.
-pub fn json_line(
-    alloc: Global,
-    buffer: Vec<u8>,
-    file: Option<&str>,
-    head: LineHead,
-    outline: &Outline,
-) -> Result<Vec<u8>, AllocError>
-    ensures { (a : Apdu) → IsOutlineOf outline.now a
-        → IfOk result (λ line. line.items ≡ json_line_of (option_map (λ name. name.now) file.entry)
-        head a) }
-{
-    json_line_as(alloc, Profile::Two, buffer, file, head, outline)
-}
-
-/// The line of JSON of a message in the profile, as [`json_line`] gives it.
-///
 /// Of what only the module profile has, a NULL is null; an OBJECT IDENTIFIER is its text, as
 /// `"1.2.840.10003.5.10"`; an OCTET STRING is an object of `octets`, in hexadecimal; a BIT STRING is an
 /// object of `bits`, their number, and `octets`; an ObjectDescriptor is a string; a foreign tree is an
@@ -75,9 +56,9 @@ pub fn json_line(
 /// # Examples
 ///
 /// ```text
-/// let line = json_line_as(alloc, Profile::Module, buffer, None, head, &outline)?;
+/// let line = json_line(alloc, Profile::Module, buffer, None, head, &outline)?;
 /// ```
-pub fn json_line_as(
+pub fn json_line(
     alloc: Global,
     profile: Profile,
     buffer: Vec<u8>,

@@ -16,7 +16,7 @@ use ill_commands::{
     Job, JobOptions, LineJob, ReportRefusals, RunFault, StreamEnd, Verdict, run_as, run_job,
     run_lines_as, run_same_as, run_with,
 };
-use ill_json::{LineHead, json_line, json_line_as};
+use ill_json::{LineHead, json_line};
 use ill_normal::{NoReports, Refusal, Side};
 use ill_read::Outline;
 use ill_schema::{Message, Profile};
@@ -70,8 +70,8 @@ fn outlines_have_one_line_of_json(
         → IfOk result (λ lines. lines.0.items ≡ lines.1.items) }
 {
     Ok((
-        json_line_as(alloc, profile, Vec::new(alloc), file, head, outline)?,
-        json_line_as(alloc, profile, Vec::new(alloc), file, head, other)?,
+        json_line(alloc, profile, Vec::new(alloc), file, head, outline)?,
+        json_line(alloc, profile, Vec::new(alloc), file, head, other)?,
     ))
 }
 
@@ -89,8 +89,15 @@ fn lines_of_json_are_of_one_apdu(
         → IfOk result (λ lines. lines.0.items ≡ lines.1.items → choice_of a ≡ choice_of b) }
 {
     Ok((
-        json_line(alloc, Vec::new(alloc), file, head, outline)?,
-        json_line(alloc, Vec::new(alloc), file, other_head, other)?,
+        json_line(alloc, Profile::Two, Vec::new(alloc), file, head, outline)?,
+        json_line(
+            alloc,
+            Profile::Two,
+            Vec::new(alloc),
+            file,
+            other_head,
+            other,
+        )?,
     ))
 }
 

@@ -1,6 +1,6 @@
 //! Lines of `json_line`, row by row.
 use ber_core::FromSlice;
-use ill_json::{LineHead, json_line, json_line_as};
+use ill_json::{LineHead, json_line};
 use ill_read::{Outline, read_outline};
 use ill_schema::Profile;
 use std::alloc::Global;
@@ -91,7 +91,7 @@ fn each_line_of_json(rt: HostRuntime) -> Result<(), Fail> {
             octets: *count,
             is_normal: *is_normal,
         };
-        let line = json_line(alloc, octets, *file, head, &outline)?;
+        let line = json_line(alloc, Profile::Two, octets, *file, head, &outline)?;
         assert!(rt; line.as_slice() == wanted.as_bytes(), "{input}");
     }
     Ok(())
@@ -109,7 +109,7 @@ fn each_line_of_json_of_the_module(rt: HostRuntime) -> Result<(), Fail> {
             octets: *count,
             is_normal: true,
         };
-        let line = json_line_as(alloc, Profile::Module, octets, None, head, &outline)?;
+        let line = json_line(alloc, Profile::Module, octets, None, head, &outline)?;
         assert!(rt; line.as_slice() == wanted.as_bytes(), "{input}");
     }
     Ok(())

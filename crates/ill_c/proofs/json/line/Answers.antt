@@ -9,4 +9,4 @@ pub returns : goal.returns
 returns c a form count outlined =
     let p = profile_of c.args.profile in
     let same = c.head-head.ensures p a form count in
-    IfOk-weaker c.json_line_as.result _ _ (λ line k. k ∙ ap (λ (head : LineHead). json_line_in p None head a) same) (c.json_line_as.ensures a outlined)
+    IfOk-weaker c.json_line.result _ _ (λ line k. k ∙ ap (λ (head : LineHead). json_line_in p None head a) same) (c.json_line.ensures a outlined)

@@ -5,7 +5,7 @@ use Rattle.ill_schema.specs.Profiles.{profile_of}
 use Rattle.ill_grammar.specs.Outline.{IsMarked}
 use Rattle.ill_json.specs.Json.{line_json_in}
 use Rattle.ill_json.proofs.Tokens.{text_of_line}
-use Rattle.ill_json.proofs.line.json_line_as.Goals as goal
+use Rattle.ill_json.proofs.line.json_line.Goals as goal
 
 pub returns : goal.returns
 returns c a h =
