@@ -106,18 +106,15 @@ impl MessageReader {
         } = &mut self.message;
         let memory = mem::replace(normal, Vec::new(self.alloc));
         spelled.clear();
+        let reader = &mut self.normal;
         if wants.spelled {
-            let reader = &mut self.normal;
             return match reader.read_recording(profile, source, memory, spelled) {
                 Ok(Some(read)) => Ok(Some(self.keep(read))),
                 Ok(None) => Ok(None),
                 Err(failure) => Err(failure),
             };
         }
-        match self
-            .normal
-            .read_recording(profile, source, memory, &mut NoRecorder)
-        {
+        match reader.read_recording(profile, source, memory, &mut NoRecorder) {
             Ok(Some(read)) => Ok(Some(self.keep(read))),
             Ok(None) => Ok(None),
             Err(failure) => Err(failure),
@@ -143,18 +140,15 @@ impl MessageReader {
         };
         let spelled = &mut self.message.spelled;
         spelled.clear();
+        let reader = &mut self.outline;
         if wants.spelled {
-            let reader = &mut self.outline;
             return match reader.read_recording(profile, source, memory, spelled) {
                 Ok(Some(read)) => Ok(Some(self.keep_outlined(read))),
                 Ok(None) => Ok(None),
                 Err(failure) => Err(failure),
             };
         }
-        match self
-            .outline
-            .read_recording(profile, source, memory, &mut NoRecorder)
-        {
+        match reader.read_recording(profile, source, memory, &mut NoRecorder) {
             Ok(Some(read)) => Ok(Some(self.keep_outlined(read))),
             Ok(None) => Ok(None),
             Err(failure) => Err(failure),

@@ -31,7 +31,7 @@ pub struct OutlinedMessage {
 ///
 /// ```text
 /// let mut reader = OutlineReader::new(alloc);
-/// while let Some(read) = reader.read(Profile::Two, source, memory)? {
+/// while let Some(read) = reader.read_recording(Profile::Two, source, memory, &mut octets)? {
 ///     show(read.outline.marks())?;
 ///     memory = read;
 /// }
@@ -71,26 +71,7 @@ impl OutlineReader {
 
     /// Reads the outline of the message in the profile at the front of what is left, in the memory of another message, which is forgotten. What
     /// was read before makes no difference. An outline takes two to four octets of memory for each octet of most messages.
-    ///
-    /// # Errors
-    ///
-    /// Those of [`read_message`](crate::read_message), in the profile.
-    #[inline(always)]
-    pub fn read<R: Source>(
-        &mut self,
-        profile: Profile,
-        source: &mut R,
-        memory: OutlinedMessage,
-    ) -> Result<Option<OutlinedMessage>, ReadFailure>
-        ensures next { ReadsNextIn (profile_of profile) (R.left source.old) (R.left source.new)
-            (R.is_broken source.old) (R.is_broken source.new)
-            (IsOutlinedIn (profile_of profile)) result }
-        ensures few { open_count self.new.reader ≤ 32 }
-    {
-        self.read_recording(profile, source, memory, &mut NoRecorder)
-    }
-
-    /// Reads an outline as [`OutlineReader::read`] does, and appends the octets that the message had to `recorded`.
+    /// The octets that the message had are appended to `recorded`.
     ///
     /// # Errors
     ///
@@ -158,5 +139,6 @@ pub fn read_outline<R: Source>(
         (R.is_broken source.old) (R.is_broken source.new)
         (IsOutlinedIn (profile_of profile)) result }
 {
-    OutlineReader::new(alloc).read(profile, source, OutlinedMessage::empty(alloc))
+    let memory = OutlinedMessage::empty(alloc);
+    OutlineReader::new(alloc).read_recording(profile, source, memory, &mut NoRecorder)
 }
