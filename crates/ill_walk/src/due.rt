@@ -3,16 +3,9 @@ use crate::label::{Label, label_of, put_tag};
 use crate::lines::LineBuffer;
 use crate::walk::ElementWalk;
 use ber_core::{Class, Id};
-use ill_grammar::{ElementType, Place};
+use ill_grammar::{DueElement, ElementType, Place};
 use ill_schema::{Kind, kind};
 use std::alloc::{AllocError, Global};
-
-/// The tags that are tried where it is said what is due: class, first and last number. The tables have no others.
-const TAGS_TRIED: [(Class, u32, u32); 3] = [
-    (Class::Universal, 1, 30),
-    (Class::Application, 0, 30),
-    (Class::Context, 0, 60),
-];
 
 /// One of the things that are due at a place.
 #[derive(Clone, Copy)]
@@ -67,11 +60,11 @@ pub fn due_after(alloc: Global, walk: &ElementWalk) -> Result<Vec<Due>, AllocErr
         due.push(Due::Any)?;
         return Ok(due);
     }
-    for (class, low, high) in TAGS_TRIED {
-        for number in low..=high {
-            if let Some(found) = due_of_tag(walk, Id::new(class, true, number)) {
-                due.push(found)?;
-            }
+    let mut elements = place.due_elements(alloc)?;
+    elements.sort_by_key(|element| (class_rank(element.class), element.number))?;
+    for element in &elements {
+        if let Some(found) = due_of(walk, *element) {
+            due.push(found)?;
         }
     }
     if walk.is_inside() && !place.is_missing() {
@@ -85,15 +78,28 @@ pub fn is_foreign(place: Place) -> bool {
     kind(place.node()) == Kind::Any
 }
 
-/// The element that is due with a tag, if one is.
-fn due_of_tag(walk: &ElementWalk, id: Option<Id>) -> Option<Due> {
-    let id = id?;
-    let place = walk.place();
-    let found = place.find(id)?;
-    let label = label_of(found, id, place.node(), walk.items());
+/// The rank of a class in the order of tags: that of X.690, 8.1.2.2, table 1.
+fn class_rank(class: Class) -> u8 {
+    match class {
+        Class::Universal => 0,
+        Class::Application => 1,
+        Class::Context => 2,
+        Class::Private => 3,
+    }
+}
+
+/// An element that is due, with its name.
+fn due_of(walk: &ElementWalk, element: DueElement) -> Option<Due> {
+    let DueElement {
+        class,
+        number,
+        found,
+    } = element;
+    let id = Id::new(class, true, number)?;
+    let label = label_of(found, id, walk.place().node(), walk.items());
     Some(if found.element_type() == ElementType::LeftOut {
-        Due::LeftOut(id.class(), id.number(), label)
+        Due::LeftOut(class, number, label)
     } else {
-        Due::Element(id.class(), id.number(), label)
+        Due::Element(class, number, label)
     })
 }

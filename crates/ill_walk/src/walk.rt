@@ -1,13 +1,13 @@
 //! Goes through a message from element to element, and makes a line of each.
-use crate::found::{ElementStart, read_start};
+use crate::found::read_start;
 use crate::label::{Label, label_of};
 use crate::lines::LineBuffer;
 use crate::note::DerNotes;
 use crate::value::{has_unused_bits_set, put_leaf, put_module_leaf};
-use ber_core::{Header, Len};
+use ber_core::{Header, Len, identifier_size};
 use ill_grammar::{Element, Found, Frames, Place};
 use ill_read::{ElementReader, LeafType};
-use ill_schema::Profile;
+use ill_schema::{NodeId, PartId, Profile};
 use std::alloc::{AllocError, Global};
 
 /// An element that is open, beside its frame.
@@ -35,10 +35,21 @@ pub struct ElementWalk {
     stop: usize,
 }
 
+/// Where the next element begins: its offset, the node round it, and the number of elements before it there.
+#[derive(Clone, Copy)]
+struct ElementPlace {
+    at: usize,
+    parent: NodeId,
+    items: usize,
+}
+
 /// An element with a whole header.
 #[derive(Clone, Copy)]
 struct WalkedElement {
-    found: Found,
+    /// The offset of its first octet.
+    at: usize,
+    element: Element,
+    part: PartId,
     header: Header,
     label: Label,
     /// The number of octets that its identifier has, and its whole header.
@@ -156,30 +167,77 @@ impl ElementWalk {
         Ok(true)
     }
 
-    /// The element that a header begins, if one is due.
-    fn element(&self, begun: ElementStart) -> Option<WalkedElement> {
-        let (id, id_size) = begun.id?;
-        let header = begun.header?;
-        let place = self.place();
-        let found = place.find(id)?;
-        Some(WalkedElement {
-            found,
-            header,
-            label: label_of(found, id, place.node(), self.items()),
-            id_size,
-            size: begun.size,
-        })
+    /// Where the next element begins.
+    fn next_place(&self) -> ElementPlace {
+        ElementPlace {
+            at: self.offset(),
+            parent: self.place().node(),
+            items: self.items(),
+        }
+    }
+
+    /// The line of the next element, which is passed or opened, if one is due. Returns whether another line may follow.
+    fn next_element(
+        &mut self,
+        octets: &[u8],
+        rest: &[u8],
+        lines: &mut LineBuffer,
+    ) -> Result<bool, AllocError> {
+        let place = self.next_place();
+        let depth = self.frames().depth();
+        let Some(passed) = self.reader.pass(rest) else {
+            return self.cut_element(octets, rest, lines);
+        };
+        let size = passed.header_size as usize;
+        let element = WalkedElement::new(place, passed.found, passed.header, size);
+        self.count_item();
+        self.put_element(&element, octets, rest, lines)?;
+        if self.frames().depth() > depth {
+            self.open.push(OpenElement {
+                label: element.label,
+                items: 0,
+            })?;
+        }
+        Ok(true)
+    }
+
+    /// The line of an element that is due, and is not passed since the octets end before it does. No other line follows.
+    fn cut_element(
+        &mut self,
+        octets: &[u8],
+        rest: &[u8],
+        lines: &mut LineBuffer,
+    ) -> Result<bool, AllocError> {
+        let begun = read_start(rest);
+        let Some(header) = begun.header else {
+            return Ok(false);
+        };
+        let Some(found) = self.place().find(header.id) else {
+            return Ok(false);
+        };
+        let element = WalkedElement::new(self.next_place(), found, header, begun.size);
+        self.count_item();
+        self.put_element(&element, octets, rest, lines)?;
+        Ok(false)
+    }
+
+    /// Counts an element of the innermost one.
+    fn count_item(&mut self) {
+        let last = self.open.len().saturating_sub(1);
+        if let Some(open) = self.open.get_mut(last) {
+            open.items = open.items.saturating_add(1);
+        }
     }
 
     fn put_element(
         &self,
-        element: WalkedElement,
+        element: &WalkedElement,
         octets: &[u8],
         rest: &[u8],
         lines: &mut LineBuffer,
     ) -> Result<(), AllocError> {
         let is_round = element.header.id.constructed();
-        lines.begin_element(self.offset(), self.open.len(), is_round)?;
+        lines.begin_element(element.at, self.open.len(), is_round)?;
         let header = rest.get(..element.size).unwrap_or(&[]);
         let (id, len) = header.split_at(element.id_size.min(header.len()));
         lines.header(element.header.id.class(), id, len)?;
@@ -203,12 +261,12 @@ impl ElementWalk {
 
     fn put_constructed(
         &self,
-        element: WalkedElement,
+        element: &WalkedElement,
         octets: &[u8],
         lines: &mut LineBuffer,
         notes: &mut DerNotes,
     ) -> Result<(), AllocError> {
-        match Element::of(element.found) {
+        match element.element {
             Element::Segment | Element::BitSegment => notes.note(lines, "segment"),
             Element::LooseWrapper(_) if self.is_bare(element, octets) => {
                 notes.note(lines, "without inner SEQUENCE")
@@ -221,11 +279,11 @@ impl ElementWalk {
     }
 
     /// Tells whether a wrapper has no SEQUENCE in it.
-    fn is_bare(&self, element: WalkedElement, octets: &[u8]) -> bool {
+    fn is_bare(&self, element: &WalkedElement, octets: &[u8]) -> bool {
         if element.header.len == Len::Definite(0) {
             return true;
         }
-        let next = self.offset().saturating_add(element.size);
+        let next = element.at.saturating_add(element.size);
         match octets.get(next) {
             Some(octet) => next < self.stop && *octet != 0x30,
             None => false,
@@ -234,7 +292,7 @@ impl ElementWalk {
 
     fn put_primitive(
         &self,
-        walked: WalkedElement,
+        walked: &WalkedElement,
         rest: &[u8],
         lines: &mut LineBuffer,
         notes: &mut DerNotes,
@@ -246,11 +304,9 @@ impl ElementWalk {
         };
         lines.text(" = ")?;
         lines.tags("<span class=\"value\">")?;
-        let element = Element::of(walked.found);
+        let element = walked.element;
         let is_default = match element {
-            Element::Leaf(leaf) => {
-                put_leaf(lines, self.alloc, leaf, walked.found.part(), content)?
-            }
+            Element::Leaf(leaf) => put_leaf(lines, self.alloc, leaf, walked.part, content)?,
             _ => {
                 put_module_leaf(lines, self.alloc, element, content)?;
                 false
@@ -273,25 +329,6 @@ impl ElementWalk {
         }
         Ok(())
     }
-
-    /// Moves past a primitive element, or into a constructed one. Returns whether the octets reach that far.
-    fn move_past(&mut self, element: WalkedElement, rest: &[u8]) -> Result<bool, AllocError> {
-        let last = self.open.len().saturating_sub(1);
-        if let Some(open) = self.open.get_mut(last) {
-            open.items = open.items.saturating_add(1);
-        }
-        let depth = self.frames().depth();
-        if self.reader.step(rest).is_none() {
-            return Ok(false);
-        }
-        if self.frames().depth() > depth {
-            self.open.push(OpenElement {
-                label: element.label,
-                items: 0,
-            })?;
-        }
-        Ok(true)
-    }
 }
 
 impl Steps for ElementWalk {
@@ -307,17 +344,26 @@ impl Steps for ElementWalk {
         if self.frames().awaits_end_mark() && matches!(rest, [0, 0, ..]) {
             return self.end_mark(rest, lines);
         }
-        let Some(element) = self.element(read_start(rest)) else {
-            return Ok(false);
-        };
-        self.put_element(element, octets, rest, lines)?;
-        self.move_past(element, rest)
+        self.next_element(octets, rest, lines)
     }
 }
 
 impl WalkedElement {
+    /// What begins at a place with a header of this size.
+    fn new(place: ElementPlace, found: Found, header: Header, size: usize) -> WalkedElement {
+        WalkedElement {
+            at: place.at,
+            element: Element::of(found),
+            part: found.part(),
+            header,
+            label: label_of(found, header.id, place.parent, place.items),
+            id_size: identifier_size(header.id.number()),
+            size,
+        }
+    }
+
     /// The number of octets that it has, or its header where its length is indefinite.
-    fn end(self) -> usize {
+    fn end(&self) -> usize {
         match self.header.len {
             Len::Definite(size) => self.size.saturating_add(size as usize),
             Len::Indefinite => self.size,
