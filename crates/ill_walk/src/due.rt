@@ -90,11 +90,7 @@ fn class_rank(class: Class) -> u8 {
 
 /// An element that is due, with its name.
 fn due_of(walk: &ElementWalk, element: DueElement) -> Option<Due> {
-    let DueElement {
-        class,
-        number,
-        found,
-    } = element;
+    let (class, number, found) = (element.class, element.number, element.found);
     let id = Id::new(class, true, number)?;
     let label = label_of(found, id, walk.place().node(), walk.items());
     Some(if found.element_type() == ElementType::LeftOut {

@@ -7,7 +7,6 @@
 //! ```
 #![tactic(auto)]
 
-mod cause;
 mod document;
 mod due;
 mod found;

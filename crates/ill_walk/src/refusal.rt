@@ -1,5 +1,4 @@
 //! A refusal in words: its cause, where it is, what was found there, and what was due.
-use crate::cause::put_refusal;
 use crate::due::{Due, is_foreign};
 use crate::found::read_start;
 use crate::lines::LineBuffer;
@@ -35,6 +34,23 @@ pub fn put_refusal_lines(
         put_place(alloc, lines, walk, octets, refusal)?;
     }
     lines.tags("</div>")
+}
+
+/// `refused at`, the offset, and the cause with the part that it is about.
+fn put_refusal(lines: &mut LineBuffer, refusal: Refusal) -> Result<(), AllocError> {
+    lines.tags("<b>")?;
+    lines.text("refused at ")?;
+    lines.number(i64::from(refusal.at))?;
+    lines.text(": ")?;
+    lines.text(refusal.cause.name())?;
+    if let Some((node, row)) = refusal.cause.part_name() {
+        lines.text(" ")?;
+        lines.text(node)?;
+        lines.text(".")?;
+        lines.text(row)?;
+    }
+    lines.tags("</b>")?;
+    lines.text("\n")
 }
 
 /// The lines for the place of a refusal, and for what is there.

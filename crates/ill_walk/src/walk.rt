@@ -82,10 +82,7 @@ impl ElementWalk {
     pub fn ends(&self) -> Result<Vec<Option<usize>>, AllocError> {
         let mut ends = Vec::new(self.alloc);
         for frame in self.frames().open.as_slice() {
-            ends.push(match frame.end {
-                Some(end) => Some(end as usize),
-                None => None,
-            })?;
+            ends.push(frame.end.map(|end| end as usize))?;
         }
         Ok(ends)
     }
@@ -176,7 +173,8 @@ impl ElementWalk {
         }
     }
 
-    /// The line of the next element, which is passed or opened, if one is due. Returns whether another line may follow.
+    /// The line of the next element, which is passed or opened, if one is due; or of one that the octets end before, and no other line follows.
+    /// Returns whether another line may follow.
     fn next_element(
         &mut self,
         octets: &[u8],
@@ -185,12 +183,18 @@ impl ElementWalk {
     ) -> Result<bool, AllocError> {
         let place = self.next_place();
         let depth = self.frames().depth();
-        let Some(passed) = self.reader.pass(rest) else {
-            return self.cut_element(octets, rest, lines);
+        let passed = self.reader.pass(rest);
+        let Some((found, header, size)) = (match passed {
+            Some(passed) => Some((passed.found, passed.header, passed.header_size as usize)),
+            None => self.cut_element(rest),
+        }) else {
+            return Ok(false);
         };
-        let size = passed.header_size as usize;
-        let element = WalkedElement::new(place, passed.found, passed.header, size);
-        self.count_item();
+        let element = WalkedElement::new(place, found, header, size);
+        let last = self.open.len().saturating_sub(1);
+        if let Some(open) = self.open.get_mut(last) {
+            open.items = open.items.saturating_add(1);
+        }
         self.put_element(&element, octets, rest, lines)?;
         if self.frames().depth() > depth {
             self.open.push(OpenElement {
@@ -198,35 +202,14 @@ impl ElementWalk {
                 items: 0,
             })?;
         }
-        Ok(true)
+        Ok(passed.is_some())
     }
 
-    /// The line of an element that is due, and is not passed since the octets end before it does. No other line follows.
-    fn cut_element(
-        &mut self,
-        octets: &[u8],
-        rest: &[u8],
-        lines: &mut LineBuffer,
-    ) -> Result<bool, AllocError> {
+    /// An element that is due, with its header and the size of that, where the octets end before the element does.
+    fn cut_element(&self, rest: &[u8]) -> Option<(Found, Header, usize)> {
         let begun = read_start(rest);
-        let Some(header) = begun.header else {
-            return Ok(false);
-        };
-        let Some(found) = self.place().find(header.id) else {
-            return Ok(false);
-        };
-        let element = WalkedElement::new(self.next_place(), found, header, begun.size);
-        self.count_item();
-        self.put_element(&element, octets, rest, lines)?;
-        Ok(false)
-    }
-
-    /// Counts an element of the innermost one.
-    fn count_item(&mut self) {
-        let last = self.open.len().saturating_sub(1);
-        if let Some(open) = self.open.get_mut(last) {
-            open.items = open.items.saturating_add(1);
-        }
+        let header = begun.header?;
+        Some((self.place().find(header.id)?, header, begun.size))
     }
 
     fn put_element(

@@ -1,5 +1,4 @@
 //! The place of a refusal in words, for lines of JSON.
-use crate::due::Due;
 use crate::lines::LineBuffer;
 use crate::markup::DumpFormat;
 use crate::refused_place::RefusedPlace;
@@ -38,50 +37,21 @@ pub fn place_of_refusal(
     let mut lines = LineBuffer::new(alloc, DumpFormat::Text);
     let mut walk = ElementWalk::new(alloc, profile, refusal.at as usize);
     walk_all(&mut walk, octets, &mut lines)?;
-    words_of(
-        alloc,
-        &RefusedPlace::new(&walk, octets, refusal),
-        refusal.cause,
-        &mut lines,
-    )
-}
-
-fn words_of(
-    alloc: Global,
-    place: &RefusedPlace<'_>,
-    cause: Cause,
-    lines: &mut LineBuffer,
-) -> Result<RefusalPlace, AllocError> {
-    let _ = place.put_path(lines)?;
-    let path = take_text(alloc, lines)?;
-    let found = text_found(alloc, place, lines)?;
-    let due = texts_due(alloc, place, cause, lines)?;
-    Ok(RefusalPlace { path, found, due })
-}
-
-/// The words for the element that was found.
-fn text_found(
-    alloc: Global,
-    place: &RefusedPlace<'_>,
-    lines: &mut LineBuffer,
-) -> Result<String, AllocError> {
-    place.put_found(lines)?;
-    take_text(alloc, lines)
-}
-
-/// The text of each thing that was due, and of the element with its other form, where the form is wrong.
-fn texts_due(
-    alloc: Global,
-    place: &RefusedPlace<'_>,
-    cause: Cause,
-    lines: &mut LineBuffer,
-) -> Result<Vec<String>, AllocError> {
-    let mut texts = texts_of(alloc, &place.due(alloc)?, lines)?;
-    if cause == Cause::WrongForm {
-        place.put_other_form(lines)?;
-        texts.push(take_text(alloc, lines)?)?;
+    let place = RefusedPlace::new(&walk, octets, refusal);
+    let _ = place.put_path(&mut lines)?;
+    let path = take_text(alloc, &mut lines)?;
+    place.put_found(&mut lines)?;
+    let found = take_text(alloc, &mut lines)?;
+    let mut due = Vec::new(alloc);
+    for one in place.due(alloc)? {
+        one.put(&mut lines)?;
+        due.push(take_text(alloc, &mut lines)?)?;
     }
-    Ok(texts)
+    if refusal.cause == Cause::WrongForm {
+        place.put_other_form(&mut lines)?;
+        due.push(take_text(alloc, &mut lines)?)?;
+    }
+    Ok(RefusalPlace { path, found, due })
 }
 
 /// Walks through the elements, and forgets their lines.
@@ -98,16 +68,6 @@ fn walk_all(
         }
     }
     Ok(())
-}
-
-/// The text of each thing that is due.
-fn texts_of(alloc: Global, due: &[Due], lines: &mut LineBuffer) -> Result<Vec<String>, AllocError> {
-    let mut texts = Vec::new(alloc);
-    for due in due {
-        due.put(lines)?;
-        texts.push(take_text(alloc, lines)?)?;
-    }
-    Ok(texts)
 }
 
 /// The text that was made, which is forgotten.
