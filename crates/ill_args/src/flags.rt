@@ -102,10 +102,7 @@ pub fn limit(words: &ArgMatches<'_>) -> Result<Option<Limit>, LineFault>
     ensures limit { IfOk result (IsLimit (rows_of (found_of words.now))) }
     ensures fault { IfErr result (HasFlagFault (rows_of (found_of words.now))) }
 {
-    match keep_going(words)? {
-        Some(going) => Ok(Some(going.limit)),
-        None => Ok(None),
-    }
+    Ok(keep_going(words)?.map(|going| going.limit))
 }
 
 /// Tells whether the file of refused messages is standard output or another file of the command.

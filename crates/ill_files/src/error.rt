@@ -149,9 +149,7 @@ pub struct RefusedCount(pub u32);
 
 impl fmt::Display for RefusedCount {
     fn fmt<W: fmt::Write>(&self, f: &mut fmt::Formatter<W>) -> fmt::Result {
-        let RefusedCount(count) = *self;
-        let count = Count(u64::from(count), "refused message");
-        write!(f, "{count}")
+        write!(f, "{}", Count(u64::from(self.0), "refused message"))
     }
 }
 
@@ -161,8 +159,7 @@ pub struct RunLine(pub RunFault);
 
 impl fmt::Display for RunLine {
     fn fmt<W: fmt::Write>(&self, f: &mut fmt::Formatter<W>) -> fmt::Result {
-        let RunLine(fault) = *self;
-        match fault {
+        match self.0 {
             RunFault::Refused {
                 message,
                 refusal: Refusal { at, cause },
@@ -196,9 +193,8 @@ pub struct CauseName(pub Cause);
 
 impl fmt::Display for CauseName {
     fn fmt<W: fmt::Write>(&self, f: &mut fmt::Formatter<W>) -> fmt::Result {
-        let CauseName(cause) = *self;
-        let name = cause.name();
-        match cause.part_name() {
+        let name = self.0.name();
+        match self.0.part_name() {
             Some((node, row)) => write!(f, "{name} {node}.{row}"),
             None => f.write_str(name),
         }
@@ -366,10 +362,7 @@ pub fn is_of_folder<R: Files>(rt: &R, name: &[u8], error: &ProgramError) -> bool
     let Ok(name) = str::from_utf8(name) else {
         return false;
     };
-    match fs::metadata(rt, name) {
-        Ok(found) => found.is_dir(),
-        Err(_) => false,
-    }
+    fs::metadata(rt, name).is_ok_and(|found| found.is_dir())
 }
 
 /// Prints clap's text as it is, and any other error as one line on standard error.

@@ -385,8 +385,7 @@ fn is_still_named<'r, R: Print + Host + AllocGlobal>(
     name: &str,
 ) -> io::Result<bool> {
     let named = fs::symlink_metadata(rt, name)?;
-    match output.file_id() {
-        Some(file) => Ok(FileId::of(Ok(named)) == Some(file)),
-        None => Err(io::Error::from(ErrorKind::Other)),
-    }
+    let file = output.file_id();
+    let file = file.ok_or(io::Error::from(ErrorKind::Other))?;
+    Ok(FileId::of(Ok(named)) == Some(file))
 }

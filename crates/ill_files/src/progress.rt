@@ -49,18 +49,12 @@ impl ProgressLine {
         if !rt.is_terminal() {
             return ProgressLine::none();
         }
-        match Instant::now(rt) {
-            Ok(now) => ProgressLine::due_after(Some(now)),
-            Err(_) => ProgressLine::none(),
-        }
+        ProgressLine::due_after(Instant::now(rt).ok())
     }
 
     /// Shows a line some time after the work began, if that is known.
     fn due_after(since: Option<Instant>) -> ProgressLine {
-        let due = match since {
-            Some(since) => since.checked_add(Duration::from_millis(SHOW_AFTER)),
-            None => None,
-        };
+        let due = since.and_then(|since| since.checked_add(Duration::from_millis(SHOW_AFTER)));
         ProgressLine {
             state: Cell::new(State {
                 files: 0,
@@ -207,10 +201,8 @@ fn file_len<R: Files>(rt: &R, name: &[u8]) -> Option<u64> {
 
 /// The time in this number of milliseconds; None where the clock can't be read.
 fn time_in<R: Host>(rt: &R, milliseconds: u64) -> Option<Instant> {
-    match Instant::now(rt) {
-        Ok(now) => now.checked_add(Duration::from_millis(milliseconds)),
-        Err(_) => None,
-    }
+    let now = Instant::now(rt).ok()?;
+    now.checked_add(Duration::from_millis(milliseconds))
 }
 
 /// A reader that shows how far the work is before it reads, since that may wait.

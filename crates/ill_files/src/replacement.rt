@@ -1,6 +1,7 @@
 //! A new file that is written beside the one that it replaces, so that this one is replaced or as it was.
 use crate::error::ProgramError;
 use crate::host::Host;
+use crate::same_file::folder_and_name;
 use std::alloc::{AllocError, Global};
 use std::fmt;
 use std::fs::{self, Metadata, OpenFile, OpenOptions, Permissions};
@@ -248,11 +249,7 @@ fn copy_owner_and_mode<R: Host>(
 
 /// Has the disk keep which name a file has. Where the folder can't be synced, the name is kept when the system writes it.
 pub fn sync_folder<R: Files>(rt: &R, name: &str) {
-    let folder = match name.rsplit_once('/') {
-        Some(("", _)) => "/",
-        Some((folder, _)) => folder,
-        None => ".",
-    };
+    let (folder, _) = folder_and_name(name);
     if let Ok(folder) = fs::open(rt, folder) {
         let _ = folder.sync_all();
     }

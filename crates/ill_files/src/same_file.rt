@@ -127,13 +127,13 @@ fn absent_target<R: Files + AllocGlobal>(rt: &R, name: &str) -> io::Result<PathB
 
 /// Tells whether two names are one name in one folder.
 fn are_one_name<R: Files>(rt: &R, one: &str, other: &str) -> bool {
-    let (folder, name) = parts(one);
-    let (other_folder, other_name) = parts(other);
+    let (folder, name) = folder_and_name(one);
+    let (other_folder, other_name) = folder_and_name(other);
     name == other_name && are_one_folder(rt, folder, other_folder)
 }
 
 /// The folder of a name, and the name that the file has there.
-fn parts(name: &str) -> (&str, &str) {
+pub(crate) fn folder_and_name(name: &str) -> (&str, &str) {
     match name.rsplit_once('/') {
         Some(("", name)) => ("/", name),
         Some((folder, name)) => (folder, name),

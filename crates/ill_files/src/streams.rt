@@ -42,8 +42,7 @@ fn open_next(rt: &HostRuntime) -> Option<File> {
 
 /// Opens the null device. If the system has no such device, opens a folder for reading, which can't be written either.
 fn open_null(rt: &HostRuntime, options: &OpenOptions) -> Option<File> {
-    match options.open(rt, NULL) {
-        Ok(file) => Some(file),
-        Err(_) => OpenOptions::new().read(true).open(rt, "/").ok(),
-    }
+    let null = options.open(rt, NULL);
+    null.or_else(|_| OpenOptions::new().read(true).open(rt, "/"))
+        .ok()
 }

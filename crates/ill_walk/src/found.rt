@@ -24,18 +24,11 @@ pub fn read_start(octets: &[u8]) -> ElementStart {
         let pushed = state.push(*octet);
         begun.size = index.saturating_add(1);
         if begun.id.is_none() {
-            begun.id = match state.id() {
-                Some(id) => Some((id, begun.size)),
-                None => None,
-            };
+            begun.id = state.id().map(|id| (id, begun.size));
         }
-        match pushed {
-            Ok(Some(header)) => {
-                begun.header = Some(header);
-                return begun;
-            }
-            Ok(None) => {}
-            Err(_) => return begun,
+        if !matches!(pushed, Ok(None)) {
+            begun.header = pushed.unwrap_or(None);
+            return begun;
         }
     }
     begun

@@ -60,10 +60,7 @@ fn type_name(element_type: ElementType) -> &'static str {
 
 /// The name of a row.
 fn row_name(part: PartId) -> &'static str {
-    match part_name(part) {
-        Some((_, row)) => row,
-        None => "",
-    }
+    part_name(part).map_or("", |(_, row)| row)
 }
 
 impl Label {

@@ -147,13 +147,9 @@ fn has_long_number(rest: &[u8]) -> bool {
 
 /// Tells whether a GeneralString is due here with the tag that the octets begin with.
 fn is_general(walk: &ElementWalk, rest: &[u8]) -> bool {
-    let Some((id, _)) = read_start(rest).id else {
-        return false;
-    };
-    match walk.place().find(id) {
-        Some(found) => found.element_type() == ElementType::Leaf(LeafType::General),
-        None => false,
-    }
+    let id = read_start(rest).id;
+    let found = id.and_then(|(id, _)| walk.place().find(id));
+    found.is_some_and(|found| found.element_type() == ElementType::Leaf(LeafType::General))
 }
 
 /// Tells whether the module profile has other tags in a node of profile 2, or a row more.

@@ -24,15 +24,12 @@ pub struct RefusedPlace<'a> {
 
 impl<'a> RefusedPlace<'a> {
     pub fn new(walk: &'a ElementWalk, octets: &'a [u8], refusal: Refusal) -> RefusedPlace<'a> {
-        let at = refusal.at as usize;
+        let rest = octets.get(refusal.at as usize..).unwrap_or(&[]);
+        let room = walk.bound().saturating_sub(refusal.at as usize);
         RefusedPlace {
             walk,
-            rest: octets.get(at..).unwrap_or(&[]),
-            begun: read_start(
-                octets
-                    .get(at..walk.bound().min(octets.len()))
-                    .unwrap_or(&[]),
-            ),
+            rest,
+            begun: read_start(first_of(rest, room)),
             cause: refusal.cause,
         }
     }
@@ -148,8 +145,5 @@ fn content_size(begun: ElementStart, id: Id) -> usize {
 
 /// The first octets, `count` of them where there are as many.
 pub fn first_of(octets: &[u8], count: usize) -> &[u8] {
-    match octets.get(..count) {
-        Some(front) => front,
-        None => octets,
-    }
+    octets.get(..count).unwrap_or(octets)
 }

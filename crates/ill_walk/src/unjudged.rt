@@ -86,20 +86,16 @@ impl UnjudgedWalk {
         lines.tags("<span class=\"name\">")?;
         put_tag(lines, header.id.class(), header.id.number())?;
         lines.tags("</span>")?;
-        let (len, is_cut) = match header.len {
-            Len::Definite(len) => (
-                (len as usize).min(content.len()),
-                len as usize > content.len(),
-            ),
-            Len::Indefinite => (content.len(), false),
+        let size_said = match header.len {
+            Len::Definite(len) => Some(len as usize),
+            Len::Indefinite => None,
         };
+        let len = size_said.map_or(content.len(), |said| said.min(content.len()));
+        let is_cut = size_said.is_some_and(|said| said > content.len());
         self.at = self.at.saturating_add(size);
         if header.id.constructed() && self.open.len() < MAX_OPEN {
-            let end = match header.len {
-                Len::Definite(_) => Some(self.at.saturating_add(len)),
-                Len::Indefinite => None,
-            };
-            self.open.push(end)?;
+            let end = self.at.saturating_add(len);
+            self.open.push(size_said.map(|_| end))?;
             return end_line(lines, &[], is_cut);
         }
         let content = content.get(..len).unwrap_or(&[]);

@@ -43,10 +43,7 @@ fn put_value(
     }
     let value = leaf.value(content.to_vec(alloc)?);
     put_value_text(lines, &value)?;
-    match row(part) {
-        Some(row) => Ok(is_default(row, &value)),
-        None => Ok(false),
-    }
+    Ok(row(part).is_some_and(|row| is_default(row, &value)))
 }
 
 fn put_value_text(lines: &mut LineBuffer, value: &Value) -> Result<(), AllocError> {

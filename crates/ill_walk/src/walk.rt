@@ -99,10 +99,7 @@ impl ElementWalk {
 
     /// The number of elements that the innermost one has so far.
     pub fn items(&self) -> usize {
-        match self.open.as_slice().last() {
-            Some(open) => open.items,
-            None => 0,
-        }
+        self.open.as_slice().last().map_or(0, |open| open.items)
     }
 
     /// Tells whether an element is open.
@@ -318,10 +315,7 @@ impl Steps for ElementWalk {
     fn step(&mut self, octets: &[u8], lines: &mut LineBuffer) -> Result<bool, AllocError> {
         self.close_ended(lines)?;
         let at = self.offset();
-        if at >= self.stop {
-            return Ok(false);
-        }
-        let Some(rest) = octets.get(at..) else {
+        let Some(rest) = octets.get(at..).filter(|_| at < self.stop) else {
             return Ok(false);
         };
         if self.frames().awaits_end_mark() && matches!(rest, [0, 0, ..]) {
