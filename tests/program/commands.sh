@@ -17,3 +17,8 @@ commands_with() {
 words_of() {
     case $1 in same | canonicalise) echo "$1 F" ;; *) echo "$1" ;; esac
 }
+
+# A list that is empty would let every loop over it pass.
+for option in --json --max-refused --with-filename; do
+    [ -n "$(commands_with $option)" ] || { echo "commands.sh: the help lists no command with $option" && exit 1; }
+done
