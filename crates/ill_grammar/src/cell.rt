@@ -9,17 +9,17 @@ use ill_schema::{NodeId, PartId};
 /// The type of an element.
 #[derive(Clone, Copy, Debug, PartialEq, Eq)]
 pub enum ElementType {
-    Leaf(LeafType),
-    ModuleLeaf(ModuleLeaf),
-    BitString,
-    Sequence,
-    List,
     /// An explicit tag.
     Wrapper,
     /// An explicit tag, whose contents may also be the components of what it wraps.
     LooseWrapper,
+    Sequence,
+    List,
+    Leaf(LeafType),
     /// An OCTET STRING in a string.
     Segment,
+    ModuleLeaf(ModuleLeaf),
+    BitString,
     /// A BIT STRING in a BIT STRING.
     BitSegment,
     /// An element of a foreign tree: the row of its part is the number of elements of the tree round it.

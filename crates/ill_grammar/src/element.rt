@@ -11,13 +11,13 @@ use ill_schema::{NodeId, PartId, Profile};
 /// The way in which an element is read.
 #[derive(Clone, Copy)]
 pub enum Element {
-    Leaf(LeafType),
-    Sequence(NodeId),
-    List(NodeId),
     /// An explicit tag.
     Wrapper(Wrapped),
     /// An explicit tag, whose contents may also be the components of what it wraps.
     LooseWrapper(Wrapped),
+    Sequence(NodeId),
+    List(NodeId),
+    Leaf(LeafType),
     /// An OCTET STRING in a string.
     Segment,
     ModuleLeaf(ModuleLeaf),

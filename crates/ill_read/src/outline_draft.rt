@@ -92,6 +92,7 @@ fn mark_preceding(marks: &mut Vec<Mark>, place: Place, found: Found) -> Result<(
 
 /// Marks that an element begins. What comes in a loose wrapper says whether it is a sequence, and a foreign tree is marked when its
 /// wrapper ends.
+#[inline(always)]
 fn mark_start(marks: &mut Vec<Mark>, element: Element) -> Result<(), AllocError>
     ensures { OnOk result (marks.new.items ≡ marks.old.items
         ++ first_marks (first_of element) element) }
