@@ -34,6 +34,8 @@ LIMITS = {
 }
 # How a limit is said: its name, the pattern of the number, and what is added to the limit there.
 SAYINGS = [
+    ("messages", r"messages up to ([\d,]*\d)", 0),
+    ("messages", r"(?:at most|more than|up to) ([\d,]*\d) messages", 0),
     ("levels", r"(\w+) levels\b", 0),
     ("levels", r"\blevel (\w+) of a foreign tree", 1),
     ("open", r"(\w+) (?:open elements|elements (?:(?:are|would be) )?open)\b", 0),

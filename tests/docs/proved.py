@@ -149,13 +149,17 @@ def faults():
     known = {function.name for found in by_crate.values() for function in found} | {path.stem for _, path, _ in edits()}
     for document in CHECKED:
         for number, line in enumerate((TOP / document).read_text(encoding="utf-8").splitlines(), 1):
-            for call, clauses in re.findall(r"`(\w+::(?:\w+::)?[a-z]\w*)`(?: \(((?:`\w+`(?:, )?)+)\))?", line):
+            called = re.compile(r"`(\w+::(?:\w+::)?[a-z]\w*)`(?: \(((?:`\w+`(?:, )?)+)\))?")
+            for call, clauses in called.findall(line):
                 there = {name for function in named.get(call, []) for name in function.clause_names()}
                 if call not in named:
                     yield f"{document}:{number}: no call `{call}`"
                 for clause in re.findall(r"\w+", clauses):
                     if clause not in there:
                         yield f"{document}:{number}: no clause `{clause}` of `{call}`"
+            if " | " in line and called.search(line):
+                for clauses in re.findall(r"\([^()]*`[a-z_]+`[^()]*\)", called.sub("", line)):
+                    yield f"{document}:{number}: {clauses} is not right after a call"
             if document in WITH_LAWS:
                 for name in re.findall(r"`([a-z0-9]+(?:_[a-z0-9]+){2,})`", line):
                     if name not in known and not (CRATES / name).is_dir():

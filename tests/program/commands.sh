@@ -18,7 +18,10 @@ words_of() {
     case $1 in same | canonicalise) echo "$1 F" ;; *) echo "$1" ;; esac
 }
 
-# A list that is empty would let every loop over it pass.
+# A list that misses a command would let a loop over it pass.
+for name in show check digest dump same canonicalise; do
+    commands | grep -qx "$name" || { echo "commands.sh: the help doesn't list $name" && exit 1; }
+done
 for option in --json --max-refused --with-filename; do
-    [ -n "$(commands_with $option)" ] || { echo "commands.sh: the help lists no command with $option" && exit 1; }
+    commands_with "$option" | grep -qx check || { echo "commands.sh: the help of check doesn't list $option" && exit 1; }
 done
