@@ -7,7 +7,7 @@ use ber_core::Class;
 use ill_schema::{NodeId, PartId};
 
 /// The type of an element.
-#[derive(Clone, Copy, Debug, PartialEq, Eq)]
+#[derive(Clone, Copy)]
 pub enum ElementType {
     /// An explicit tag.
     Wrapper,

@@ -9,7 +9,7 @@ use ber_leaf::{BitString, Leaf, LeafFault};
 use ill_schema::{NodeId, PartId, Profile};
 
 /// The way in which an element is read.
-#[derive(Clone, Copy)]
+#[derive(Clone, Copy, Debug, PartialEq, Eq)]
 pub enum Element {
     /// An explicit tag.
     Wrapper(Wrapped),
@@ -28,24 +28,22 @@ pub enum Element {
     Foreign(u8),
 }
 
-impl Element {
+impl Found {
     ghost use Rattle.ill_grammar.specs.Due.{read_as};
-    ghost use Rattle.ill_grammar.specs.Elements.{element_is, is_two_element};
-    ghost use Rattle.ill_refusals.specs.Fault.{element_fault};
-    ghost use Rattle.ill_schema.specs.Profiles.{profile_of};
+    ghost use Rattle.ill_grammar.specs.Elements.{is_two_element};
 
-    /// The element that was found, as code reads it. One that is left out never is read.
+    /// What it is, as code reads it. An element that is left out never is read.
     #[inline(always)]
-    pub fn of(found: Found) -> Element
-        ensures element { result ≡ read_as found }
-        ensures two { IsTrue (is_two found) → IsTrue (is_two_element result) }
+    pub fn element(self) -> Element
+        ensures element { result ≡ read_as self }
+        ensures two { IsTrue (is_two self) → IsTrue (is_two_element result) }
     {
-        let node = found.node();
+        let node = self.node();
         let wrapped = Wrapped {
-            part: found.part(),
+            part: self.part(),
             node,
         };
-        match found.element_type() {
+        match self.element_type() {
             ElementType::Leaf(leaf) => Element::Leaf(leaf),
             ElementType::ModuleLeaf(leaf) => Element::ModuleLeaf(leaf),
             ElementType::Sequence => Element::Sequence(node),
@@ -55,9 +53,15 @@ impl Element {
             ElementType::Segment => Element::Segment,
             ElementType::BitString => Element::BitString,
             ElementType::BitSegment => Element::BitSegment,
-            ElementType::Foreign => Element::Foreign(levels_in(found.part())),
+            ElementType::Foreign => Element::Foreign(levels_in(self.part())),
         }
     }
+}
+
+impl Element {
+    ghost use Rattle.ill_grammar.specs.Elements.{element_is};
+    ghost use Rattle.ill_refusals.specs.Fault.{element_fault};
+    ghost use Rattle.ill_schema.specs.Profiles.{profile_of};
 
     /// The reason why the octets are no content of it in the profile: None exactly where they are, or where it has none of its own.
     pub fn fault(self, profile: Profile, octets: &[u8]) -> Option<LeafFault>
@@ -73,7 +77,7 @@ impl Element {
 }
 
 /// The part and the node that an explicit tag wraps.
-#[derive(Clone, Copy)]
+#[derive(Clone, Copy, Debug, PartialEq, Eq)]
 pub struct Wrapped {
     pub part: PartId,
     pub node: NodeId,

@@ -4,7 +4,7 @@
 //!
 //! ```
 //! // What follows an element that is found at a place
-//! match Element::of(found) {
+//! match found.element() {
 //!     Element::Leaf(leaf) => content_of(leaf),
 //!     Element::Segment => part_of_a_string(),
 //!     _ => elements_in_it(),
@@ -28,9 +28,10 @@ mod need;
 mod outline;
 mod place;
 
-pub use cell::{ElementType, EntryRole, is_strict, levels_in};
+pub use cell::{EntryRole, is_strict, levels_in};
 pub use due::{Next, Slot};
 pub use element::{Element, Wrapped};
+pub use form::form_fault;
 pub use frame::Frame;
 pub use frames::{Frames, MAX_DEPTH};
 pub use hexadecimal::{add_hexadecimal, add_octets};

@@ -355,7 +355,7 @@ impl Found {
     }
 
     /// The element type.
-    pub fn element_type(self) -> ElementType
+    pub(crate) fn element_type(self) -> ElementType
         ensures element_type { result ≡ type_of self }
         ensures element { element_of (due_of self)
             ≡ element_in (part_of self) (node_of self) result }

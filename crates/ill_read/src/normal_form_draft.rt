@@ -102,7 +102,7 @@ impl NormalFormDraft {
         ensures { (next : Next) → IfOk result (λ contents_start. HasOpened AreOctets self.old next
             opening contents_start self.new) }
     {
-        match Element::of(opening.found) {
+        match opening.found.element() {
             Element::BitSegment => {
                 self.bits.push(&[0])?;
                 return Ok(self.octets.len());
@@ -167,7 +167,7 @@ impl Draft for NormalFormDraft {
         _place: Place,
         opening: ConstructedElement,
     ) -> Result<usize, AllocError> {
-        let contents_start = match Element::of(opening.found) {
+        let contents_start = match opening.found.element() {
             Element::Segment => self.octets.len(),
             Element::Leaf(_) => self.octets.open(string_id(opening.id))?,
             Element::ModuleLeaf(_) | Element::BitString | Element::BitSegment => {
@@ -228,7 +228,7 @@ impl Draft for NormalFormDraft {
         reading: PrimitiveElement,
         content: &[u8],
     ) -> Result<(), AllocError> {
-        if let Element::BitString = Element::of(reading.found) {
+        if let Element::BitString = reading.found.element() {
             self.bits.begin()?;
             self.bits.push(content)?;
             self.bits.clear_unused();
@@ -241,7 +241,7 @@ impl Draft for NormalFormDraft {
 
     #[inline(always)]
     fn close(&mut self, profile: Profile, frame: Frame, _place: Place) -> Result<(), Failure> {
-        match Element::of(frame.found) {
+        match frame.found.element() {
             Element::Segment | Element::BitSegment => return Ok(()),
             Element::ModuleLeaf(leaf) => {
                 if let Some(fault) = leaf.fault(self.written_from(frame.contents_start)) {

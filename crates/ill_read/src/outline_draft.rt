@@ -49,7 +49,7 @@ impl OutlineDraft {
         ensures marks { OnOk result (self.new.marks.items ≡ self.old.marks.items ++ held_marks
             (read_as frame.found) self.old.octets frame.contents_start) }
     {
-        match Element::of(frame.found) {
+        match frame.found.element() {
             Element::BitString => mark_octets(&mut self.marks, self.octets.bit_string()),
             Element::Wrapper(wrapped) => {
                 if !is_open_type(wrapped.node) {
@@ -223,7 +223,7 @@ impl Draft for OutlineDraft {
         place: Place,
         opening: ConstructedElement,
     ) -> Result<usize, AllocError> {
-        let element = Element::of(opening.found);
+        let element = opening.found.element();
         match element {
             Element::Segment | Element::BitSegment => {}
             _ => {
@@ -241,7 +241,7 @@ impl Draft for OutlineDraft {
         place: Place,
         opening: ConstructedElement,
     ) -> Result<usize, AllocError> {
-        let element = Element::of(opening.found);
+        let element = opening.found.element();
         mark_preceding(&mut self.marks, place, opening.found)?;
         mark_start(&mut self.marks, element)?;
         self.octets.open_usual(profile, place, opening)
@@ -286,7 +286,7 @@ impl Draft for OutlineDraft {
     ) -> Result<(), AllocError> {
         self.octets
             .module_element(profile, place, reading, content)?;
-        let element = Element::of(reading.found);
+        let element = reading.found.element();
         if let Element::Foreign(_) = element {
             return Ok(());
         }

@@ -118,7 +118,7 @@ impl<D: Draft> Path<D> {
         ensures depth { depth_of self.new.frames ≡ depth_of self.old.frames }
         ensures profile { self.new.frames.profile ≡ self.old.frames.profile }
     {
-        let element = Element::of(reading.found);
+        let element = reading.found.element();
         if usual {
             let Element::Leaf(leaf) = element else {
                 unreachable!()
@@ -165,7 +165,7 @@ impl<D: Draft> Path<D> {
         ensures depth { depth_of self.new.frames ≡ depth_of self.old.frames }
         ensures profile { self.new.frames.profile ≡ self.old.frames.profile }
     {
-        match Element::of(reading.found) {
+        match reading.found.element() {
             Element::ModuleLeaf(_) | Element::BitString | Element::Foreign(_) => {
                 self.take_module_element(reading, start, content)
             }
@@ -222,7 +222,7 @@ impl<D: Draft> Path<D> {
         ensures profile { self.new.frames.profile ≡ self.old.frames.profile }
     {
         let profile = self.frames.profile;
-        if let Some(fault) = Element::of(reading.found).fault(profile, content) {
+        if let Some(fault) = reading.found.element().fault(profile, content) {
             return Err(Failure::refused(start, Cause::from(fault)));
         }
         self.draft
@@ -240,7 +240,7 @@ impl<D: Draft> Path<D> {
         ensures profile { self.new.frames.profile ≡ self.old.frames.profile }
     {
         let frame = self.frames.pop();
-        if let Element::Segment | Element::BitSegment = Element::of(frame.found) {
+        if let Element::Segment | Element::BitSegment = frame.found.element() {
             return Ok(false);
         }
         let profile = self.frames.profile;

@@ -100,7 +100,7 @@ impl ValueDraft {
         requires { IsTrue (is_two frame.found) }
         ensures { EndsExactly self.old frame self.new result }
     {
-        match Element::of(frame.found) {
+        match frame.found.element() {
             Element::Segment => Ok(None),
             Element::Leaf(leaf) => {
                 let text = mem::replace(&mut self.text, Vec::new(self.alloc));

@@ -3,8 +3,8 @@ use crate::label::{Label, label_of, put_tag};
 use crate::lines::LineBuffer;
 use crate::walk::ElementWalk;
 use ber_core::{Class, Id};
-use ill_grammar::{DueElement, ElementType, Place};
-use ill_schema::{Kind, kind};
+use ill_grammar::{DueElement, Place, form_fault};
+use ill_schema::{Cause, Kind, kind};
 use std::alloc::{AllocError, Global};
 
 /// One of the things that are due at a place.
@@ -93,9 +93,8 @@ fn due_of(walk: &ElementWalk, element: DueElement) -> Option<Due> {
     let (class, number, found) = (element.class, element.number, element.found);
     let id = Id::new(class, true, number)?;
     let label = label_of(found, id, walk.place().node(), walk.items());
-    Some(if found.element_type() == ElementType::LeftOut {
-        Due::LeftOut(class, number, label)
-    } else {
-        Due::Element(class, number, label)
+    Some(match form_fault(found, true) {
+        Some(Cause::LeftOut(_)) => Due::LeftOut(class, number, label),
+        _ => Due::Element(class, number, label),
     })
 }

@@ -1,7 +1,7 @@
 //! Names of elements.
 use crate::lines::LineBuffer;
 use ber_core::{Class, Id};
-use ill_grammar::{ElementType, EntryRole, Found};
+use ill_grammar::{Element, EntryRole, Found};
 use ill_schema::{NodeId, PartId, part_name};
 use std::alloc::AllocError;
 
@@ -35,26 +35,25 @@ pub fn label_of(found: Found, id: Id, parent: NodeId, items: usize) -> Label {
         EntryRole::Inner if found.node() == NodeId::External => Label::Type("EXTERNAL"),
         EntryRole::Inner => match found.alternative() {
             Some(_) => Label::Row(part),
-            None => Label::Type(type_name(found.element_type())),
+            None => Label::Type(type_name(found.element())),
         },
-        EntryRole::Segment => Label::Type(type_name(found.element_type())),
+        EntryRole::Segment => Label::Type(type_name(found.element())),
         EntryRole::Root | EntryRole::Foreign => Label::Tag(id.class(), id.number()),
     }
 }
 
 /// The name of a type.
-fn type_name(element_type: ElementType) -> &'static str {
-    match element_type {
-        ElementType::Leaf(leaf) => leaf.name(),
-        ElementType::ModuleLeaf(leaf) => leaf.name(),
-        ElementType::Segment => "OCTET STRING",
-        ElementType::BitString | ElementType::BitSegment => "BIT STRING",
-        ElementType::Foreign => "ANY",
-        ElementType::Sequence
-        | ElementType::List
-        | ElementType::Wrapper
-        | ElementType::LooseWrapper
-        | ElementType::LeftOut => { "SEQUENCE" }
+fn type_name(element: Element) -> &'static str {
+    match element {
+        Element::Leaf(leaf) => leaf.name(),
+        Element::ModuleLeaf(leaf) => leaf.name(),
+        Element::Segment => "OCTET STRING",
+        Element::BitString | Element::BitSegment => "BIT STRING",
+        Element::Foreign(_) => "ANY",
+        Element::Sequence(_)
+        | Element::List(_)
+        | Element::Wrapper(_)
+        | Element::LooseWrapper(_) => "SEQUENCE",
     }
 }
 

@@ -4,7 +4,7 @@ use crate::found::read_start;
 use crate::lines::LineBuffer;
 use crate::refused_place::{RefusedPlace, first_of};
 use crate::walk::ElementWalk;
-use ill_grammar::{ElementType, LeafType};
+use ill_grammar::{Element, LeafType};
 use ill_schema::{Cause, NodeId, Profile, Refusal};
 use std::alloc::{AllocError, Global};
 
@@ -149,7 +149,7 @@ fn has_long_number(rest: &[u8]) -> bool {
 fn is_general(walk: &ElementWalk, rest: &[u8]) -> bool {
     let id = read_start(rest).id;
     let found = id.and_then(|(id, _)| walk.place().find(id));
-    found.is_some_and(|found| found.element_type() == ElementType::Leaf(LeafType::General))
+    found.is_some_and(|found| found.element() == Element::Leaf(LeafType::General))
 }
 
 /// Tells whether the module profile has other tags in a node of profile 2, or a row more.

@@ -330,7 +330,7 @@ impl WalkedElement {
     fn new(place: ElementPlace, found: Found, header: Header, size: usize) -> WalkedElement {
         WalkedElement {
             at: place.at,
-            element: Element::of(found),
+            element: found.element(),
             part: found.part(),
             header,
             label: label_of(found, header.id, place.parent, place.items),

@@ -3,7 +3,7 @@
 mod contracts;
 
 use ber_core::{Class, Id};
-use ill_grammar::{ElementType, EntryRole, Found, LeafType, Place};
+use ill_grammar::{Element, EntryRole, Found, LeafType, Place, Wrapped};
 use ill_schema::{NodeId, PartId};
 
 /// A tag on the way to a place: of an element that the way goes into, or of one that it passes.
@@ -30,18 +30,34 @@ fn place_at(way: &[Step]) -> Option<Place> {
     Some(place)
 }
 
-/// The type of an element, its alternative, and the default of its row.
-type Description = (ElementType, Option<u8>, Option<i64>);
+/// What an element is, its alternative, and the default of its row.
+type Description = (Element, Option<u8>, Option<i64>);
 
 /// A name, the way to a place, the tag of an element that is due there, and its description.
 type Row = (&'static str, &'static [Step], (Class, u32), Description);
+
+const EXPIRED: Wrapped = Wrapped {
+    part: PartId {
+        node: NodeId::IllApdu,
+        row: 19,
+    },
+    node: NodeId::Expired,
+};
+
+const PHYSICAL_DELIVERY: Wrapped = Wrapped {
+    part: PartId {
+        node: NodeId::DeliveryService,
+        row: 0,
+    },
+    node: NodeId::IllString,
+};
 
 static ROWS: [Row; 6] = [
     (
         "Expired",
         &[],
         (Class::Application, 20),
-        (ElementType::LooseWrapper, Some(19), None),
+        (Element::LooseWrapper(EXPIRED), Some(19), None),
     ),
     (
         "Expired.protocol-version-num",
@@ -50,7 +66,7 @@ static ROWS: [Row; 6] = [
             Step::Into(Class::Universal, 16),
         ],
         (Class::Context, 0),
-        (ElementType::Leaf(LeafType::Integer), None, None),
+        (Element::Leaf(LeafType::Integer), None, None),
     ),
     (
         "ILL-Request.transaction-type",
@@ -61,7 +77,7 @@ static ROWS: [Row; 6] = [
             Step::Past(Class::Context, 2),
         ],
         (Class::Context, 5),
-        (ElementType::Leaf(LeafType::Enumerated), None, Some(1)),
+        (Element::Leaf(LeafType::Enumerated), None, Some(1)),
     ),
     (
         "ILL-Request.delivery-service",
@@ -73,7 +89,7 @@ static ROWS: [Row; 6] = [
             Step::Past(Class::Context, 5),
         ],
         (Class::Context, 7),
-        (ElementType::Wrapper, Some(0), None),
+        (Element::Wrapper(PHYSICAL_DELIVERY), Some(0), None),
     ),
     (
         "its physical-delivery",
@@ -86,7 +102,7 @@ static ROWS: [Row; 6] = [
             Step::Into(Class::Context, 7),
         ],
         (Class::Universal, 26),
-        (ElementType::Leaf(LeafType::Visible), None, None),
+        (Element::Leaf(LeafType::Visible), None, None),
     ),
     (
         "a segment of that",
@@ -100,7 +116,7 @@ static ROWS: [Row; 6] = [
             Step::Into(Class::Universal, 26),
         ],
         (Class::Universal, 4),
-        (ElementType::Segment, None, None),
+        (Element::Segment, None, None),
     ),
 ];
 
@@ -108,7 +124,7 @@ static ROWS: [Row; 6] = [
 fn described(way: &[Step], (class, number): (Class, u32)) -> Option<Description> {
     let found = found(place_at(way)?, class, number)?;
     Some((
-        found.element_type(),
+        found.element(),
         found.alternative(),
         found.default_value(),
     ))

@@ -17,7 +17,7 @@ returns-in-BitString c l below content h due is =
     let old = c.args.self.now in
     let octets = c.args.content.now in
     let tag = tag_of_id c.args.reading.id in
-    let e : read_as c.args.reading.found ≡ BitString = sym c.of.ensures.element ∙ c.in-BitString.is in
+    let e : read_as c.args.reading.found ≡ BitString = sym c.element.ensures.element ∙ c.in-BitString.is in
     let right = subst (λ x. element_fault (profile_of c.args._profile) (element_is x) octets ≡ None) e c.requires.content.1 in
     let bits : c.content.result.now ≡ cleared_content octets =
     c.content.ensures ∙ c.clear_unused.ensures ∙ ap cleared_content (c.in_ok-push.ensures ∙ ap (λ x. join_bits x octets) c.in_ok-begin.ensures ∙ one_segment c.args._profile octets right) in
@@ -31,4 +31,4 @@ returns c l below content h due is =
     let tag = tag_of_id c.args.reading.id in
     let e = read_as c.args.reading.found in
     other_added c.args._profile old (record old { octets = c.primitive-2.new.self }) l below (shape c.args._place) c.args.reading octets content c.requires.other c.requires.content h due is
-    (c.in_ok-primitive-2.ensures.encoding c.args.reading.form ∙ ap (λ x. old.octets ++ encoding (primitive tag x)) (sym (other_same e octets (λ s. c.in_default.not-BitString (c.of.ensures.element ∙ s)))))
+    (c.in_ok-primitive-2.ensures.encoding c.args.reading.form ∙ ap (λ x. old.octets ++ encoding (primitive tag x)) (sym (other_same e octets (λ s. c.in_default.not-BitString (c.element.ensures.element ∙ s)))))

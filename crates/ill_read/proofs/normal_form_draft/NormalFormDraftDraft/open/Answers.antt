@@ -17,12 +17,12 @@ constructed BitString h m b = absurd (b refl)
 constructed _ h m b = refl
 
 pub returns-in-Segment : goal.returns-in-Segment
-returns-in-Segment c = segment_opened c.args.self.now c.args.self.now (shape c.args._place) c.args.opening c.len-contents_start.result (sym c.of.ensures.element ∙ c.in-Segment.is) refl
+returns-in-Segment c = segment_opened c.args.self.now c.args.self.now (shape c.args._place) c.args.opening c.len-contents_start.result (sym c.element.ensures.element ∙ c.in-Segment.is) refl
 
 pub returns-in_ok-contents_start-in-Leaf : goal.returns-in_ok-contents_start-in-Leaf
 returns-in_ok-contents_start-in-Leaf c =
     let o = c.args.opening in
-    let is : read_as o.found ≡ Leaf c.in-Leaf.field-0 = sym c.of.ensures.element ∙ c.in-Leaf.is in
+    let is : read_as o.found ≡ Leaf c.in-Leaf.field-0 = sym c.element.ensures.element ∙ c.in-Leaf.is in
     octets_opened c.args.self.now (record c.args.self.now { octets = c.open.new.self }) (shape c.args._place) o c.in_ok-contents_start-in-Leaf.contents_start (id_octets c.string_id.result)
     (λ s. (let q : Leaf c.in-Leaf.field-0 ≡ Segment = sym is ∙ s in cc), λ s. (let q : Leaf c.in-Leaf.field-0 ≡ BitSegment = sym is ∙ s in cc))
     (λ apart.
@@ -34,7 +34,7 @@ returns-in_ok-contents_start-in-Leaf c =
 pub returns-in_ok-contents_start-in_default : goal.returns-in_ok-contents_start-in_default
 returns-in_ok-contents_start-in_default c =
     let o = c.args.opening in
-    let is = c.of.ensures.element in
+    let is = c.element.ensures.element in
     let other = c.in_default in
     octets_opened c.args.self.now (record c.args.self.now { octets = c.open-in_default.new.self }) (shape c.args._place) o c.in_ok-contents_start-in_default.contents_start (id_octets o.id)
     (λ s. other.not-Segment (is ∙ s), λ s. other.not-BitSegment (is ∙ s))

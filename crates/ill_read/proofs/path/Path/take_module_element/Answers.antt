@@ -14,7 +14,7 @@ pub module_element-requires-clause-content : goal.module_element-requires-clause
 module_element-requires-clause-content g c =
     let content = c.args.content.now in
     let ok : IsTrue (are_octets content) = octets_fit content (λ k. let small : get_or content k 0 < 256 = omega (arith, c.type_inv.content k) in small) in
-    (ok, sym (c.in_default.ensures ∙ ap (λ e. element_fault (profile_of c.args.self.now.frames.profile) (element_is e) content) c.of.ensures.element))
+    (ok, sym (c.in_default.ensures ∙ ap (λ e. element_fault (profile_of c.args.self.now.frames.profile) (element_is e) content) c.element.ensures.element))
 
 pub returns-clause-exact : goal.returns-clause-exact
 returns-clause-exact g c p place header at rest stands begin =
@@ -22,7 +22,7 @@ returns-clause-exact g c p place header at rest stands begin =
     let old = c.args.self.now in
     let e = read_as c.args.reading.found in
     let ok : IsTrue (are_octets content) = octets_fit content (λ k. let small : get_or content k 0 < 256 = omega (arith, c.type_inv.content k) in small) in
-    let sound = sym (c.in_default.ensures ∙ ap (λ e. element_fault (profile_of old.frames.profile) (element_is e) content) c.of.ensures.element) in
+    let sound = sym (c.in_default.ensures ∙ ap (λ e. element_fault (profile_of old.frames.profile) (element_is e) content) c.element.ensures.element) in
     let right = subst (λ q. IsRightContent q e content) stands.3 (ok, sound) in
     let has = subst (λ d. HasModuleElement old.frames.profile g.D.Draft.holds old.draft (shape c.place.result) c.args.reading content d) (sym c.move_to.ensures.draft) c.in_ok-module_element.ensures in
     module_element_read p g.D.Draft.holds old c.move_to.new.self place c.args.reading c.args.start content c.move_to.result header at rest stands begin c.requires.other right

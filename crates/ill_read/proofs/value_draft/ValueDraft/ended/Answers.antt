@@ -15,17 +15,17 @@ returns-in-None c =
     let l = c.in-Leaf.leaf in
     let octets = c.replace-text.result.items in
     let right = subst (IsContentIn Two (leaf_is l)) c.deref.ensures.value (c.in-None.ensures.octets, sym c.in-None.ensures.fault) in
-    string_ends c.args.self.now (record c.args.self.now { text = c.replace-text.new.dest }) c.args.frame c.value.result l octets (sym c.of.ensures.element ∙ c.in-Leaf.is)
+    string_ends c.args.self.now (record c.args.self.now { text = c.replace-text.new.dest }) c.args.frame c.value.result l octets (sym c.element.ensures.element ∙ c.in-Leaf.is)
     (ap (λ (t : Vec ℕ Global). t.items) c.replace-text.ensures.value) right.0 right.1 c.value.ensures refl (ap (λ (t : Vec ℕ Global). t.items) c.replace-text.ensures.after ∙ c.new.ensures.items)
 
 pub returns-in_ok-list-in-List : goal.returns-in_ok-list-in-List
 returns-in_ok-list-in-List c =
-    list_ends c.args.self.now (record c.args.self.now { held = c.list.new.self }) c.args.frame c.in_ok-list-in-List.field-0 c.in-List.field-0 (sym c.of.ensures.element ∙ c.in-List.is) c.in_ok-list-in-List.ensures refl
+    list_ends c.args.self.now (record c.args.self.now { held = c.list.new.self }) c.args.frame c.in_ok-list-in-List.field-0 c.in-List.field-0 (sym c.element.ensures.element ∙ c.in-List.is) c.in_ok-list-in-List.ensures refl
 
 pub returns-in-Wrapper : goal.returns-in-Wrapper
-returns-in-Wrapper c = wrapper_ends c.args.self.now (record c.args.self.now { held = c.last.new.self }) c.args.frame c.last.result c.in-Wrapper.field-0 (sym c.of.ensures.element ∙ c.in-Wrapper.is) c.last.ensures refl
+returns-in-Wrapper c = wrapper_ends c.args.self.now (record c.args.self.now { held = c.last.new.self }) c.args.frame c.last.result c.in-Wrapper.field-0 (sym c.element.ensures.element ∙ c.in-Wrapper.is) c.last.ensures refl
 
 pub returns-in-Nothing : goal.returns-in-Nothing
 returns-in-Nothing c =
-    loose_wrapper_ends c.args.self.now (record c.args.self.now { held = c.last-in-Nothing.new.self }) c.args.frame c.last-in-Nothing.result c.in-LooseWrapper.field-0 (sym c.of.ensures.element ∙ c.in-LooseWrapper.is) (sym c.next-in-LooseWrapper.ensures ∙ c.in-Nothing.is)
+    loose_wrapper_ends c.args.self.now (record c.args.self.now { held = c.last-in-Nothing.new.self }) c.args.frame c.last-in-Nothing.result c.in-LooseWrapper.field-0 (sym c.element.ensures.element ∙ c.in-LooseWrapper.is) (sym c.next-in-LooseWrapper.ensures ∙ c.in-Nothing.is)
     c.last-in-Nothing.ensures refl
