@@ -150,11 +150,7 @@ pub(crate) fn file_of(work: JobOptions<'_>) -> Option<&str>
     ensures { option_map (λ name. name.now) result
         ≡ file_of work.entry.names_input work.entry.name.now }
 {
-    if work.names_input {
-        Some(work.name)
-    } else {
-        None
-    }
+    work.names_input.then_some(work.name)
 }
 
 /// The head of a line of JSON: all of it but the value.
