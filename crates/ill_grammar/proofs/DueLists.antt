@@ -1,7 +1,8 @@
 -- The list of what is due at a place.
 use Rattle.std.proofs.Common.{rules, ◌≡◌, ◌≤◌, ◌+◌, ◌++◌, ◌||◌, ◌∙◌, ℕ, suc, Bool, true, false, IsTrue, List, [], ◌∷◌, Some, None, Result, Ok, Err, option_map, append_assoc, append-nil, drop, length, refl, sym, ap, subst, arith, slice_get}
-use Rattle.std.specs.Prelude.{if◌then◌else◌, OnOk}
-use Rattle.std.specs.List.{All}
+use Rattle.std.specs.Prelude.{if◌then◌else◌, map, not, OnOk}
+use Rattle.std.specs.List.{All, list_any}
+use Rattle.std.proofs.lemmas.Bool.{and_from, and_parts}
 use Rattle.std.proofs.lemmas.List.Elements.{All-append, All-nil, All-push, All-weaker}
 use Rattle.std.proofs.lemmas.List.Folds.{list_any-append}
 use Rattle.ber_tree.specs.Identifier.{Tag}
@@ -10,7 +11,7 @@ use Rattle.ill_refusals.proofs.Rows.{same_tag-is}
 use Rattle.ill_grammar.specs.Elements.{element_with}
 use Rattle.ill_grammar.specs.Cells.{BeginsDue, cell_alternative, due_at, next_from, node_choice}
 use Rattle.ill_grammar.specs.Places.{IsDueWithTag, alternative_of, due_of, element_found, next_at, node_at, part_in, slot_of}
-use Rattle.ill_grammar.specs.DueLists.{due_tag, is_listed}
+use Rattle.ill_grammar.specs.DueLists.{due_tag, have_own_tags, is_listed}
 use Rattle.ill_grammar.specs.code.ByTag.{due_by_tag}
 use Rattle.ill_grammar.specs.code.Listing.{StartsAt, cell_tag, due_found, with_due}
 use Rattle.ill_grammar.specs.code.Meant.{all_open, cell_choice, cell_opens, cell_start, cell_starts, cells_meant, is_nested, nested_starts, node_meant, node_starts, opens_in, starts_of_cells}
@@ -49,6 +50,34 @@ unlisted-with t ds d h = go (is_listed (due_tag d) ds) refl h
     go false e h =
         let both = neither (is_listed t ds) (is_listed t (d ∷ [])) (sym (list_any-append (λ x. same_tag (due_tag x) t) ds (d ∷ [])) ∙ h) in
         (both.0, (neither (same_tag (due_tag d) t) false both.1).0)
+
+-- a tag that isn't that of one more is as little in a longer list
+apart-snoc : (t : Tag) (ds : List DueElement) (d : DueElement) → IsTrue (not (list_any (same_tag t) (map due_tag ds))) → same_tag t (due_tag d) ≡ false
+    → IsTrue (not (list_any (same_tag t) (map due_tag (ds ++ d ∷ []))))
+apart-snoc t [] d h n = rw n refl
+apart-snoc t (x ∷ ds) d h n = go (same_tag t (due_tag x)) h (λ k. apart-snoc t ds d k n)
+  where
+    go : (b : Bool) → IsTrue (not (b || list_any (same_tag t) (map due_tag ds)))
+        → (IsTrue (not (list_any (same_tag t) (map due_tag ds))) → IsTrue (not (list_any (same_tag t) (map due_tag (ds ++ d ∷ [])))))
+        → IsTrue (not (b || list_any (same_tag t) (map due_tag (ds ++ d ∷ []))))
+    go true k rest = k
+    go false k rest = rest k
+
+own-tags-snoc : (ds : List DueElement) (d : DueElement) → IsTrue (have_own_tags ds) → is_listed (due_tag d) ds ≡ false → IsTrue (have_own_tags (ds ++ d ∷ []))
+own-tags-snoc [] d own new = refl
+own-tags-snoc (e ∷ ds) d own new =
+    let apart = neither (same_tag (due_tag e) (due_tag d)) (is_listed (due_tag d) ds) new in
+    let both = and_parts (not (list_any (same_tag (due_tag e)) (map due_tag ds))) (have_own_tags ds) own in
+    and_from (not (list_any (same_tag (due_tag e)) (map due_tag (ds ++ d ∷ [])))) (have_own_tags (ds ++ d ∷ []))
+    (apart-snoc (due_tag e) ds d both.0 apart.0) (own-tags-snoc ds d both.1 apart.1)
+
+-- with one more, each still has a tag of its own
+pub own-tags-with : (ds : List DueElement) (d : DueElement) → IsTrue (have_own_tags ds) → IsTrue (have_own_tags (with_due ds d))
+own-tags-with ds d own = go (is_listed (due_tag d) ds) refl
+  where
+    go : (b : Bool) → is_listed (due_tag d) ds ≡ b → IsTrue (have_own_tags (if b then ds else ds ++ d ∷ []))
+    go true h = own
+    go false h = own-tags-snoc ds d own h
 
 -- one more element that begins at a place
 pub more-started : (at : Place) (c : Cell) (before more items : List DueElement) (d : DueElement) → items ≡ before ++ more → All (StartsAt at c before) more
@@ -196,6 +225,7 @@ Passed s cells i t =
 pub record IsListing (s : Place) (cells : List Cell) (i : ℕ) (ds : List DueElement) : Type 0 where
   pub due : All (λ d. IsDueWithTag (due_tag d) s d.found) ds
   pub passed : (t : Tag) → is_listed t ds ≡ false → Passed s cells i t
+  pub once : IsTrue (have_own_tags ds)
 
 -- what is found by a cell where a search has come is due
 due-found : (t : Tag) (s : Place) (i : ℕ) (cells : List Cell) (c : Cell) (f : Found) → cells_meant cells ≡ node_meant (node_at s) → slice_get cells i ≡ Some c
@@ -224,7 +254,7 @@ due-found t s i cells c f meant is passed p n at same begun =
 
 -- nothing is listed at the beginning
 pub listing-begun : (s : Place) (cells : List Cell) → IsListing s cells s.position []
-listing-begun s cells = record { due = search rules; passed = λ t h. (refl, passed-none t (node_at s) s.position) }
+listing-begun s cells = record { due = search rules; passed = λ t h. (refl, passed-none t (node_at s) s.position); once = refl }
 
 -- with what begins at the position where it is, the list is still of what is due
 pub due-more : (s at : Place) (i : ℕ) (cells : List Cell) (c : Cell) (ds more items : List DueElement) → cells_meant cells ≡ node_meant (node_at s)

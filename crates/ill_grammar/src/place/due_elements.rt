@@ -1,9 +1,9 @@
 //! The list of the elements that are due at a place.
-ghost use Rattle.std.specs.Prelude.{◌≡◌, ◌++◌, false, IfOk, OnOk, List, None};
+ghost use Rattle.std.specs.Prelude.{◌≡◌, ◌++◌, false, IfOk, IsTrue, OnOk, List, None};
 ghost use Rattle.std.specs.List.{All};
 ghost use Rattle.ber_tree.specs.Identifier.{Tag};
 ghost use Rattle.ill_grammar.specs.Elements.{element_with};
-ghost use Rattle.ill_grammar.specs.DueLists.{due_tag, is_listed};
+ghost use Rattle.ill_grammar.specs.DueLists.{due_tag, have_own_tags, is_listed};
 ghost use Rattle.ill_grammar.specs.code.Listing.{FitsAt, StartsAt, cell_tag, due_found, with_due};
 ghost use Rattle.ill_grammar.specs.code.Meant.{cell_starts};
 
@@ -36,6 +36,7 @@ impl Place {
             due.items) }
         ensures all { (t : Tag) → IfOk result (λ due. is_listed t due.items ≡ false
             → due_by_tag t (next_at self) ≡ None) }
+        ensures once { IfOk result (λ due. IsTrue (have_own_tags due.items)) }
     {
         let cells = cells_of(self.parent.node);
         let mut due = Vec::new(alloc);
@@ -62,6 +63,8 @@ fn add_starts(at: Place, cell: &'static Cell, due: &mut Vec<DueElement>) -> Resu
         × All (StartsAt at cell.now due.old.items) more) }
     ensures all { (t : Tag) → OnOk result (is_listed t due.new.items ≡ false
         → element_with t (cell_starts cell.now) ≡ None) }
+    ensures once { OnOk result (IsTrue (have_own_tags due.old.items)
+        → IsTrue (have_own_tags due.new.items)) }
 {
     if !cell.nested {
         let found = Found {

@@ -28,6 +28,9 @@ returns-then-cell-clause-all c t h =
     none-after c.args.self c.loop-position.position c.cells_of-cells.result.now c.cell_at-cell.result.now c.loop-position.due.items added.0 _
     c.cells_of-cells.ensures.meant c.cell_at-cell.ensures c.loop-position.invariant added.1 c.if-cell.true t h (c.in_ok-add_starts.ensures.all t h)
 
+pub returns-then-cell-clause-once : goal.returns-then-cell-clause-once
+returns-then-cell-clause-once c = c.in_ok-add_starts.ensures.once c.loop-position.invariant.once
+
 pub loop-position-preserved : goal.loop-position-preserved
 loop-position-preserved c =
     let added = c.in_ok-add_starts.ensures.added in
@@ -36,7 +39,11 @@ loop-position-preserved c =
           c.cells_of-cells.ensures.meant c.cell_at-cell.ensures c.loop-position.invariant refl refl refl added.1 added.2;
       passed = passed-more c.args.self c.loop-position.position c.cells_of-cells.result.now c.cell_at-cell.result.now c.loop-position.due.items added.0 _
           c.cells_of-cells.ensures.meant c.cell_at-cell.ensures c.loop-position.invariant added.1 c.if-cell.false c.in_ok-add_starts.ensures.all;
+      once = c.in_ok-add_starts.ensures.once c.loop-position.invariant.once;
     }
+
+pub returns-clause-once : goal.returns-clause-once
+returns-clause-once c = c.loop-position.invariant.once
 
 pub returns-clause-all : goal.returns-clause-all
 returns-clause-all c t h =
