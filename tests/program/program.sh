@@ -469,6 +469,13 @@ if [ "$as_nobody" != skip ]; then
         compare "may-not-be-written: $name" 3
     done
     cmp -s OLD READONLY/LOCKED || { failed=$((failed + 1)) && echo 'failed: a locked OUT has changed'; }
+    # A file that may not be read.
+    cp OLD SECRET && chmod 000 SECRET
+    $as_nobody ./illcanon check -H SECRET >out 2>err
+    status=$?
+    echo 'illcanon: cannot open SECRET: permission denied' >want-err
+    compare may-not-be-read 3
+    rm -f SECRET
     # A folder that may be written to, with a read-only file.
     mkdir WRITABLE && cp OLD WRITABLE/LOCKED && chmod 444 WRITABLE/LOCKED && chmod 777 WRITABLE
     $as_nobody ./illcanon canonicalise F WRITABLE/LOCKED >out 2>err
