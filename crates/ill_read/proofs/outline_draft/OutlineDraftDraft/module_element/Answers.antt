@@ -21,7 +21,7 @@ returns-in-Foreign c l below content h due is =
     let old = c.args.self.now in
     let found = c.args.reading.found in
     let new : OutlineDraft = record old { octets = c.module_element.new.self } in
-    let element : read_as found ≡ Foreign c.in-Foreign.field-0 = sym c.element.ensures.element ∙ c.in-Foreign.is in
+    let element : read_as found ≡ Foreign c.in-Foreign.field-0 = sym c.element-element.ensures.element ∙ c.in-Foreign.is in
     let led = foreign_led c.args.profile l (shape c.args.place) (tag_of_id c.args.reading.id) (slot_in found) (alternative_of found) c.in-Foreign.field-0 old.marks.items
     (subst (IsDueAt c.args.profile l (shape c.args.place) (tag_of_id c.args.reading.id) (slot_in found) (alternative_of found)) element due) in
     outline_element c.args.profile old new (shape c.args.place) c.args.reading c.args.content.now old.marks.items c.requires.other c.requires.content c.in_ok-module_element.ensures led
@@ -34,5 +34,5 @@ returns c =
     let new : OutlineDraft = record { octets = c.module_element.new.self; marks = c.push.new.self } in
     let joined = octets_joined octets c.mark_preceding.new.marks.items _ c.mark_start.new.marks.items c.mark_octets.new.marks.items c.push.new.self.items c.in_ok-mark_start.ensures c.in_ok-mark_octets.ensures c.in_ok-push.ensures.items in
     outline_element c.args.profile c.args.self.now new (shape c.args.place) c.args.reading octets c.mark_preceding.new.marks.items c.requires.other c.requires.content c.in_ok-module_element.ensures c.in_ok-mark_preceding.ensures
-    (joined ∙ ap (λ e. c.mark_preceding.new.marks.items ++ (first_marks (first_of e) e ++ (map mark.Octet octets ++ mark.End ∷ []))) c.element.ensures.element
-    ∙ ap (λ ms. c.mark_preceding.new.marks.items ++ ms) (sym (element_marks (read_as found) octets (λ m s. c.in_default.not-Foreign m (c.element.ensures.element ∙ s)))))
+    (joined ∙ ap (λ e. c.mark_preceding.new.marks.items ++ (first_marks (first_of e) e ++ (map mark.Octet octets ++ mark.End ∷ []))) c.element-element.ensures.element
+    ∙ ap (λ ms. c.mark_preceding.new.marks.items ++ ms) (sym (element_marks (read_as found) octets (λ m s. c.in_default.not-Foreign m (c.element-element.ensures.element ∙ s)))))

@@ -13,7 +13,7 @@ returns c =
     let next = shape c.args.place in
     let e = read_as c.args.opening.found in
     let new : OutlineDraft = record { octets = c.open_usual.new.self; marks = c.mark_start.new.marks } in
-    let begun = c.in_ok-mark_start.ensures ∙ ap (λ x. c.mark_preceding.new.marks.items ++ first_marks (first_of x) x) c.element.ensures.element in
+    let begun = c.in_ok-mark_start.ensures ∙ ap (λ x. c.mark_preceding.new.marks.items ++ first_marks (first_of x) x) c.element-element.ensures.element in
     IfOk-weaker c.open_usual.result _ _
     (λ contents_start h. outline_opened old new next c.args.opening contents_start c.mark_preceding.new.marks.items (not_segment e c.requires.usual, not_bit_segment e c.requires.usual) h c.in_ok-mark_preceding.ensures begun)
     c.open_usual.ensures
