@@ -246,7 +246,8 @@ uint32_t illcanon_same_as(uint32_t profile, const uint8_t *first, size_t first_s
 uint32_t illcanon_show_as(uint32_t profile, const uint8_t *octets, size_t octets_size, uint32_t number, uint8_t *buffer,
                           size_t buffer_size, size_t *size, struct illcanon_refusal *refusal);
 
-/* Writes the message in the profile that the octets are as a line of JSON, under a number and an offset, as illcanon_json does. */
+/* Writes the message in the profile that the octets are as a line of JSON, under a number and an offset, as illcanon_json does. A line of the
+ * module profile says so. */
 uint32_t illcanon_json_as(uint32_t profile, const uint8_t *octets, size_t octets_size, uint32_t number, uint64_t offset, uint8_t *buffer,
                           size_t buffer_size, size_t *size, struct illcanon_refusal *refusal);
 

@@ -26,6 +26,8 @@ from rules.values import identifier_from_json
 
 SCHEMA = TOP / "docs/show.schema.json"
 PROFILE, PROFILE_WORDS = profile_and_words()
+# the member of a line that says its profile
+SAID_PROFILE = {"profile": "module"} if PROFILE == "module" else {}
 
 
 def expect(condition, *what):
@@ -170,13 +172,14 @@ def make_schema():
         "offset": {"description": "How many octets of the input come before the message.", "type": "integer", "minimum": 0},
         "octets": {"description": "How many octets the message has.", "type": "integer", "minimum": 1, "maximum": 1_048_576},
         "apdu": {"enum": bodies},
+        "profile": {"description": "The module profile; not there in profile 2.", "const": "module"},
         "normal": {"description": "Whether the message is in normal form.", "type": "boolean"},
         "value": {"description": "An object of the rows that are there, with the defaults.", "type": "object"},
     }
     return {
         "$schema": "https://json-schema.org/draft/2020-12/schema",
         "title": "A line of illcanon show --json",
-        **object_of(members, [name for name in members if name != "file"]),
+        **object_of(members, [name for name in members if name not in ("file", "profile")]),
         "oneOf": [{"properties": {"apdu": {"const": name}, "value": {"$ref": f"#/$defs/{name}"}}} for name in bodies],
         "$defs": {**leaves, **names, **nodes},
     }
@@ -259,7 +262,7 @@ def read_vectors():
                 if "value" in vector and PROFILE in vector.get("profiles", [book.get("profile", "2")]):
                     octets = octets_of(vector, "octets", "runs")
                     value = of_vector(nodes[vector["apdu"]], "", vector["value"])
-                    yield octets, {"apdu": vector["apdu"], "normal": octets == octets_of(vector, "normal", "normal_runs"), "value": value}
+                    yield octets, {"apdu": vector["apdu"], **SAID_PROFILE, "normal": octets == octets_of(vector, "normal", "normal_runs"), "value": value}
 
 
 def random_messages(chance, count):
@@ -268,7 +271,7 @@ def random_messages(chance, count):
         apdu = random_value(chance, root)
         octets, normal = (writer.value(root, apdu, None) for writer in (Speller(chance), Writer()))
         row, name = ALL_ROWS[root][apdu[0]], NAMES[root][1][apdu[0]]
-        yield octets, {"apdu": name, "normal": octets == normal, "value": of_random(row.node, "", apdu[1])}
+        yield octets, {"apdu": name, **SAID_PROFILE, "normal": octets == normal, "value": of_random(row.node, "", apdu[1])}
 
 
 def compare_files(schema, messages, more):

@@ -196,9 +196,9 @@ def show(octets: Octets, number: int = 1, *, profile: Profile = "2") -> str:
 def parse(octets: Octets, number: int = 1, offset: int = 0, *, profile: Profile = "2") -> Dict[str, Any]:
     """The message in the profile that the octets are as a dict of its parts, as docs/show.schema.json describes it.
 
-    `apdu` is the name of the APDU, `value` its value, `normal` whether the octets are its normal form, `octets` how many they are, and
-    `number` and `offset` what the call is given: from 0 to 4,294,967,295, and to 18,446,744,073,709,551,615. Each number is exact. In a
-    string each octet is the character of its number.
+    `apdu` is the name of the APDU, `profile` is `module` in that profile and not there in profile 2, `value` is the value, `normal` whether
+    the octets are its normal form, `octets` how many they are, and `number` and `offset` what the call is given: from 0 to 4,294,967,295,
+    and to 18,446,744,073,709,551,615. Each number is exact. In a string each octet is the character of its number.
 
     Raises `Refused` where they are not exactly one message.
     """

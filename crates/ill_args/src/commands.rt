@@ -199,7 +199,8 @@ first line of each message begins with the name of its file and `: `.
 
 With --json each message is one line of JSON: its number, its offset and size in octets,
 its APDU, whether it is in normal form, and its value, nested by the names of the tables.
-Of several files, the line has the name of its file as `file`.
+A line of the module profile says so. Of several files, the line has the name of its file
+as `file`.
 ",
     "
 Example: illcanon show messages.ber

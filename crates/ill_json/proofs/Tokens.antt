@@ -1,10 +1,11 @@
 -- What marks say, and the tokens that are put for them.
-use Rattle.std.proofs.Common.{◌≡◌, ℕ, suc, ◌+◌, ◌-◌, true, false, List, [], ◌∷◌, ◌++◌, length, take, drop, codes, flat_map, Option, Some, None, refl, sym, ap, ap₂, ◌∙◌, arith, append_assoc, append-nil, ◌<◌, ◌==◌, get_or}
+use Rattle.std.proofs.Common.{◌≡◌, Bool, ℕ, suc, ◌+◌, ◌-◌, true, false, List, [], ◌∷◌, ◌++◌, length, take, drop, codes, flat_map, Option, Some, None, refl, sym, ap, ap₂, ◌∙◌, arith, append_assoc, append-nil, ◌<◌, ◌==◌, get_or}
 use Rattle.std.specs.Char.{encode_utf8}
 use Rattle.std.specs.Str.{chars}
 use Rattle.std.proofs.lemmas.Bool.Decides.{nat_tests}
 use Rattle.std.proofs.lemmas.List.Concat.{flat_map-append}
-use Rattle.json.specs.Json.{Json}
+use Rattle.json.specs.Json.{Json, no_members, object}
+use Rattle.json.specs.Json as json
 use Rattle.json.specs.Token.{Token, begin_object, end_array, end_object, key}
 use Rattle.json.specs.Print.{print}
 use Rattle.json.specs.Tree.{items_tokens, json_tokens, members_tokens}
@@ -19,8 +20,8 @@ use Rattle.ill_grammar.specs.declared.outline.Mark.TheVariants as mark
 use Rattle.ill_tables.specs.Names.{row_name, row_node}
 use Rattle.ill_grammar.specs.Marks.{IsEntry, is_at_end, is_there, octets_in}
 use Rattle.ill_grammar.proofs.MarkedValues.{mark_step, no_entry, no_item}
-use Rattle.ill_json.specs.Json.{characters, entry_members, in_member, item_values, line_json_in, line_of, plain, value_json}
-use Rattle.ill_json.specs.code.Adding.{Adds, entry_tokens, file_tokens, head_tokens, part_tokens, value_tokens}
+use Rattle.ill_json.specs.Json.{characters, entry_members, head_members, in_member, item_values, line_json_in, line_of, plain, value_json, with_file}
+use Rattle.ill_json.specs.code.Adding.{Adds, entry_tokens, file_tokens, normal_tokens, part_tokens, profile_tokens, start_tokens, value_tokens}
 use Rattle.ill_json.specs.declared.line.LineHead.{LineHead}
 use Rattle.ill_json.specs.declared.writing.LineWriter.{LineWriter}
 use Rattle.ill_json.proofs.Added.{adds_as, adds_then}
@@ -191,15 +192,21 @@ entry_nothing node i (Some c) there = absurd cc
 
 -- ---- the whole line
 
-line_whole : (p : Profile) (file : Option (List ℕ)) (head : LineHead) (a : Apdu) (row : ℕ) → row ≡ a.number - 1
-    → begin_object ∷ file_tokens file ++ head_tokens head (row_name (root p) row) ++ key (codes "value") ∷ [] ++ json_tokens (value_json [] (row_node (root p) row) a.body) ++ end_object ∷ [] ≡ json_tokens (line_json_in p file head a)
-line_whole p None head a row e = ap (λ (n : ℕ). begin_object ∷ head_tokens head (row_name (root p) n) ++ key (codes "value") ∷ [] ++ json_tokens (value_json [] (row_node (root p) n) a.body) ++ end_object ∷ []) e
-line_whole p (Some name) head a row e = ap (λ (n : ℕ). begin_object ∷ file_tokens (Some name) ++ head_tokens head (row_name (root p) n) ++ key (codes "value") ∷ [] ++ json_tokens (value_json [] (row_node (root p) n) a.body) ++ end_object ∷ []) e
+line_whole : (full : Bool) (file : Option (List ℕ)) (head : LineHead) (name : List ℕ) (v : Json)
+    → begin_object ∷ file_tokens file ++ start_tokens head name ++ profile_tokens full ++ normal_tokens head ++ key (codes "value") ∷ [] ++ json_tokens v ++ end_object ∷ []
+    ≡ json_tokens (object (with_file file (head_members full head name (json.member (codes "value") v no_members))))
+line_whole false None head name v = refl
+line_whole false (Some file) head name v = refl
+line_whole true None head name v = refl
+line_whole true (Some file) head name v = refl
 
 pub line_same : (p : Profile) (file : Option (List ℕ)) (head : LineHead) (a : Apdu) (name : List ℕ) (node : NodeId) (row : ℕ) → name ≡ row_name (root p) row → node ≡ row_node (root p) row → row ≡ a.number - 1
-    → begin_object ∷ file_tokens file ++ head_tokens head name ++ key (codes "value") ∷ [] ++ json_tokens (value_json [] node a.body) ++ end_object ∷ [] ≡ json_tokens (line_json_in p file head a)
+    → begin_object ∷ file_tokens file ++ start_tokens head name ++ profile_tokens p.full ++ normal_tokens head ++ key (codes "value") ∷ [] ++ json_tokens (value_json [] node a.body) ++ end_object ∷ []
+    ≡ json_tokens (line_json_in p file head a)
 line_same p file head a name node row n k e =
-    ap₂ (λ (x : List ℕ) (y : NodeId). begin_object ∷ file_tokens file ++ head_tokens head x ++ key (codes "value") ∷ [] ++ json_tokens (value_json [] y a.body) ++ end_object ∷ []) n k ∙ line_whole p file head a row e
+    line_whole p.full file head name (value_json [] node a.body)
+    ∙ ap₂ (λ (x : List ℕ) (y : NodeId). json_tokens (object (with_file file (head_members p.full head x (json.member (codes "value") (value_json [] y a.body) no_members)))))
+    (n ∙ ap (row_name (root p)) e) (k ∙ ap (row_node (root p)) e)
 
 -- ---- the whole text
 

@@ -1,5 +1,5 @@
 -- The line of JSON (RFC 8259) of a message: the text of a JSON value, and a line feed.
-use Rattle.std.specs.Prelude.{ℕ, suc, ◌-◌, ◌/◌, ◌%◌, ℤ, List, [], ◌∷◌, ◌++◌, codes, decimal, Option, Some, None, flat_map, if◌then◌else◌, nat_lt}
+use Rattle.std.specs.Prelude.{Bool, true, false, ℕ, suc, ◌-◌, ◌/◌, ◌%◌, ℤ, List, [], ◌∷◌, ◌++◌, codes, decimal, Option, Some, None, flat_map, if◌then◌else◌, nat_lt}
 use Rattle.std.specs.Char.{digit_char, encode_utf8}
 use Rattle.std.specs.Char.Escape.{encode_utf16}
 use Rattle.std.specs.Str.{chars}
@@ -77,18 +77,23 @@ abbrev pub with_file : Option (List ℕ) → Members → Members
 with_file None ms = ms
 with_file (Some name) ms = member (codes "file") (string name) ms
 
--- the members of the head, with this name of the APDU, before others
-abbrev pub head_members : LineHead → List ℕ → Members → Members
-head_members head apdu ms =
+-- a member that says the module profile, where it is that
+abbrev pub with_profile : Bool → Members → Members
+with_profile false ms = ms
+with_profile true ms = member (codes "profile") (string (codes "module")) ms
+
+-- the members of the head, with this name of the APDU, and with the module profile where that is full, before others
+abbrev pub head_members : Bool → LineHead → List ℕ → Members → Members
+head_members full head apdu ms =
     member (codes "number") (number (decimal head.number))
     (member (codes "offset") (number (decimal head.offset))
     (member (codes "octets") (number (decimal head.octets))
     (member (codes "apdu") (string apdu)
-    (member (codes "normal") (boolean head.is_normal) ms))))
+    (with_profile full (member (codes "normal") (boolean head.is_normal) ms)))))
 
 -- the APDU of the profile is in the row of ILL-APDU that its number, from 1, says
 abbrev pub line_json_in : Profile → Option (List ℕ) → LineHead → Apdu → Json
-line_json_in p file head a = object (with_file file (head_members head (row_name (root p) (a.number - 1))
+line_json_in p file head a = object (with_file file (head_members p.full head (row_name (root p) (a.number - 1))
     (member (codes "value") (value_json [] (row_node (root p) (a.number - 1)) a.body) no_members)))
 
 abbrev pub line_json : Option (List ℕ) → LineHead → Apdu → Json

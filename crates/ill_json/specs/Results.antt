@@ -1,5 +1,5 @@
 -- The lines of JSON of results: of a message without its value, and of one that is refused.
-use Rattle.std.specs.Prelude.{ℕ, List, [], ◌∷◌, map, codes, decimal, string_bytes, Option, Some, None, option_map}
+use Rattle.std.specs.Prelude.{false, ℕ, List, [], ◌∷◌, map, codes, decimal, string_bytes, Option, Some, None, option_map}
 use Rattle.json.specs.Json.{Json, number, string, array, object, Items, no_items, item, Members, no_members, member}
 use Rattle.ill_schema.specs.Causes.{cause_name}
 use Rattle.ill_schema.specs.Names.{cause_part_name_of, dotted_name}
@@ -38,7 +38,7 @@ with_list name (text ∷ texts) ms = member name (array (strings (text ∷ texts
 -- a message without its value, with this name of its APDU; and a digest, where there is one
 abbrev pub result_json : Option (List ℕ) → LineHead → List ℕ → Option (List ℕ) → Json
 result_json file head apdu digest =
-    object (with_file file (head_members head apdu (with_text (codes "digest") (option_map hexadecimal digest) no_members)))
+    object (with_file file (head_members false head apdu (with_text (codes "digest") (option_map hexadecimal digest) no_members)))
 
 abbrev pub kind_name : RefusalKind → List ℕ
 kind_name RefusalKind.NotRead = codes "not read"

@@ -5,7 +5,7 @@ ghost use Rattle.ill_schema.specs.Apdu.{Apdu, choice_of};
 ghost use Rattle.ill_schema.specs.Profiles.{profile_of};
 ghost use Rattle.ill_grammar.specs.Outline.{IsMarked, IsOutlineOf};
 ghost use Rattle.ill_json.specs.Json.{json_line_in, line_json_in};
-ghost use Rattle.ill_json.specs.code.Adding.{Adds, file_tokens, head_tokens};
+ghost use Rattle.ill_json.specs.code.Adding.{Adds, file_tokens, normal_tokens, profile_tokens, start_tokens};
 
 use crate::value::put_value;
 use crate::writing::LineWriter;
@@ -34,6 +34,7 @@ pub struct LineHead {
 /// - `file`: the name of the file, where it is given
 /// - `number`, `offset`, `octets`: those of the head
 /// - `apdu`: the name of the APDU
+/// - `profile`: `module` in the module profile; not there in profile 2
 /// - `normal`: whether the message is in normal form
 /// - `value`: the value of the APDU
 ///
@@ -91,7 +92,9 @@ fn put_line(
             out.put(Token::BeginObject);
             put_file(file, out);
             let root = root_as(profile);
-            put_head(head, row_name(root, row as usize), out);
+            put_start(head, row_name(root, row as usize), out);
+            put_profile(profile, out);
+            put_normal(head, out);
             let node = row_node(root, row as usize);
             out.put(Token::Key("value"));
             let _ = put_value(after_leading_mark(marks), "", node, out);
@@ -114,9 +117,9 @@ pub(crate) fn put_file(file: Option<&str>, out: &mut LineWriter)
     }
 }
 
-/// Puts the members of the head, with the APDU's name.
-pub(crate) fn put_head(head: LineHead, name: &str, out: &mut LineWriter)
-    ensures { Adds (head_tokens head name.now) out.old out.new }
+/// Puts the members of the head up to the APDU's name.
+pub(crate) fn put_start(head: LineHead, name: &str, out: &mut LineWriter)
+    ensures { Adds (start_tokens head name.now) out.old out.new }
 {
     out.put(Token::Key("number"));
     out.count(head.number as u64);
@@ -126,6 +129,25 @@ pub(crate) fn put_head(head: LineHead, name: &str, out: &mut LineWriter)
     out.count(head.octets as u64);
     out.put(Token::Key("apdu"));
     out.put(Token::String(name));
+}
+
+/// Puts the member of the profile, if it is the module's.
+fn put_profile(profile: Profile, out: &mut LineWriter)
+    ensures { Adds (profile_tokens (profile_of profile).full) out.old out.new }
+{
+    match profile {
+        Profile::Two => {}
+        Profile::Module => {
+            out.put(Token::Key("profile"));
+            out.put(Token::String("module"));
+        }
+    }
+}
+
+/// Puts the member that says whether the message is in normal form.
+pub(crate) fn put_normal(head: LineHead, out: &mut LineWriter)
+    ensures { Adds (normal_tokens head) out.old out.new }
+{
     out.put(Token::Key("normal"));
     out.put(Token::Bool(head.is_normal));
 }

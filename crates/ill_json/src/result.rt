@@ -5,7 +5,7 @@ ghost use Rattle.ill_schema.specs.Names.{cause_part_name_of, dotted_name};
 ghost use Rattle.ill_json.specs.Results.{kind_name, refused_json, refused_line_of, result_json, result_line_of, why_json};
 ghost use Rattle.ill_json.specs.code.Adding.{Adds, count_tokens, digest_tokens, text_tokens};
 
-use crate::line::{LineHead, put_file, put_head};
+use crate::line::{LineHead, put_file, put_normal, put_start};
 use crate::place::put_place;
 use crate::writing::LineWriter;
 use ill_inputs::RefusalPlace;
@@ -49,7 +49,7 @@ pub struct RefusedHead {
 
 /// The line of JSON of a message without its value, in the memory of `buffer`, whose octets are forgotten.
 ///
-/// It has the members of [`json_line`](crate::json_line) but `value`, and at the end `digest`, in hexadecimal, where it is given.
+/// It has the members of [`json_line`](crate::json_line) but `profile` and `value`, and at the end `digest`, in hexadecimal, where it is given.
 ///
 /// # Errors
 ///
@@ -129,7 +129,8 @@ fn put_result(
 {
     out.put(Token::BeginObject);
     put_file(file, out);
-    put_head(head, apdu, out);
+    put_start(head, apdu, out);
+    put_normal(head, out);
     put_digest(digest, out);
     out.put(Token::EndObject);
 }

@@ -1,5 +1,5 @@
 -- Tokens that are put one after another.
-use Rattle.std.specs.Prelude.{◌≡◌, ℕ, false, List, [], ◌∷◌, ◌++◌, map, Option, Some, None, option_map, codes, decimal, string_bytes}
+use Rattle.std.specs.Prelude.{◌≡◌, Bool, ℕ, false, true, List, [], ◌∷◌, ◌++◌, map, Option, Some, None, option_map, codes, decimal, string_bytes}
 use Rattle.json.specs.Token.{Token, begin_array, end_array, key, string, number, boolean}
 use Rattle.json.specs.Tree.{json_tokens}
 use Rattle.ill_schema.specs.Content.{Content}
@@ -62,9 +62,15 @@ place_tokens place =
 abbrev pub digest_tokens : Option (List ℕ) → List Token
 digest_tokens digest = text_tokens (codes "digest") (option_map hexadecimal digest)
 
--- the members beside the value, with this name of the APDU
-abbrev pub head_tokens : LineHead → List ℕ → List Token
-head_tokens head apdu =
+-- the members of the head up to the name of the APDU, that of the module profile, and that of the normal form
+abbrev pub start_tokens : LineHead → List ℕ → List Token
+start_tokens head apdu =
     key (codes "number") ∷ number (decimal head.number) ∷ key (codes "offset") ∷ number (decimal head.offset)
-    ∷ key (codes "octets") ∷ number (decimal head.octets) ∷ key (codes "apdu") ∷ string apdu
-    ∷ key (codes "normal") ∷ boolean head.is_normal ∷ []
+    ∷ key (codes "octets") ∷ number (decimal head.octets) ∷ key (codes "apdu") ∷ string apdu ∷ []
+
+abbrev pub profile_tokens : Bool → List Token
+profile_tokens false = []
+profile_tokens true = key (codes "profile") ∷ string (codes "module") ∷ []
+
+abbrev pub normal_tokens : LineHead → List Token
+normal_tokens head = key (codes "normal") ∷ boolean head.is_normal ∷ []

@@ -55,17 +55,17 @@ const MODULE_ROWS: [(&str, u32, &str); 3] = [
     (
         "742d302b800102a10aa1031b0147a2031b0151a20ca00a80083230323430323239bf310b3009800101a20430020500",
         47,
-        "{\"number\":1,\"offset\":0,\"octets\":47,\"apdu\":\"Expired\",\"normal\":true,\"value\":{\"protocol-version-num\":2,\"transaction-id\":{\"transaction-group-qualifier\":{\"general\":\"G\"},\"transaction-qualifier\":{\"general\":\"Q\"}},\"service-date-time\":{\"date-time-of-this-service\":{\"date\":\"20240229\"}},\"expired-extensions\":[{\"identifier\":1,\"critical\":false,\"item\":{\"foreign\":\"30020500\"}}]}}\n",
+        "{\"number\":1,\"offset\":0,\"octets\":47,\"apdu\":\"Expired\",\"profile\":\"module\",\"normal\":true,\"value\":{\"protocol-version-num\":2,\"transaction-id\":{\"transaction-group-qualifier\":{\"general\":\"G\"},\"transaction-qualifier\":{\"general\":\"Q\"}},\"service-date-time\":{\"date-time-of-this-service\":{\"date\":\"20240229\"}},\"expired-extensions\":[{\"identifier\":1,\"critical\":false,\"item\":{\"foreign\":\"30020500\"}}]}}\n",
     ),
     (
         "70233021800102a10aa1031b0147a2031b0151a20ca00a80083230323430323239a5028100",
         37,
-        "{\"number\":1,\"offset\":0,\"octets\":37,\"apdu\":\"Damaged\",\"normal\":true,\"value\":{\"protocol-version-num\":2,\"transaction-id\":{\"transaction-group-qualifier\":{\"general\":\"G\"},\"transaction-qualifier\":{\"general\":\"Q\"}},\"service-date-time\":{\"date-time-of-this-service\":{\"date\":\"20240229\"}},\"damaged-details\":{\"damaged-portion\":{\"complete-document\":null}}}}\n",
+        "{\"number\":1,\"offset\":0,\"octets\":37,\"apdu\":\"Damaged\",\"profile\":\"module\",\"normal\":true,\"value\":{\"protocol-version-num\":2,\"transaction-id\":{\"transaction-group-qualifier\":{\"general\":\"G\"},\"transaction-qualifier\":{\"general\":\"Q\"}},\"service-date-time\":{\"date-time-of-this-service\":{\"date\":\"20240229\"}},\"damaged-details\":{\"damaged-portion\":{\"complete-document\":null}}}}\n",
     ),
     (
         "6a6f306d800102a10aa1031b0147a2031b0151a20ca00a80083230323430323239b143281a06072a8648ce13050a02010507044d41524381065831323334352812a010300e0201051b03612262a002050031002811060b69ffffffffffffffffff7f820203f89f25083230323430323239",
         113,
-        "{\"number\":1,\"offset\":0,\"octets\":113,\"apdu\":\"Returned\",\"normal\":true,\"value\":{\"protocol-version-num\":2,\"transaction-id\":{\"transaction-group-qualifier\":{\"general\":\"G\"},\"transaction-qualifier\":{\"general\":\"Q\"}},\"service-date-time\":{\"date-time-of-this-service\":{\"date\":\"20240229\"}},\"supplemental-item-description\":[{\"direct-reference\":\"1.2.840.10003.5.10\",\"indirect-reference\":5,\"data-value-descriptor\":\"MARC\",\"encoding\":{\"octet-aligned\":{\"octets\":\"583132333435\"}}},{\"encoding\":{\"single-asn1-type\":{\"foreign\":\"300e0201051b03612262a00205003100\"}}},{\"direct-reference\":\"oid 69ffffffffffffffffff7f\",\"encoding\":{\"arbitrary\":{\"bits\":5,\"octets\":\"f8\"}}}],\"date-returned\":\"20240229\"}}\n",
+        "{\"number\":1,\"offset\":0,\"octets\":113,\"apdu\":\"Returned\",\"profile\":\"module\",\"normal\":true,\"value\":{\"protocol-version-num\":2,\"transaction-id\":{\"transaction-group-qualifier\":{\"general\":\"G\"},\"transaction-qualifier\":{\"general\":\"Q\"}},\"service-date-time\":{\"date-time-of-this-service\":{\"date\":\"20240229\"}},\"supplemental-item-description\":[{\"direct-reference\":\"1.2.840.10003.5.10\",\"indirect-reference\":5,\"data-value-descriptor\":\"MARC\",\"encoding\":{\"octet-aligned\":{\"octets\":\"583132333435\"}}},{\"encoding\":{\"single-asn1-type\":{\"foreign\":\"300e0201051b03612262a00205003100\"}}},{\"direct-reference\":\"oid 69ffffffffffffffffff7f\",\"encoding\":{\"arbitrary\":{\"bits\":5,\"octets\":\"f8\"}}}],\"date-returned\":\"20240229\"}}\n",
     ),
 ];
 

@@ -130,7 +130,7 @@ static ROWS: [Row; 9] = [
         job: Job::Json,
         profile: Profile::Module,
         input: EXTENDED,
-        output: "{\"number\":1,\"offset\":0,\"octets\":47,\"apdu\":\"Expired\",\"normal\":true,\"value\":{\"protocol-version-num\":2,\"transaction-id\":{\"transaction-group-qualifier\":{\"general\":\"G\"},\"transaction-qualifier\":{\"general\":\"Q\"}},\"service-date-time\":{\"date-time-of-this-service\":{\"date\":\"20240229\"}},\"expired-extensions\":[{\"identifier\":1,\"critical\":false,\"item\":{\"foreign\":\"30020500\"}}]}}\n",
+        output: "{\"number\":1,\"offset\":0,\"octets\":47,\"apdu\":\"Expired\",\"profile\":\"module\",\"normal\":true,\"value\":{\"protocol-version-num\":2,\"transaction-id\":{\"transaction-group-qualifier\":{\"general\":\"G\"},\"transaction-qualifier\":{\"general\":\"Q\"}},\"service-date-time\":{\"date-time-of-this-service\":{\"date\":\"20240229\"}},\"expired-extensions\":[{\"identifier\":1,\"critical\":false,\"item\":{\"foreign\":\"30020500\"}}]}}\n",
         answer: Ok(Verdict::Good),
     },
 ];

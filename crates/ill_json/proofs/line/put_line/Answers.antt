@@ -12,7 +12,8 @@ returns-in-Some c a h =
     let row : c.in-Some.row ≡ a.number - 1 = cc in
     let value = c.put_value.ensures.adds a.body h.0 [] h.2 (c.after_leading_mark.ensures ∙ ap (drop 1) h.1 ∙ sym (append-nil h.0)) in
     adds_as _ _ _ _ (line_same (profile_of c.args.profile) _ c.args.head a _ _ c.in-Some.row (c.row_name.ensures ∙ ap (λ n. row_name n c.in-Some.row) c.root_as-root.ensures) (c.row_node-node.ensures ∙ ap (λ n. row_node n c.in-Some.row) c.root_as-root.ensures) row)
-    (adds_then _ _ _ _ _ (adds_then _ _ _ _ _ (adds_then _ _ _ _ _ (adds_then _ _ _ _ _ (adds_then _ _ _ _ _ c.put.ensures c.put_file.ensures) c.put_head.ensures) c.put-in-Some.ensures) value.1) c.put-in-Some-2.ensures)
+    (adds_then _ _ _ _ _ (adds_then _ _ _ _ _ (adds_then _ _ _ _ _ (adds_then _ _ _ _ _ (adds_then _ _ _ _ _ (adds_then _ _ _ _ _ (adds_then _ _ _ _ _ c.put.ensures c.put_file.ensures)
+    c.put_start.ensures) c.put_profile.ensures) c.put_normal.ensures) c.put-in-Some.ensures) value.1) c.put-in-Some-2.ensures)
 
 pub returns-in-None : goal.returns-in-None
 returns-in-None c a h = absurd (let q : Some (a.number - 1) ≡ None = sym (ap alternative_in h.1) ∙ sym c.alternative.ensures ∙ c.in-None.is in cc)
