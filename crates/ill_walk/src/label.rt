@@ -50,10 +50,8 @@ fn type_name(element: Element) -> &'static str {
         Element::Segment => "OCTET STRING",
         Element::BitString | Element::BitSegment => "BIT STRING",
         Element::Foreign(_) => "ANY",
-        Element::Sequence(_)
-        | Element::List(_)
-        | Element::Wrapper(_)
-        | Element::LooseWrapper(_) => "SEQUENCE",
+        Element::Sequence(_) | Element::List(_) | Element::Wrapper(_) | Element::LooseWrapper(_) =>
+            "SEQUENCE",
     }
 }
 

@@ -123,11 +123,7 @@ static ROWS: [Row; 6] = [
 /// The description of the element that is due with a tag where a way leads.
 fn described(way: &[Step], (class, number): (Class, u32)) -> Option<Description> {
     let found = found(place_at(way)?, class, number)?;
-    Some((
-        found.element(),
-        found.alternative(),
-        found.default_value(),
-    ))
+    Some((found.element(), found.alternative(), found.default_value()))
 }
 
 #[test]
