@@ -228,6 +228,14 @@ def check_said(path, pattern, wanted):
         fault(path, f"has to say {wanted} once, where it says {found}: {pattern}")
 
 
+def check_profile_member():
+    """The help, the man page and the header say that a line of the module profile has the member `profile`."""
+    for path in COMMANDS, MAN, HEADER:
+        text = re.sub(r"[\s*]+", " ", read(path))
+        if not re.search(r"A line of the module profile says so|In the module profile a line of \.Cm show says so", text):
+            fault(path, "doesn't say that a line of the module profile says so")
+
+
 def check_edits_and_laws():
     """DECISIONS counts the edits of the gate, PROVED has the numbers of the laws on refusals, and README says that the gate tries edits."""
     in_gate = [path for path in (ROOT / "tests/edits").glob("*/*.edit") if not re.search(r"^slow: ", path.read_text(encoding="utf-8"), re.M)]
@@ -508,6 +516,7 @@ def check(documents, program):
     check_gate(documents)
     check_crates()
     check_edits_and_laws()
+    check_profile_member()
     check_statuses()
     check_examples()
     check_wiring()

@@ -19,6 +19,8 @@ TOP = Path(__file__).resolve().parents[2]
 CRATES = TOP / "crates"
 WRONG = TOP / "tests/docs/wrong_bodies.txt"
 FUNCTION = re.compile(r'\s*(?:pub )?(?:const |final |unsafe |extern "C" )*fn (\w+)')
+# A call that a document names, and the clauses right after it.
+CALLED = re.compile(r"`(\w+::(?:\w+::)?[a-z]\w*)`(?: \(((?:`\w+`(?:, )?)+)\))?")
 # The files that have laws, by the end of their path.
 LAWS = re.compile(r"/(laws|skipping_laws|contracts)\.rt$|test_messages/src/(normal/(profiles|refused)|schema/module)\.rt$|test_encoding/src/frames\.rt$")
 # The documents whose calls and clauses are looked up, and those whose other names are, too.
@@ -149,16 +151,15 @@ def faults():
     known = {function.name for found in by_crate.values() for function in found} | {path.stem for _, path, _ in edits()}
     for document in CHECKED:
         for number, line in enumerate((TOP / document).read_text(encoding="utf-8").splitlines(), 1):
-            called = re.compile(r"`(\w+::(?:\w+::)?[a-z]\w*)`(?: \(((?:`\w+`(?:, )?)+)\))?")
-            for call, clauses in called.findall(line):
+            for call, clauses in CALLED.findall(line):
                 there = {name for function in named.get(call, []) for name in function.clause_names()}
                 if call not in named:
                     yield f"{document}:{number}: no call `{call}`"
                 for clause in re.findall(r"\w+", clauses):
                     if clause not in there:
                         yield f"{document}:{number}: no clause `{clause}` of `{call}`"
-            if " | " in line and called.search(line):
-                for clauses in re.findall(r"\([^()]*`[a-z_]+`[^()]*\)", called.sub("", line)):
+            if " | " in line and CALLED.search(line):
+                for clauses in re.findall(r"\([^()]*`[a-z_]+`[^()]*\)", CALLED.sub("", line)):
                     yield f"{document}:{number}: {clauses} is not right after a call"
             if document in WITH_LAWS:
                 for name in re.findall(r"`([a-z0-9]+(?:_[a-z0-9]+){2,})`", line):

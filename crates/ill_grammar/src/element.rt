@@ -32,7 +32,7 @@ impl Found {
     ghost use Rattle.ill_grammar.specs.Due.{read_as};
     ghost use Rattle.ill_grammar.specs.Elements.{is_two_element};
 
-    /// What it is, as code reads it. An element that is left out never is read.
+    /// The element that it is, as code reads it. One that is left out never is read.
     #[inline(always)]
     pub fn element(self) -> Element
         ensures element { result ≡ read_as self }

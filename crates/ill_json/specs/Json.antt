@@ -82,7 +82,7 @@ abbrev pub with_profile : Bool → Members → Members
 with_profile false ms = ms
 with_profile true ms = member (codes "profile") (string (codes "module")) ms
 
--- the members of the head, with this name of the APDU, and with the module profile where that is full, before others
+-- the members of the head before others: with this name of the APDU, and with the profile, if that is the full one of the module
 abbrev pub head_members : Bool → LineHead → List ℕ → Members → Members
 head_members full head apdu ms =
     member (codes "number") (number (decimal head.number))

@@ -30,7 +30,7 @@ fn place_at(way: &[Step]) -> Option<Place> {
     Some(place)
 }
 
-/// What an element is, its alternative, and the default of its row.
+/// An element, its alternative, and the default of its row.
 type Description = (Element, Option<u8>, Option<i64>);
 
 /// A name, the way to a place, the tag of an element that is due there, and its description.
