@@ -1,0 +1,25 @@
+use Rattle.ill_parts.proofs.third_party.ThirdPartyInfoPart.read.Goals as goal
+
+pub required-requires : goal.required-requires
+required-requires c = c.entries-entries.ensures.rows.0
+
+pub required-requires-2 : goal.required-requires-2
+required-requires-2 c = c.entries-entries.ensures.rows.1.0
+
+pub required-requires-3 : goal.required-requires-3
+required-requires-3 c = c.entries-entries.ensures.rows.1.1.0
+
+pub required-requires-4 : goal.required-requires-4
+required-requires-4 c = c.entries-entries.ensures.rows.1.1.1.0
+
+pub optional-requires : goal.optional-requires
+optional-requires c = c.entries-entries.ensures.rows.1.1.1.1.0
+
+pub required-requires-5 : goal.required-requires-5
+required-requires-5 c = c.entries-entries.ensures.rows.1.1.1.1.1.0
+
+pub optional-requires-2 : goal.optional-requires-2
+optional-requires-2 c = c.entries-entries.ensures.rows.1.1.1.1.1.1.0
+
+pub optional-requires-3 : goal.optional-requires-3
+optional-requires-3 c = c.entries-entries.ensures.rows.1.1.1.1.1.1.1.0
