@@ -501,7 +501,7 @@ def check_results_schema(known):
 
 def check_crates():
     """Compares the crates that ARCHITECTURE names with the directories in crates/."""
-    named = set(re.findall(r"`((?:ber|der|example|ill|test)_\w+)`", read("docs/ARCHITECTURE.md")))
+    named = set(re.findall(r"`((?:ber|der|example|ill|oid|test)_\w+)`", read("docs/ARCHITECTURE.md")))
     crates = {path.name for path in (ROOT / "crates").iterdir() if "_" in path.name and (path / "src").is_dir()}
     for name in sorted(named - crates):
         fault("docs/ARCHITECTURE.md", f"names {name}, which is no crate")

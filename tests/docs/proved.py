@@ -22,7 +22,7 @@ FUNCTION = re.compile(r'\s*(?:pub )?(?:const |final |unsafe |extern "C" )*fn (\w
 # A call that a document names, and the clauses right after it.
 CALLED = re.compile(r"`(\w+::(?:\w+::)?[a-z]\w*)`(?: \(((?:`\w+`(?:, )?)+)\))?")
 # The files that have laws, by the end of their path.
-LAWS = re.compile(r"/(laws|skipping_laws|contracts)\.rt$|test_messages/src/(normal/(profiles|refused)|schema/module)\.rt$|test_encoding/src/frames\.rt$")
+LAWS = re.compile(r"/(laws|\w+_laws|contracts)\.rt$|test_messages/src/(normal/(profiles|refused)|schema/module)\.rt$|test_encoding/src/frames\.rt$")
 # The documents whose calls and clauses are looked up, and those whose other names are, too.
 CHECKED = ("README.md", *(f"docs/{name}.md" for name in ("ARCHITECTURE", "CALLING", "DECISIONS", "DEFINITIONS", "GLOSSARY", "PERFORMANCE", "PROVED", "TESTING")))
 WITH_LAWS = ("docs/TESTING.md", "docs/PROVED.md")

@@ -42,7 +42,7 @@ low_ascii (x ∷ xs) e =
 pub IsUtf8-are_low : (xs : List ℕ) → are_low xs ≡ true → IsUtf8 xs
 IsUtf8-are_low xs e = IsUtf8-are_ascii xs (low_ascii xs e)
 
-in_ascii-append : (xs ys : List ℕ) → IsUtf8 xs → in_ascii (xs ++ ys) ≡ in_ascii xs ++ in_ascii ys
+pub in_ascii-append : (xs ys : List ℕ) → IsUtf8 xs → in_ascii (xs ++ ys) ≡ in_ascii xs ++ in_ascii ys
 in_ascii-append xs ys u = ap (flat_map plain) (chars-append xs ys u) ∙ flat_map-append plain (chars xs) (chars ys)
 
 in_ascii-encode : (c : ℕ) → scalar c ≡ true → in_ascii (encode_utf8 c) ≡ plain c
@@ -401,7 +401,7 @@ AreTexts-append : (ts us : List Token) → AreTexts ts → AreTexts us → AreTe
 AreTexts-append [] us h k = k
 AreTexts-append (t ∷ ts) us h k = (h.0, AreTexts-append ts us h.1 k)
 
-token_utf8 : (t : Token) → IsPrintable t → IsText t → IsUtf8 (token_text t)
+pub token_utf8 : (t : Token) → IsPrintable t → IsText t → IsUtf8 (token_text t)
 token_utf8 begin_object h k = IsUtf8-are_low _ refl
 token_utf8 end_object h k = IsUtf8-are_low _ refl
 token_utf8 begin_array h k = IsUtf8-are_low _ refl
@@ -417,7 +417,7 @@ token_utf8 bad h k = IsUtf8-nil
 lex-low : (s r q : List ℕ) → are_low s ≡ true → lex between (s ++ r) ≡ lex between (s ++ q) → lex between (in_ascii s ++ r) ≡ lex between (s ++ q)
 lex-low s r q low same = ap (λ (l : List ℕ). lex between (l ++ r)) (in_ascii-are_low s low) ∙ same
 
-lex-token : (t : Token) (r q : List ℕ) → IsPrintable t → IsText t → (ends t ≡ true → ends_word r ≡ true) → (ends t ≡ true → ends_word q ≡ true) → lex between r ≡ lex between q
+pub lex-token : (t : Token) (r q : List ℕ) → IsPrintable t → IsText t → (ends t ≡ true → ends_word r ≡ true) → (ends t ≡ true → ends_word q ≡ true) → lex between r ≡ lex between q
     → lex between (in_ascii (token_text t) ++ r) ≡ lex between (token_text t ++ q)
 unfolding lex word
 lex-token begin_object r q h k f g same = lex-low _ r q refl (ap (λ (l : List Lexeme). token begin_object ∷ l) same)
@@ -445,7 +445,7 @@ lex-token bad r q h k f g same = absurd h
 end_low : (x : ℕ) → (is_operator x || is_space x) ≡ true → x < 127
 end_low x e = grind (arith, nat_tests)
 
-ends_in_ascii : (s : List ℕ) → ends_word s ≡ true → ends_word (in_ascii s) ≡ true
+pub ends_in_ascii : (s : List ℕ) → ends_word s ≡ true → ends_word (in_ascii s) ≡ true
 ends_in_ascii [] e = ap (λ (l : List ℕ). ends_word (flat_map plain l)) chars-nil
 ends_in_ascii (x ∷ xs) e = ap ends_word (in_ascii-cons x xs (end_low x e)) ∙ e
 
@@ -464,7 +464,7 @@ after_value_ends (boolean b ∷ ts) = refl
 after_value_ends (null ∷ ts) = refl
 after_value_ends (bad ∷ ts) = refl
 
-value_ends : (t : Token) (ts : List Token) → ends t ≡ true → ends_word (print_from (ends t) ts) ≡ true
+pub value_ends : (t : Token) (ts : List Token) → ends t ≡ true → ends_word (print_from (ends t) ts) ≡ true
 value_ends t ts e = ap (λ (b : Bool). ends_word (print_from b ts)) e ∙ after_value_ends ts
 
 lex-comma : (b : Bool) (r q : List ℕ) → lex between (in_ascii r) ≡ lex between q → lex between (in_ascii (cond b (44 ∷ []) [] ++ r)) ≡ lex between (cond b (44 ∷ []) [] ++ q)

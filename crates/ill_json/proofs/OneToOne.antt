@@ -44,7 +44,8 @@ use Rattle.ill_schema.specs.TableFacts.{is_of_two}
 use Rattle.ill_schema.specs.Tagging.{leaf_of}
 use Rattle.ill_tables.specs.Numbers.{number_name, number_names}
 use Rattle.ill_tables.specs.Names.{name_or_none, node_or_left_out, row_name, row_node}
-use Rattle.ill_json.specs.Json.{characters, entry_members, in_member, item_values, json_line_of, leaf_json, line_json, number_json, plain, value_json, with_file}
+use Rattle.ill_schema.specs.Texts.{characters}
+use Rattle.ill_json.specs.Json.{entry_members, in_member, item_values, json_line_of, leaf_json, line_json, number_json, plain, value_json, with_file}
 use Rattle.ill_json.specs.declared.line.LineHead.{LineHead}
 use Rattle.ill_json.proofs.InAscii.{AreTexts-json_tokens, HasTexts, IsUtf8-are_low, are_low, in_ascii, in_ascii-cons, tokens-in_ascii}
 
@@ -121,7 +122,7 @@ mag_bound : (z : ℤ) → (neg_ℤ (pos 9_223_372_036_854_775_808) ≤ℤ z) × 
 mag_bound (pos n) h = let top = h.1 in omega (arith, ints)
 mag_bound (negsuc n) h = let low = h.0 in omega (arith, ints)
 
-whole_size : (p : Profile) (k : Kind) (l : Leaf) (z : ℤ) → leaf_of k (whole z) ≡ Some l → Holds p l (whole z) (normal_content (whole z)) → mag z < 2 ^ 63
+pub whole_size : (p : Profile) (k : Kind) (l : Leaf) (z : ℤ) → leaf_of k (whole z) ≡ Some l → Holds p l (whole z) (normal_content (whole z)) → mag z < 2 ^ 63
 whole_size p (Kind.Leaf LeafKind.Integer) l z e h =
     let same : l ≡ integer = cc in mag_bound z ((whole_bounds p z).0 (normal_content (whole z), subst (λ x. Holds p x (whole z) (normal_content (whole z))) same h))
 whole_size p (Kind.Leaf LeafKind.Enumerated) l z e h =
@@ -129,7 +130,7 @@ whole_size p (Kind.Leaf LeafKind.Enumerated) l z e h =
 whole_size p _ l z e h = absurd cc
 
 -- the sort of a leaf is that of its kind
-abbrev leaf_sort : Simple → ℕ
+abbrev pub leaf_sort : Simple → ℕ
 leaf_sort (flag b) = 0
 leaf_sort (whole z) = 1
 leaf_sort (date o) = 2
@@ -161,7 +162,7 @@ kind_sort Kind.SeqOf = 12
 kind_sort Kind.Choice = 13
 kind_sort Kind.Any = 14
 
-sort_of : (k : Kind) (v : Simple) (l : Leaf) → leaf_of k v ≡ Some l → kind_sort k ≡ leaf_sort v
+pub sort_of : (k : Kind) (v : Simple) (l : Leaf) → leaf_of k v ≡ Some l → kind_sort k ≡ leaf_sort v
 sort_of (Kind.Leaf LeafKind.Boolean) (flag b) l e = refl
 sort_of (Kind.Leaf LeafKind.Integer) (whole z) l e = refl
 sort_of (Kind.Leaf LeafKind.Enumerated) (whole z) l e = refl
@@ -282,16 +283,16 @@ alternative_named node n row c two e =
 -- ---- values
 
 -- the rows from row i on
-abbrev From : List Row → ℕ → List Row → Type 0
+abbrev pub From : List Row → ℕ → List Row → Type 0
 From rows i all = (k : ℕ) → slice_get rows k ≡ slice_get all (i + k)
 
-from_all : (rows : List Row) → From rows 0 rows
+pub from_all : (rows : List Row) → From rows 0 rows
 from_all rows = λ k. ap (λ (n : ℕ). slice_get rows n) (let s : k ≡ 0 + k = omega arith in s)
 
-from_next : (row : Row) (rows : List Row) (i : ℕ) (all : List Row) → From (row ∷ rows) i all → From rows (suc i) all
+pub from_next : (row : Row) (rows : List Row) (i : ℕ) (all : List Row) → From (row ∷ rows) i all → From rows (suc i) all
 from_next row rows i all h = λ k. h (suc k) ∙ ap (λ (n : ℕ). slice_get all n) (let s : i + suc k ≡ suc i + k = omega arith in s)
 
-from_here : (row : Row) (rows : List Row) (i : ℕ) (all : List Row) → From (row ∷ rows) i all → slice_get all i ≡ Some row
+pub from_here : (row : Row) (rows : List Row) (i : ℕ) (all : List Row) → From (row ∷ rows) i all → slice_get all i ≡ Some row
 from_here row rows i all h = ap (λ (n : ℕ). slice_get all n) (let s : i ≡ i + 0 = omega arith in s) ∙ sym (h 0)
 
 object_same : (ms ns : Members) → json.object ms ≡ json.object ns → ms ≡ ns
@@ -311,7 +312,7 @@ no_later p node i j (row ∷ rows) (present c es) r v ms at lt from fit e =
     let same = row_once node j i row r (from_here row rows j (rows_of node) from) at (member_same _ _ _ _ _ _ e).0 in
     absurd (omega (arith, lt, same))
 
-abbrev content_sort : Content → ℕ
+abbrev pub content_sort : Content → ℕ
 content_sort (simple v) = leaf_sort v
 content_sort (sequence es) = 11
 content_sort (list is) = 12
@@ -325,7 +326,7 @@ fit_sort p (list is) node h = ap kind_sort h.0
 fit_sort p (alternative n c) node h = ap kind_sort h.1.0
 fit_sort p (foreign T) node h = ap kind_sort h.0
 
-small_sort : (v : Simple) → leaf_sort v < 11
+pub small_sort : (v : Simple) → leaf_sort v < 11
 small_sort (flag b) = omega arith
 small_sort (whole z) = omega arith
 small_sort (date o) = omega arith
@@ -339,10 +340,10 @@ small_sort (binary o) = omega arith
 small_sort (bits n o) = omega arith
 small_sort (descriptor o) = omega arith
 
-other : (p : Profile) (c d : Content) (node : NodeId) → Fits p c node → Fits p d node → content_sort c ≡ content_sort d
+pub other : (p : Profile) (c d : Content) (node : NodeId) → Fits p c node → Fits p d node → content_sort c ≡ content_sort d
 other p c d node h k = sym (fit_sort p c node h) ∙ fit_sort p d node k
 
-row_fits : (p : Profile) (node : NodeId) (i : ℕ) (c : Content) (row : Row) → slice_get (rows_of node) i ≡ Some row → Fits p c row.node → Fits p c (row_node node i)
+pub row_fits : (p : Profile) (node : NodeId) (i : ℕ) (c : Content) (row : Row) → slice_get (rows_of node) i ≡ Some row → Fits p c row.node → Fits p c (row_node node i)
 row_fits p node i c row e h = subst (λ n. Fits p c n) (sym (ap node_or_left_out e)) h
 
 -- the rows of profile 2's nodes are of such nodes
@@ -438,7 +439,7 @@ abbrev pub IsSmall : LineHead → Type 0
 IsSmall head = (head.number < 2 ^ 64) × (head.offset < 2 ^ 64) × (head.octets < 2 ^ 64)
 
 -- a value that is written and read back
-abbrev IsWritten : Json → Type 0
+abbrev pub IsWritten : Json → Type 0
 IsWritten j = HasNumbers j × HasTexts j
 
 abbrev all_low : List (List ℕ) → Bool
@@ -454,7 +455,7 @@ names_low : (node : NodeId) → all_low (names_of node).1 ≡ true
 names_low Boolean = refl
 names_low _ = refl
 
-IsUtf8-row_name : (node : NodeId) (i : ℕ) → IsUtf8 (row_name node i)
+pub IsUtf8-row_name : (node : NodeId) (i : ℕ) → IsUtf8 (row_name node i)
 IsUtf8-row_name node i = IsUtf8-low_name (names_of node).1 i (names_low node)
 
 either_low : (b : Bool) (ms ns : List (List ℕ)) → all_low ms ≡ true → all_low ns ≡ true → all_low (if b then ms else ns) ≡ true
@@ -464,19 +465,19 @@ either_low false ms ns h k = k
 number_names_low : (row : List ℕ) → all_low (number_names row) ≡ true
 number_names_low row = search either_low
 
-IsUtf8-number_name : (row : List ℕ) (z : ℤ) → IsUtf8 (name_or_none (number_name row z))
+pub IsUtf8-number_name : (row : List ℕ) (z : ℤ) → IsUtf8 (name_or_none (number_name row z))
 IsUtf8-number_name row (pos zero) = IsUtf8-nil
 IsUtf8-number_name row (pos (suc n)) = IsUtf8-low_name (number_names row) n (number_names_low row)
 IsUtf8-number_name row (negsuc n) = IsUtf8-nil
 
-IsUtf8-characters : (o : List ℕ) → IsTrue (are_octets o) → IsUtf8 (characters o)
+pub IsUtf8-characters : (o : List ℕ) → IsTrue (are_octets o) → IsUtf8 (characters o)
 IsUtf8-characters [] h = IsUtf8-nil
 IsUtf8-characters (a ∷ o) h =
     let p = octet_of a o h in
     let small = p.0 in
     IsUtf8-append (encode_utf8 a) (characters o) (IsUtf8-encode a (low_scalar a (omega (arith, small)))) (IsUtf8-characters o p.1)
 
-number_written : (z : ℤ) (name : Option (List ℕ)) → mag z < 2 ^ 63 → IsUtf8 (name_or_none name) → IsWritten (number_json z name)
+pub number_written : (z : ℤ) (name : Option (List ℕ)) → mag z < 2 ^ 63 → IsUtf8 (name_or_none name) → IsWritten (number_json z name)
 number_written z None h u = (IsNumber-signed_decimal z h, tt)
 number_written z (Some name) h u = ((IsNumber-signed_decimal z h, (tt, tt)), (IsUtf8-are_low _ refl, tt, (IsUtf8-are_low _ refl, u, tt)))
 
@@ -494,7 +495,7 @@ leaf_written p row k (binary o) l known e h = absurd cc
 leaf_written p row k (bits n o) l known e h = absurd cc
 leaf_written p row k (descriptor o) l known e h = absurd cc
 
-member_written : (name : List ℕ) (v : Json) → IsUtf8 name → IsWritten v → IsWritten (in_member name v)
+pub member_written : (name : List ℕ) (v : Json) → IsUtf8 name → IsWritten v → IsWritten (in_member name v)
 member_written [] v u h = h
 member_written (letter ∷ name) v u h = ((h.0, tt), (u, h.1, tt))
 

@@ -20,7 +20,8 @@ use Rattle.ill_grammar.specs.declared.outline.Mark.TheVariants as mark
 use Rattle.ill_tables.specs.Names.{row_name, row_node}
 use Rattle.ill_grammar.specs.Marks.{IsEntry, is_at_end, is_there, octets_in}
 use Rattle.ill_grammar.proofs.MarkedValues.{mark_step, no_entry, no_item}
-use Rattle.ill_json.specs.Json.{characters, entry_members, head_members, in_member, item_values, line_json_in, line_of, plain, value_json, with_file}
+use Rattle.ill_schema.specs.Texts.{characters}
+use Rattle.ill_json.specs.Json.{entry_members, head_members, in_member, item_values, line_json_in, line_of, plain, value_json, with_file}
 use Rattle.ill_json.specs.code.Adding.{Adds, entry_tokens, file_tokens, normal_tokens, part_tokens, profile_tokens, start_tokens, value_tokens}
 use Rattle.ill_json.specs.declared.line.LineHead.{LineHead}
 use Rattle.ill_json.specs.declared.writing.LineWriter.{LineWriter}

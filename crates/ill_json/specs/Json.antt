@@ -1,6 +1,6 @@
 -- The line of JSON (RFC 8259) of a message: the text of a JSON value, and a line feed.
 use Rattle.std.specs.Prelude.{Bool, true, false, ℕ, suc, ◌-◌, ◌/◌, ◌%◌, ℤ, List, [], ◌∷◌, ◌++◌, codes, decimal, Option, Some, None, flat_map, if◌then◌else◌, nat_lt}
-use Rattle.std.specs.Char.{digit_char, encode_utf8}
+use Rattle.std.specs.Char.{digit_char}
 use Rattle.std.specs.Char.Escape.{encode_utf16}
 use Rattle.std.specs.Str.{chars}
 use Rattle.std.specs.Fmt.{signed_decimal}
@@ -15,13 +15,9 @@ use Rattle.ber_leaf.specs.Profile.{Profile, profile_two}
 use Rattle.ill_schema.specs.Apdu.{Apdu, root}
 use Rattle.ill_schema.specs.Content.{Content, simple, sequence, list, alternative, foreign, Entries, no_entries, absent, present, Items, no_items, item}
 use Rattle.ill_tables.specs.Numbers.{number_name}
-use Rattle.ill_schema.specs.Texts.{hexadecimal, oid_text}
+use Rattle.ill_schema.specs.Texts.{characters, hexadecimal, oid_text}
 use Rattle.ill_tables.specs.Names.{row_name, row_node}
 use Rattle.ill_json.specs.declared.line.LineHead.{LineHead}
-
--- each octet is the character of its number, in UTF-8
-abbrev pub characters : List ℕ → List ℕ
-characters octets = flat_map encode_utf8 octets
 
 -- a number without a name, or with one
 abbrev pub number_json : ℤ → Option (List ℕ) → Json

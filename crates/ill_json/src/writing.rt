@@ -6,8 +6,8 @@ ghost use Rattle.json.specs.Print.{IsPrintable, print};
 ghost use Rattle.json.specs.Reads.{token_of};
 ghost use Rattle.json.specs.Token.{Token as Put, number, string};
 ghost use Rattle.ill_grammar.specs.Marks.{octets_in};
-ghost use Rattle.ill_schema.specs.Texts.{hexadecimal, oid_text};
-ghost use Rattle.ill_json.specs.Json.{characters, plain};
+ghost use Rattle.ill_schema.specs.Texts.{characters, hexadecimal, oid_text};
+ghost use Rattle.ill_json.specs.Json.{plain};
 
 use crate::ascii::into_ascii;
 use ill_grammar::{Mark, add_hexadecimal, add_identifier, add_octets};

@@ -38,10 +38,10 @@ ValidTagging (implicit t) = (f : Bool) → HasIdentifier t f
 ValidTagging (explicit t) = (f : Bool) → HasIdentifier t f
 ValidTagging (explicit_or_bare t) = (f : Bool) → HasIdentifier t f
 
-universal_id : (n : ℕ) (f : Bool) → n ≤ 268_435_455 → (n ≡ 0 → ⊥) → HasIdentifier (record { class = Class.Universal; number = n }) f
+pub universal_id : (n : ℕ) (f : Bool) → n ≤ 268_435_455 → (n ≡ 0 → ⊥) → HasIdentifier (record { class = Class.Universal; number = n }) f
 universal_id n f le ne = record { number = le; not_end = λ _ e. absurd (ne e) }
 
-leaf_id : (l : Leaf) (f : Bool) → HasIdentifier (leaf_tag l) f
+pub leaf_id : (l : Leaf) (f : Bool) → HasIdentifier (leaf_tag l) f
 leaf_id boolean f = universal_id 1 f (lit≤ tt) (λ e. cc)
 leaf_id integer f = universal_id 2 f (lit≤ tt) (λ e. cc)
 leaf_id enumerated f = universal_id 10 f (lit≤ tt) (λ e. cc)
@@ -59,18 +59,19 @@ leaf_id object_descriptor f = universal_id 7 f (lit≤ tt) (λ e. cc)
 sequence_id : (f : Bool) → HasIdentifier sequence_tag f
 sequence_id f = universal_id 16 f (lit≤ tt) (λ e. cc)
 
-abbrev is_universal : Class → Bool
+abbrev pub is_universal : Class → Bool
 is_universal Class.Universal = true
 is_universal _ = false
 
-abbrev is_valid : Row → Bool
+-- the tag of the row, if it has one, has an identifier in both forms
+abbrev pub is_valid : Row → Bool
 is_valid row = elim row.tag as (λ _. Bool) [ None ↦ true | Some t ↦ (not (is_universal t.0) || nat_lt 0 t.1) && nat_le t.1 268_435_455 ]
 
-all_valid : (node : NodeId) → IsTrue (list_all is_valid (rows_of node))
+pub all_valid : (node : NodeId) → IsTrue (list_all is_valid (rows_of node))
 all_valid Boolean = refl
 all_valid _ = refl
 
-class_id : (c : Class) (n : ℕ) (f : Bool) → IsTrue ((not (is_universal c) || nat_lt 0 n) && nat_le n 268_435_455) → HasIdentifier (record { class = c; number = n }) f
+pub class_id : (c : Class) (n : ℕ) (f : Bool) → IsTrue ((not (is_universal c) || nat_lt 0 n) && nat_le n 268_435_455) → HasIdentifier (record { class = c; number = n }) f
 class_id Class.Universal n f h =
     let p = and_parts (nat_lt 0 n) (nat_le n 268_435_455) h in
     universal_id n f (let q : nat_le n 268_435_455 ≡ true = p.1 in grind (arith, q)) (λ e. let q : nat_lt 0 n ≡ true = p.0 in absurd (omega (arith, ltb-true 0 n q, e)))

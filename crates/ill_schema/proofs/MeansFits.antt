@@ -1,5 +1,5 @@
 -- What a tree means fits.
-use Rattle.std.proofs.Common.{◌≡◌, ℕ, ◌+◌, ℤ, pos, negsuc, Bool, true, false, nat_lt, List, [], ◌∷◌, Some, IsTrue, refl, sym, ap, subst, inl, inr, arith}
+use Rattle.std.proofs.Common.{◌≡◌, ℕ, ◌+◌, ℤ, pos, negsuc, Bool, true, false, nat_lt, List, [], ◌∷◌, Some, IsTrue, refl, sym, ap, subst, inl, inr, arith, slice_get}
 use Rattle.std.specs.List.{list_all}
 use Rattle.ber_tree.specs.Identifier.{Tag}
 use Rattle.ber_tree.specs.Tree.{Tree, Trees}
@@ -23,6 +23,7 @@ use Rattle.ill_schema.specs.Meaning.{Means, Matches, MatchItems, HoldsLeaf}
 use Rattle.ill_tables.specs.Table.{kind_of, rows_of}
 use Rattle.std.proofs.lemmas.Bool.{and_parts}
 use Rattle.ber_leaf.proofs.Leaves.{flag_holds, normal_holds}
+use Rattle.ill_schema.proofs.Tags.{at_row}
 use Rattle.ill_schema.proofs.Unique.{same_value-is}
 
 -- a number that one octet holds
@@ -82,6 +83,10 @@ default_fits : (p : Profile) (c : Content) (row : Row) → IsTrue (has_held row)
 default_fits p c row h e =
     let s = default_simple row.presence (kind_of row.node) c e in
     subst (λ x. Fits p x row.node) (sym s.1) (kind_fits p row.presence (kind_of row.node) s.0 h (subst (λ x. IsTrue (is_default_of row.presence (kind_of row.node) x)) s.1 e))
+
+-- the default of a node's row fits
+pub row_default_fits : (p : Profile) (c : Content) (node : NodeId) (i : ℕ) (row : Row) → slice_get (rows_of node) i ≡ Some row → IsTrue (is_default row c) → Fits p c row.node
+row_default_fits p c node i row at e = default_fits p c row (at_row has_held (rows_of node) i row (all_held node) at) e
 
 mutual
   pub means_fits : (p : Profile) (c : Content) (node : NodeId) (g : Tagging) (T : Tree) → Means p c node g T → Fits p c node

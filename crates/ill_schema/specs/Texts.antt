@@ -1,6 +1,11 @@
--- Octets as text: hexadecimal digits, and object identifiers in decimals.
+-- Octets as text: characters, hexadecimal digits, and object identifiers in decimals.
 use Rattle.std.specs.Prelude.{ℕ, ◌+◌, ◌-◌, ◌*◌, ◌/◌, ◌%◌, min, nat_lt, List, [], ◌∷◌, ◌++◌, codes, decimal, slice_index, flat_map, if◌then◌else◌}
+use Rattle.std.specs.Char.{encode_utf8}
 use Rattle.std.specs.List.{list_all}
+
+-- each octet is the character of its number, in UTF-8
+abbrev pub characters : List ℕ → List ℕ
+characters octets = flat_map encode_utf8 octets
 
 -- an octet as two hexadecimal digits
 abbrev pub digits : ℕ → List ℕ

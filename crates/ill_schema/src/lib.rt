@@ -29,8 +29,8 @@ pub use entry::{is_carried, is_default, may_lack};
 pub use equality::equal;
 pub use hexadecimal::hexadecimal_digits;
 pub use ill_tables::{
-    Kind, LeafKind, Mode, NodeId, PartId, Presence, Profile, Row, kind, number_name, part_name,
-    row, row_name, row_names, row_node, rows, rows_of,
+    Kind, LeafKind, Mode, NodeId, PartId, Presence, Profile, Row, kind, number_name, number_names,
+    part_name, row, row_name, row_names, row_node, rows, rows_of,
 };
 pub use laws::{
     named_profiles, no_octets_change_their_meaning, normal_form_is_a_spelling,

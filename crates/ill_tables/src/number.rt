@@ -2,8 +2,8 @@
 ghost use Rattle.std.specs.Prelude.{◌≡◌, map, MatchOption, Some, None};
 ghost use Rattle.ill_tables.specs.Numbers.{number_names, number_name};
 
-/// The names of 1, 2 and so on in a row.
-fn number_names(row: &str) -> &'static [&'static str]
+/// The names of 1, 2 and so on in a row of this name; none where its numbers have no names.
+pub fn number_names(row: &str) -> &'static [&'static str]
     ensures { map (λ name. name.now) result.now ≡ number_names row.now }
 {
     match row {

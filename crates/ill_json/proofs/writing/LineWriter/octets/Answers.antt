@@ -1,7 +1,7 @@
 use Rattle.std.proofs.Common.{◌∙◌, ◌++◌, ap, refl}
 use Rattle.std.proofs.lemmas.Result.{on_ok_weaker}
 use Rattle.ill_grammar.specs.Marks.{octets_in}
-use Rattle.ill_json.specs.Json.{characters}
+use Rattle.ill_schema.specs.Texts.{characters}
 use Rattle.ill_json.proofs.Added.{adds_from}
 use Rattle.ill_json.proofs.writing.LineWriter.octets.Goals as goal
 

@@ -1,0 +1,4 @@
+pub mod Built
+pub mod Views
+pub mod Refused
+pub mod Lines

@@ -1,0 +1,4 @@
+pub mod OctetLists
+pub mod CharacterTexts
+pub mod HexadecimalTexts
+pub mod NumberTexts

@@ -1,0 +1,5 @@
+pub mod SevenBits
+pub mod Dots
+pub mod HexDigits
+pub mod Found
+pub mod OidTexts
