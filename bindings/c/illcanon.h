@@ -7,7 +7,7 @@
  *   - No pointer is NULL, even where its number is 0.
  *   - Each pointer is to that many octets of the caller's memory, or to one value of its type, aligned as C aligns it. No number is
  *     greater than PTRDIFF_MAX.
- *   - What a call writes (buffer, size, read, answer, refusal) overlaps nothing else that it is given. Octets that are only read may
+ *   - What a call writes (buffer, size, read, answer, refusal, cause) overlaps nothing else that it is given. Octets that are only read may
  *     overlap. What is written need not be set before.
  *   - No other thread writes what a call reads, or reads or writes what it writes, while it runs.
  *
@@ -28,6 +28,9 @@
 /* The greatest number of octets of a message, and of its normal form. */
 #define ILLCANON_LIMIT 1048576
 
+/* The greatest number of octets of a line of JSON that a message is built from. */
+#define ILLCANON_LINE_LIMIT 16777216
+
 /* How many octets a digest has. */
 #define ILLCANON_DIGEST_SIZE 32
 
@@ -41,13 +44,13 @@ extern "C" {
 /* How a call ended. The numbers don't change. */
 enum illcanon_status {
     ILLCANON_DONE = 0,            /* what was asked for is there */
-    ILLCANON_REFUSED = 1,         /* the octets are not a message, and the refusal says why */
+    ILLCANON_REFUSED = 1,         /* the octets are not a message, or the line says none, and the refusal or the cause says why */
     ILLCANON_SECOND_REFUSED = 2,  /* of two, the first is a message and the second is not, and the refusal says why */
     ILLCANON_NEEDS_MORE = 3,      /* the octets end before the first fault; more octets may complete a message or be refused */
     ILLCANON_NO_ROOM = 4,         /* the buffer is too short; the size says how many octets it needs */
     ILLCANON_OUT_OF_MEMORY = 5,   /* malloc or realloc returned NULL; nothing was written */
     ILLCANON_UNKNOWN_PROFILE = 6, /* the number is not an illcanon_profile; nothing was read or written */
-    ILLCANON_UNKNOWN_CAUSE = 7    /* the number is not an illcanon_cause; nothing was written */
+    ILLCANON_UNKNOWN_CAUSE = 7    /* the number is not an illcanon_cause, or an illcanon_build_cause; nothing was written */
 };
 
 /* The profile of the messages that a call reads, where its name ends in _as. All other calls read profile 2. The numbers don't change. */
@@ -80,6 +83,32 @@ enum illcanon_cause {
     ILLCANON_BAD_NULL = 20,         /* a NULL with contents; this cause and the next two come in the module profile alone */
     ILLCANON_BAD_OID = 21,          /* an OBJECT IDENTIFIER that is empty or cut off, or has a padded number (X.690, 8.19) */
     ILLCANON_BAD_BITS = 22          /* a BIT STRING whose number of unused bits is absent or wrong, or whose segments don't join (X.690, 8.6) */
+};
+
+/* Why a line of JSON says no message. The numbers don't change. */
+enum illcanon_build_cause {
+    ILLCANON_BUILD_NOT_JSON = 1,         /* the line is no text of JSON (RFC 8259) in UTF-8, or nests deeper than 128 */
+    ILLCANON_BUILD_LINE_TOO_LONG = 2,    /* the line has more than ILLCANON_LINE_LIMIT octets */
+    ILLCANON_BUILD_WRONG_TYPE = 3,       /* another type of JSON is due */
+    ILLCANON_BUILD_UNKNOWN_MEMBER = 4,   /* no part has the name of the member */
+    ILLCANON_BUILD_REPEATED_MEMBER = 5,  /* a member of this name came before */
+    ILLCANON_BUILD_LEFT_OUT = 6,         /* the part, or the APDU, is one that this profile does not have */
+    ILLCANON_BUILD_MISSING_MEMBER = 7,   /* a member that has to be there is missing */
+    ILLCANON_BUILD_NOT_ONE_MEMBER = 8,   /* a choice has no member, or two */
+    ILLCANON_BUILD_UNKNOWN_NAME = 9,     /* no number of the part has the name; no APDU or no profile has it */
+    ILLCANON_BUILD_OTHER_NAME = 10,      /* the number has another name */
+    ILLCANON_BUILD_NOT_WHOLE = 11,       /* the number has a point or an exponent, or is -0 */
+    ILLCANON_BUILD_NUMBER_TOO_LONG = 12, /* the number takes more than 64 bits; a number of bits is below 0 */
+    ILLCANON_BUILD_BAD_CHARACTER = 13,   /* the string has a character past U+00FF */
+    ILLCANON_BUILD_BAD_TEXT = 14,        /* the string has an octet outside its alphabet */
+    ILLCANON_BUILD_BAD_DATE = 15,        /* not eight digits of a day that exists */
+    ILLCANON_BUILD_BAD_TIME = 16,        /* not six digits of a time of day */
+    ILLCANON_BUILD_BAD_HEXADECIMAL = 17, /* not pairs of digits 0 to 9 and a to f */
+    ILLCANON_BUILD_BAD_BITS = 18,        /* not the bits that the octets have: more, an octet less, or one behind them is 1 */
+    ILLCANON_BUILD_BAD_OID = 19,         /* the string is no OBJECT IDENTIFIER */
+    ILLCANON_BUILD_BAD_FOREIGN = 20,     /* not the DER of one element of at most 20 levels, with tag numbers of at most four octets */
+    ILLCANON_BUILD_NORMAL_TOO_LONG = 21, /* the normal form would pass ILLCANON_LIMIT octets */
+    ILLCANON_BUILD_OTHER_PROFILE = 22    /* the line says that it is of the other profile */
 };
 
 /* A refusal. It is set where a call says so, and is as it was otherwise. */
@@ -141,6 +170,22 @@ uint32_t illcanon_show(const uint8_t *octets, size_t octets_size, uint32_t numbe
  */
 uint32_t illcanon_json(const uint8_t *octets, size_t octets_size, uint32_t number, uint64_t offset, uint8_t *buffer, size_t buffer_size,
                        size_t *size, struct illcanon_refusal *refusal);
+
+/* Writes the normal form of the message that a line of JSON says. So a message is built: the line is as illcanon_json writes it, an object
+ * of the name of the APDU (apdu) and its value (value). Its members may come in any order, and with any white space. Other members that
+ * illcanon_json writes may be left out, and hold anything, but for profile: that is "2" where it is there.
+ *
+ *   DONE           the normal form is the first *size octets of the buffer. No octet after it is touched.
+ *   REFUSED        *cause is an illcanon_build_cause, which says why the line says no message. The first *size octets of the buffer are
+ *                  the place, a JSON pointer (RFC 6901) in UTF-8 such as /value/service-date-time: none for the line itself. No octet
+ *                  after it is touched, and no zero follows.
+ *   NO_ROOM        the normal form, or the pointer of a line that is refused, has *size octets, more than buffer_size. The buffer is as
+ *                  it was.
+ *   OUT_OF_MEMORY
+ *
+ * A buffer of ILLCANON_LIMIT octets has room for any normal form.
+ */
+uint32_t illcanon_build(const uint8_t *line, size_t line_size, uint8_t *buffer, size_t buffer_size, size_t *size, uint32_t *cause);
 
 /* Writes the digest of the message that the octets are: SHA-256 (FIPS 180-4) of its normal form. So it is one for all spellings.
  *
@@ -210,6 +255,9 @@ uint32_t illcanon_frame(const uint8_t *octets, size_t octets_size, size_t *size)
  */
 uint32_t illcanon_cause_name(uint32_t cause, uint8_t *buffer, size_t buffer_size, size_t *size);
 
+/* Writes the name of a cause, an illcanon_build_cause, in ASCII, such as "NotJson", as illcanon_cause_name does. */
+uint32_t illcanon_build_cause_name(uint32_t cause, uint8_t *buffer, size_t buffer_size, size_t *size);
+
 /* Writes the version of the library, in ASCII: that of the header that belongs to it, ILLCANON_VERSION. No zero follows. It takes no
  * memory. A program that is linked with a shared library compares the two.
  *
@@ -218,7 +266,7 @@ uint32_t illcanon_cause_name(uint32_t cause, uint8_t *buffer, size_t buffer_size
  */
 uint32_t illcanon_version(uint8_t *buffer, size_t buffer_size, size_t *size);
 
-/* The same calls in a profile, but for illcanon_frame, illcanon_cause_name and illcanon_version. The first argument is its number, an
+/* The same calls in a profile, but for illcanon_frame, illcanon_version and those of names. The first argument is its number, an
  * illcanon_profile. Each does with messages of that profile what the call without _as does with those of profile 2, and leaves the same in
  * memory. It has one status more:
  *
@@ -250,6 +298,11 @@ uint32_t illcanon_show_as(uint32_t profile, const uint8_t *octets, size_t octets
  * module profile says so. */
 uint32_t illcanon_json_as(uint32_t profile, const uint8_t *octets, size_t octets_size, uint32_t number, uint64_t offset, uint8_t *buffer,
                           size_t buffer_size, size_t *size, struct illcanon_refusal *refusal);
+
+/* Writes the normal form of the message in the profile that a line of JSON says, as illcanon_build does. A line of the module profile may
+ * say so: its member profile is "module" where it is there. */
+uint32_t illcanon_build_as(uint32_t profile, const uint8_t *line, size_t line_size, uint8_t *buffer, size_t buffer_size, size_t *size,
+                           uint32_t *cause);
 
 /* Writes the digest of the message in the profile that the octets are, as illcanon_digest does. */
 uint32_t illcanon_digest_as(uint32_t profile, const uint8_t *octets, size_t octets_size, uint8_t *buffer, size_t buffer_size,

@@ -189,6 +189,12 @@ static uint32_t json(struct octets octets, uint8_t *buffer, size_t room) {
     return end(illcanon_json_as(profile, octets.at, octets.count, number, UINT64_MAX - number, buffer, room, size, refusal));
 }
 
+/* What is reported of a line that is refused is its cause, which is not in the refusal. */
+static uint32_t build(struct octets octets, uint8_t *buffer, size_t room) {
+    begin();
+    return end(illcanon_build_as(profile, octets.at, octets.count, buffer, room, size, answer));
+}
+
 static uint32_t dump(struct octets octets, uint8_t *buffer, size_t room) {
     begin();
     return end(illcanon_dump_as(profile, octets.at, octets.count, number, buffer, room, size, refusal));
@@ -297,9 +303,30 @@ static void is_text(struct octets text) {
     REQUIRE(text.at == NULL || text.at[text.count - 1] == '\n');
 }
 
+/* What is built of octets that are a line, which may be any: a normal form, or the place of its one fault, whose cause is reported. A normal
+ * form is left in the area of outputs; NULL is returned of a line that is refused. */
+static struct octets built_of(struct octets line) {
+    uint32_t status = build(line, buffer_of(0), 0);
+    size_t count = *size, room = count + number % 100;
+    REQUIRE(status == ILLCANON_NO_ROOM ? count > 0 && IS_KEPT(answer) : status == ILLCANON_REFUSED && count == 0);
+    REQUIRE(IS_KEPT(refusal) && IS_KEPT(taken));
+    if (room > AREA - 100)
+        return (struct octets){NULL, count};
+    uint8_t *buffer = buffer_of(room);
+    status = build(line, buffer, room);
+    REQUIRE(*size == count && is_kept_after(buffer, count, room));
+    if (status == ILLCANON_DONE) {
+        REQUIRE(count <= ILLCANON_LIMIT && IS_KEPT(answer));
+        return (struct octets){buffer, count};
+    }
+    REQUIRE(status == ILLCANON_REFUSED && (count == 0 || *buffer == '/'));
+    REQUIRE(*answer >= ILLCANON_BUILD_NOT_JSON && *answer <= ILLCANON_BUILD_OTHER_PROFILE);
+    return (struct octets){NULL, count};
+}
+
 /* The calls on octets that are a message, beside what the call that normalises says. */
 static void message_is(struct octets octets, const struct verdict *verdict) {
-    static uint8_t sum[ILLCANON_DIGEST_SIZE];
+    static uint8_t sum[ILLCANON_DIGEST_SIZE], line_room[AREA];
     REQUIRE(check(octets) == ILLCANON_DONE && *answer == (uint32_t)are_equal(octets, verdict->form) && IS_KEPT(refusal));
     REQUIRE(check(verdict->form) == ILLCANON_DONE && *answer == 1);
     REQUIRE(same(octets, verdict->form) == ILLCANON_DONE && *answer == 1 && IS_KEPT(refusal));
@@ -312,6 +339,11 @@ static void message_is(struct octets octets, const struct verdict *verdict) {
     struct octets line = written(json, octets, ILLCANON_DONE);
     is_text(line);
     REQUIRE(line.at == NULL || memchr(line.at, '\n', line.count) == line.at + line.count - 1);
+    if (line.at != NULL) {
+        memcpy(line_room, line.at, line.count);
+        struct octets built = built_of((struct octets){line_room, line.count});
+        REQUIRE(built.at != NULL && are_equal(built, verdict->form));
+    }
     struct octets text = written(show, octets, ILLCANON_DONE);
     is_text(text);
     uint32_t first = text.at != NULL ? sum_of(text) : 0;
@@ -416,7 +448,7 @@ static uint32_t next_only(struct octets octets, uint8_t *buffer, size_t room) {
 
 /* All that is required of octets in a profile. */
 static struct verdict judge(struct octets octets, uint8_t *room) {
-    static writing *const calls[] = {normalise, show, json, dump, digest, normalise_next, check_only, same_only, next_only};
+    static writing *const calls[] = {normalise, show, json, build, dump, digest, normalise_next, check_only, same_only, next_only};
     struct verdict verdict = judged(octets, room);
     if (verdict.is_message)
         message_is(octets, &verdict);
@@ -424,6 +456,7 @@ static struct verdict judge(struct octets octets, uint8_t *room) {
         refused_is(octets, &verdict);
     front_is(octets, &verdict);
     frame_is(octets);
+    built_of(octets);
     compared(octets, &verdict);
     if (number % 16 == 0)
         for (size_t i = 0; i < sizeof calls / sizeof *calls; i++)

@@ -23,6 +23,15 @@ static uint32_t json_first(const uint8_t *octets, size_t count, uint8_t *buffer,
     return json(octets, count, 1, 0, buffer, room, size, refusal);
 }
 
+/* The cause that `build` reports is its own; the other calls' refusal stays untouched. */
+static uint32_t build_first(const uint8_t *octets, size_t count, uint8_t *buffer, size_t room, size_t *size, struct illcanon_refusal *refusal) {
+    uint32_t cause = 77;
+    uint32_t status = build(octets, count, buffer, room, size, &cause);
+    (void)refusal;
+    EXPECT(cause == 77);
+    return status;
+}
+
 static uint32_t dump_first(const uint8_t *octets, size_t count, uint8_t *buffer, size_t room, size_t *size, struct illcanon_refusal *refusal) {
     return dump(octets, count, 1, buffer, room, size, refusal);
 }
@@ -204,7 +213,10 @@ static void message_is(struct octets message, struct octets wanted) {
     normal_is(message, (uint32_t)are_equal(form, message));
     same_is(message, form, 1);
     written(show_first, message);
-    written(json_first, message);
+    struct octets line = written(json_first, message), built = written(build_first, line);
+    EXPECT(are_equal(built, wanted));
+    unfence(built.at, built.count);
+    unfence(line.at, line.count);
     written(dump_first, message);
     struct octets one = written(digest, message), other = written(digest, form);
     EXPECT(one.count == ILLCANON_DIGEST_SIZE && are_equal(one, other));
@@ -262,6 +274,7 @@ static void no_profile_is(uint32_t number, struct octets good) {
     EXPECT(illcanon_normalise_as(number, good.at, good.count, buffer, sizeof buffer, &size, &refusal) == ILLCANON_UNKNOWN_PROFILE);
     EXPECT(illcanon_show_as(number, good.at, good.count, 1, buffer, sizeof buffer, &size, &refusal) == ILLCANON_UNKNOWN_PROFILE);
     EXPECT(illcanon_json_as(number, good.at, good.count, 1, 0, buffer, sizeof buffer, &size, &refusal) == ILLCANON_UNKNOWN_PROFILE);
+    EXPECT(illcanon_build_as(number, good.at, good.count, buffer, sizeof buffer, &size, &answer) == ILLCANON_UNKNOWN_PROFILE);
     EXPECT(illcanon_dump_as(number, good.at, good.count, 1, buffer, sizeof buffer, &size, &refusal) == ILLCANON_UNKNOWN_PROFILE);
     EXPECT(illcanon_digest_as(number, good.at, good.count, buffer, sizeof buffer, &size, &refusal) == ILLCANON_UNKNOWN_PROFILE);
     EXPECT(illcanon_check_as(number, good.at, good.count, &answer, &refusal) == ILLCANON_UNKNOWN_PROFILE);
@@ -327,36 +340,119 @@ static void greatest_is(void) {
 
 /* The line of a message under the largest number and offset. */
 static void line_is(struct octets good) {
-    static const char wanted[] =
-        "{\"number\":4294967295,\"offset\":18446744073709551615,\"octets\":33,\"apdu\":\"Expired\",\"normal\":true,\"value\":{"
-        "\"protocol-version-num\":2,\"transaction-id\":{\"transaction-group-qualifier\":{\"general\":\"G\"},"
+    static const char head[] = "{\"number\":4294967295,\"offset\":18446744073709551615,\"octets\":33,\"apdu\":\"Expired\"";
+    static const char tail[] =
+        ",\"normal\":true,\"value\":{\"protocol-version-num\":2,\"transaction-id\":{\"transaction-group-qualifier\":{\"general\":\"G\"},"
         "\"transaction-qualifier\":{\"general\":\"Q\"}},\"service-date-time\":{\"date-time-of-this-service\":{\"date\":\"20240229\"}}}}\n";
     struct illcanon_refusal refusal = untouched();
+    char wanted[400];
     uint8_t buffer[sizeof wanted];
+    size_t count = (size_t)sprintf(wanted, "%s%s%s", head, profile == ILLCANON_PROFILE_MODULE ? ",\"profile\":\"module\"" : "", tail);
     size_t size = 77;
     EXPECT(json(good.at, good.count, UINT32_MAX, UINT64_MAX, buffer, sizeof buffer, &size, &refusal) == ILLCANON_DONE);
-    EXPECT(size == sizeof wanted - 1 && memcmp(buffer, wanted, size) == 0 && is_untouched(&refusal));
+    EXPECT(size == count && memcmp(buffer, wanted, size) == 0 && is_untouched(&refusal));
 }
 
+#define HEAD "{\"apdu\":\"Expired\",\"value\":"
+#define IDENTIFIER "\"transaction-id\":{\"transaction-group-qualifier\":{\"general\":\"G\"},\"transaction-qualifier\":{\"general\":\"Q\"}}"
+#define DATED(text) "\"service-date-time\":{\"date-time-of-this-service\":{\"date\":\"" text "\"}}"
+#define VERSION "\"protocol-version-num\":2"
+
+/* A line is built to these octets. */
+static void built_is(const char *line, struct octets wanted) {
+    struct octets built = written(build_first, fenced_copy((const uint8_t *)line, strlen(line)));
+    EXPECT(are_equal(built, wanted));
+}
+
+/* A line is refused for a cause at a place, where the buffer has room for the pointer, and leaves all but the size where it has not. */
+static void unbuilt_is(struct octets line, uint32_t wanted, const char *pointer) {
+    size_t needed = strlen(pointer), size = 77;
+    uint32_t cause = 77;
+    uint8_t buffer[200];
+    memset(buffer, UNTOUCHED, sizeof buffer);
+    for (size_t room = 0; room < needed; room++, size = 77) {
+        EXPECT(build(line.at, line.count, buffer, room, &size, &cause) == ILLCANON_NO_ROOM);
+        EXPECT(size == needed && cause == 77 && all_are(buffer, sizeof buffer, UNTOUCHED));
+    }
+    for (size_t room = needed; room <= sizeof buffer; room += sizeof buffer - needed, size = 77, cause = 77) {
+        memset(buffer, UNTOUCHED, sizeof buffer);
+        EXPECT(build(line.at, line.count, buffer, room, &size, &cause) == ILLCANON_REFUSED);
+        EXPECT(size == needed && cause == wanted && memcmp(buffer, pointer, needed) == 0 && all_are(buffer + needed, sizeof buffer - needed, UNTOUCHED));
+    }
+}
+
+/* Lines, and the cause and the place of each one's first fault. */
+static const struct {
+    const char *line;
+    uint32_t cause;
+    const char *pointer;
+} UNBUILT[] = {
+    {"", ILLCANON_BUILD_NOT_JSON, ""},
+    {"{\"apdu\":\"Expired\",}", ILLCANON_BUILD_NOT_JSON, ""},
+    {"\"\xff\"", ILLCANON_BUILD_NOT_JSON, ""},
+    {"[]", ILLCANON_BUILD_WRONG_TYPE, ""},
+    {"{}", ILLCANON_BUILD_MISSING_MEMBER, "/apdu"},
+    {"{\"apdu\":1,\"value\":{}}", ILLCANON_BUILD_WRONG_TYPE, "/apdu"},
+    {"{\"apdu\":\"expired\",\"value\":{}}", ILLCANON_BUILD_UNKNOWN_NAME, "/apdu"},
+    {"{\"apdu\":\"Expired\"}", ILLCANON_BUILD_MISSING_MEMBER, "/value"},
+    {HEAD "{},\"apdu\":\"Expired\"}", ILLCANON_BUILD_REPEATED_MEMBER, "/apdu"},
+    {HEAD "{},\"a/b~c\":1}", ILLCANON_BUILD_UNKNOWN_MEMBER, "/a~1b~0c"},
+    {HEAD "{},\"profile\":\"3\"}", ILLCANON_BUILD_UNKNOWN_NAME, "/profile"},
+    {HEAD "[]}", ILLCANON_BUILD_WRONG_TYPE, "/value"},
+    {HEAD "{}}", ILLCANON_BUILD_MISSING_MEMBER, "/value/protocol-version-num"},
+    {HEAD "{\"protocol-version-num\":2.0}}", ILLCANON_BUILD_NOT_WHOLE, "/value/protocol-version-num"},
+    {HEAD "{\"protocol-version-num\":9223372036854775808}}", ILLCANON_BUILD_NUMBER_TOO_LONG, "/value/protocol-version-num"},
+    {HEAD "{" VERSION ",\"transaction-id\":{\"transaction-group-qualifier\":{}}}}", ILLCANON_BUILD_NOT_ONE_MEMBER,
+     "/value/transaction-id/transaction-group-qualifier"},
+    {HEAD "{" VERSION ",\"transaction-id\":{\"transaction-group-qualifier\":{\"general\":\"\\u0100\"}}}}", ILLCANON_BUILD_BAD_CHARACTER,
+     "/value/transaction-id/transaction-group-qualifier/general"},
+    {HEAD "{" VERSION "," IDENTIFIER "," DATED("20230229") "}}", ILLCANON_BUILD_BAD_DATE,
+     "/value/service-date-time/date-time-of-this-service/date"},
+};
+
+/* Lines are built, in any order of their members and with white space, or refused. */
+static void lines_are_built(struct octets good) {
+    int is_module = profile == ILLCANON_PROFILE_MODULE;
+    struct octets spaces = {fenced(ILLCANON_LINE_LIMIT + 1), ILLCANON_LINE_LIMIT};
+    built_is(HEAD "{" VERSION "," IDENTIFIER "," DATED("20240229") "}}", good);
+    built_is(" {\"value\" : {" DATED("20240229") ", " IDENTIFIER ",\t" VERSION "},\r\n\"offset\": null, \"apdu\":\"\\u0045xpired\"}\n", good);
+    built_is(is_module ? HEAD "{" VERSION "," IDENTIFIER "," DATED("20240229") "},\"profile\":\"module\"}"
+                       : HEAD "{" VERSION "," IDENTIFIER "," DATED("20240229") "},\"profile\":\"2\"}", good);
+    for (size_t i = 0; i < sizeof UNBUILT / sizeof *UNBUILT; i++)
+        unbuilt_is(fenced_copy((const uint8_t *)UNBUILT[i].line, strlen(UNBUILT[i].line)), UNBUILT[i].cause, UNBUILT[i].pointer);
+    const char *other = is_module ? HEAD "{},\"profile\":\"2\"}" : HEAD "{},\"profile\":\"module\"}";
+    unbuilt_is(fenced_copy((const uint8_t *)other, strlen(other)), ILLCANON_BUILD_OTHER_PROFILE, "/profile");
+    static const char forward[] = "{\"apdu\":\"Forward-Notification\",\"value\":{}}";
+    struct octets left_out = fenced_copy((const uint8_t *)forward, sizeof forward - 1);
+    unbuilt_is(left_out, is_module ? ILLCANON_BUILD_MISSING_MEMBER : ILLCANON_BUILD_LEFT_OUT, is_module ? "/value/protocol-version-num" : "/apdu");
+    memset(spaces.at, ' ', ILLCANON_LINE_LIMIT + 1);
+    unbuilt_is(spaces, ILLCANON_BUILD_NOT_JSON, "");
+    spaces.count++;
+    unbuilt_is(spaces, ILLCANON_BUILD_LINE_TOO_LONG, "");
+    unfence(spaces.at, spaces.count);
+}
+
+typedef uint32_t naming(uint32_t, uint8_t *, size_t, size_t *);
+
 /* Each cause has its name, and no other number has one. */
-static void names_are(void) {
-    static const uint32_t none[] = {0, CAUSES_SIZE, 0x102, 0x80000001, UINT32_MAX};
+static void names_are(naming *call, const char *const *names, uint32_t count) {
+    const uint32_t none[] = {0, count, 0x102, 0x80000001, UINT32_MAX};
     uint8_t buffer[40];
     size_t size;
-    for (uint32_t cause = 1; cause < CAUSES_SIZE; cause++) {
-        size_t wanted = strlen(CAUSES[cause]);
+    for (uint32_t cause = 1; cause < count; cause++) {
+        size_t wanted = strlen(names[cause]);
         memset(buffer, UNTOUCHED, sizeof buffer);
         size = 77;
-        EXPECT(illcanon_cause_name(cause, buffer, wanted - 1, &size) == ILLCANON_NO_ROOM);
+        EXPECT(call(cause, buffer, wanted - 1, &size) == ILLCANON_NO_ROOM);
         EXPECT(size == wanted && all_are(buffer, sizeof buffer, UNTOUCHED));
         size = 77;
-        EXPECT(illcanon_cause_name(cause, buffer, wanted, &size) == ILLCANON_DONE && is_text(buffer, size, CAUSES[cause]));
-        EXPECT(illcanon_cause_name(cause, buffer, sizeof buffer, &size) == ILLCANON_DONE && is_text(buffer, size, CAUSES[cause]));
+        EXPECT(call(cause, buffer, wanted, &size) == ILLCANON_DONE && is_text(buffer, size, names[cause]));
+        EXPECT(call(cause, buffer, sizeof buffer, &size) == ILLCANON_DONE && is_text(buffer, size, names[cause]));
     }
     memset(buffer, UNTOUCHED, sizeof buffer);
     size = 77;
     for (size_t i = 0; i < sizeof none / sizeof *none; i++)
-        EXPECT(illcanon_cause_name(none[i], buffer, sizeof buffer, &size) == ILLCANON_UNKNOWN_CAUSE);
+        EXPECT(call(none[i], buffer, sizeof buffer, &size) == ILLCANON_UNKNOWN_CAUSE);
     EXPECT(size == 77 && all_are(buffer, sizeof buffer, UNTOUCHED));
 }
 
@@ -490,7 +586,9 @@ int main(int count, char **words) {
         needs_more_is();
         greatest_is();
         line_is(good);
-        names_are();
+        lines_are_built(good);
+        names_are(illcanon_cause_name, CAUSES, CAUSES_SIZE);
+        names_are(illcanon_build_cause_name, BUILD_CAUSES, BUILD_CAUSES_SIZE);
         version_is();
         for (size_t i = 0; i < sizeof numbers / sizeof *numbers; i++)
             no_profile_is(numbers[i], good);

@@ -53,6 +53,18 @@ static uint32_t make_json(void) {
     return json(message.at, message.count, 1, 0, buffer, ROOM, &size, &refusal);
 }
 
+/* The line of the message, and one that is refused at a place which has a name of its own. */
+static struct octets line;
+static const char refused_line[] = "{\"apdu\":\"Expired\",\"value\":{\"no-part-has-this-name\":1}}";
+
+static uint32_t make_build(void) {
+    return build(line.at, line.count, buffer, ROOM, &size, &answer);
+}
+
+static uint32_t make_refused_build(void) {
+    return build((const uint8_t *)refused_line, sizeof refused_line - 1, buffer, ROOM, &size, &answer);
+}
+
 static uint32_t make_dump(void) {
     return dump(message.at, message.count, 1, buffer, ROOM, &size, &refusal);
 }
@@ -88,7 +100,7 @@ static void refuse_each(const char *name, uint32_t (*call)(void), uint32_t wante
         refusals = blocks = 0;
         status = call();
         left = -1;
-        EXPECT(blocks == 0 && is_untouched(&refusal) == (status != ILLCANON_REFUSED));
+        EXPECT(blocks == 0 && is_untouched(&refusal) == (status != ILLCANON_REFUSED || call == make_refused_build));
         if (refusals > 0)
             EXPECT(status == ILLCANON_OUT_OF_MEMORY && size == 77 && taken == 77 && answer == 77 && all_are(buffer, ROOM, UNTOUCHED));
     }
@@ -112,6 +124,10 @@ static uint32_t make_cause_name(void) {
     return illcanon_cause_name(ILLCANON_MISSING, buffer, ROOM, &size);
 }
 
+static uint32_t make_build_cause_name(void) {
+    return illcanon_build_cause_name(ILLCANON_BUILD_NOT_JSON, buffer, ROOM, &size);
+}
+
 static uint32_t make_version(void) {
     return illcanon_version(buffer, ROOM, &size);
 }
@@ -124,9 +140,14 @@ int main(int count, char **words) {
     read_messages(words[2], messages, 64);
     message = messages[0];
     buffer = fenced(ROOM);
+    EXPECT(make_json() == ILLCANON_DONE);
+    line = fenced_copy(buffer, size);
     refuse_each("normalise", make_normalise, ILLCANON_DONE);
     refuse_each("show", make_show, ILLCANON_DONE);
     refuse_each("json", make_json, ILLCANON_DONE);
+    refuse_each("build", make_build, ILLCANON_DONE);
+    refuse_each("build of a refused line", make_refused_build, ILLCANON_REFUSED);
+    EXPECT(answer == ILLCANON_BUILD_UNKNOWN_MEMBER);
     refuse_each("dump", make_dump, ILLCANON_DONE);
     refuse_each("digest", make_digest, ILLCANON_DONE);
     refuse_each("check", make_check, ILLCANON_DONE);
@@ -135,6 +156,7 @@ int main(int count, char **words) {
     refuse_each("normalise_next", make_normalise_next, ILLCANON_DONE);
     takes_none("frame", make_frame);
     takes_none("cause_name", make_cause_name);
+    takes_none("build_cause_name", make_build_cause_name);
     takes_none("version", make_version);
     message = fenced_copy(message.at, message.count);
     message.at[0] = 0x7e; /* [APPLICATION 30], which no APDU has */

@@ -27,6 +27,28 @@ static void make_json(struct octets it) {
     json(it.at, it.count, 1, 0, buffer, ROOM, &size, &refusal);
 }
 
+/* Builds the line of the message, if it is one; else the octets are refused as a line. And lines of 128 levels, as deep as they may be, are
+ * refused for what they hold. */
+static void make_build(struct octets it) {
+    static uint8_t lists[2 * 128], objects[6 * 128 + 1];
+    memset(lists, '[', 128);
+    memset(lists + 128, ']', 128);
+    memset(objects, '0', sizeof objects);
+    for (size_t i = 0; i < 128; i++) {
+        memcpy(objects + 5 * i, "{\"a\":", 5);
+        objects[5 * 128 + 1 + i] = '}';
+    }
+    EXPECT(build(lists, sizeof lists, buffer, ROOM, &size, &answer) == ILLCANON_REFUSED && answer == ILLCANON_BUILD_WRONG_TYPE);
+    EXPECT(build(objects, sizeof objects, buffer, ROOM, &size, &answer) == ILLCANON_REFUSED && answer == ILLCANON_BUILD_UNKNOWN_MEMBER);
+    if (json(it.at, it.count, 1, 0, buffer, ROOM, &size, &refusal) == ILLCANON_DONE)
+        it = fenced_copy(buffer, size);
+    build(it.at, it.count, buffer, ROOM, &size, &answer);
+}
+
+static void make_build_cause_name(struct octets it) {
+    illcanon_build_cause_name((uint32_t)it.count, buffer, ROOM, &size);
+}
+
 static void make_dump(struct octets it) {
     dump(it.at, it.count, 1, buffer, ROOM, &size, &refusal);
 }
@@ -71,6 +93,7 @@ static const struct made {
              {"normalise", make_normalise},
              {"show", make_show},
              {"json", make_json},
+             {"build", make_build},
              {"dump", make_dump},
              {"digest", make_digest},
              {"check", make_check},
@@ -79,6 +102,7 @@ static const struct made {
              {"normalise_next", make_normalise_next},
              {"frame", make_frame},
              {"cause_name", make_cause_name},
+             {"build_cause_name", make_build_cause_name},
              {"version", make_version}};
 
 static void *run(void *made) {

@@ -78,6 +78,11 @@ static inline uint32_t json(const uint8_t *octets, size_t count, uint32_t number
                         : illcanon_json(octets, count, number, offset, buffer, room, size, refusal);
 }
 
+static inline uint32_t build(const uint8_t *line, size_t count, uint8_t *buffer, size_t room, size_t *size, uint32_t *cause) {
+    return profile != 0 ? illcanon_build_as(profile, line, count, buffer, room, size, cause)
+                        : illcanon_build(line, count, buffer, room, size, cause);
+}
+
 static inline uint32_t digest(const uint8_t *octets, size_t count, uint8_t *buffer, size_t room, size_t *size,
                               struct illcanon_refusal *refusal) {
     return profile != 0 ? illcanon_digest_as(profile, octets, count, buffer, room, size, refusal)
@@ -100,6 +105,13 @@ static const char *const CAUSES[] = {
     "WrongForm", "Missing", "BadEnd",     "BadBoolean", "BadInteger",     "IntegerTooLong", "BadText", "BadDate", "BadTime",
     "TrailingBytes", "NormalTooLong", "BadNull", "BadOid", "BadBits"};
 #define CAUSES_SIZE (sizeof CAUSES / sizeof *CAUSES)
+
+/* The causes for which lines of JSON are refused, by their numbers. */
+static const char *const BUILD_CAUSES[] = {
+    "",          "NotJson",       "LineTooLong",  "WrongType", "UnknownMember", "RepeatedMember", "LeftOut",       "MissingMember",
+    "NotOneMember", "UnknownName", "OtherName",   "NotWhole",  "NumberTooLong", "BadCharacter",   "BadText",       "BadDate",
+    "BadTime",   "BadHexadecimal", "BadBits",     "BadOid",    "BadForeign",    "NormalTooLong",  "OtherProfile"};
+#define BUILD_CAUSES_SIZE (sizeof BUILD_CAUSES / sizeof *BUILD_CAUSES)
 
 /* Memory of this many octets, right after which the process may not go. Small blocks of it are never freed. */
 static inline uint8_t *fenced(size_t count) {

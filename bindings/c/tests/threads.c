@@ -11,10 +11,10 @@
 #define ROUNDS 200
 
 struct results {
-    uint8_t form[ROOM], next_form[ROOM], text[ROOM], line[ROOM], digest[ILLCANON_DIGEST_SIZE];
-    size_t form_size, next_form_size, text_size, line_size, digest_size, size, read;
-    uint32_t normal, same;
-    uint32_t statuses[8];
+    uint8_t form[ROOM], next_form[ROOM], text[ROOM], line[ROOM], built[ROOM], digest[ILLCANON_DIGEST_SIZE];
+    size_t form_size, next_form_size, text_size, line_size, built_size, digest_size, size, read;
+    uint32_t normal, same, cause;
+    uint32_t statuses[9];
 };
 
 static struct octets messages[MESSAGES];
@@ -33,6 +33,7 @@ static void call_all(size_t i, struct results *results) {
     results->statuses[5] = next(m.at, m.count, &results->size, &refusal);
     results->statuses[6] = normalise_next(m.at, m.count, &results->read, results->next_form, ROOM, &results->next_form_size, &refusal);
     results->statuses[7] = json(m.at, m.count, 1, 0, results->line, ROOM, &results->line_size, &refusal);
+    results->statuses[8] = build(results->line, results->line_size, results->built, ROOM, &results->built_size, &results->cause);
 }
 
 static void *run(void *start) {

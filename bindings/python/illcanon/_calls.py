@@ -7,13 +7,16 @@ import json
 import mmap
 from typing import Any, Callable, Dict, Iterator, Literal, NoReturn, Optional, Tuple, Union
 
-from ._library import CAUSES, Refusal, library
+from ._library import BUILD_CAUSES, CAUSES, Refusal, library
 
 Octets = Union[bytes, bytearray, memoryview, mmap.mmap]
 Profile = Literal["2", "module"]
 
 # The profiles by their names, with their numbers in C.
 PROFILES = {"2": 2, "module": 3}
+
+# A place in a value of JSON: names of members, and numbers of items from 0.
+Path = Tuple[Union[str, int], ...]
 
 # The greatest number of octets of a message, and of its normal form.
 LIMIT = 1048576
@@ -74,6 +77,37 @@ class Refused(ValueError):
         return f"refused at {self.offset} in message {self.message}: {self.cause}{part}{end}"
 
 
+class NotBuilt(ValueError):
+    """A line of JSON, or a dict, that says no message.
+
+    `cause` is a word such as `MissingMember` (`BUILD_CAUSES` lists them), and `cause_number` its number in C. `pointer` is the place as a
+    JSON pointer (RFC 6901) such as `/value/service-date-time`, which is empty for the line itself, and `path` the same as a tuple: of each
+    member its name, of each item of a list its number from 0.
+    """
+
+    def __init__(self, cause: str, pointer: str = "") -> None:
+        self.cause = cause
+        self.pointer = pointer
+        super().__init__(cause, pointer)
+
+    @property
+    def cause_number(self) -> int:
+        """The number of the cause in C."""
+        return BUILD_CAUSES.index(self.cause) + 1
+
+    @property
+    def path(self) -> Path:
+        """The steps of the pointer."""
+        names = [name.replace("~1", "/").replace("~0", "~") for name in self.pointer.split("/")[1:]]
+        # No part has a name of digits: such a step is the number of an item, but for a last one that no part has.
+        last = len(names) - 1 if self.cause == "UnknownMember" else len(names)
+        return tuple(int(name) if name.isdigit() and i != last else name for i, name in enumerate(names))
+
+    def __str__(self) -> str:
+        place = f" at {self.pointer}" if self.pointer else ""
+        return f"not built{place}: {self.cause}"
+
+
 def _bytes(octets: Octets) -> bytes:
     """The octets as bytes, which end in C where they end here; a number or a text is a TypeError."""
     return octets if type(octets) is bytes else bytes(memoryview(octets))
@@ -120,8 +154,8 @@ def _written(call: Callable[..., int], room: int) -> bytes:
     return octets
 
 
-def _put(call: Callable[..., int], room: int, refusal: Refusal) -> Tuple[int, bytes]:
-    """How a call ends that has the room which it needs, and what it wrote."""
+def _put(call: Callable[..., int], room: int, refusal: Union[Refusal, ctypes.c_uint32]) -> Tuple[int, bytes]:
+    """How a call ends that has the room which it needs, and what it wrote. The refusal is what it reports of one."""
     size = ctypes.c_size_t()
     while True:
         buffer = ctypes.create_string_buffer(max(room, 1))
@@ -211,6 +245,41 @@ def parse(octets: Octets, number: int = 1, offset: int = 0, *, profile: Profile 
     line = _written(lambda *memory: library.illcanon_json_as(profile_number, octets, len(octets), *numbers, *memory), _room(octets, 16))
     found: Dict[str, Any] = json.loads(line)
     return found
+
+
+def build(message: Union[Dict[str, Any], str, Octets], *, profile: Profile = "2") -> bytes:
+    """The normal form of the message in the profile that a dict or a line of JSON says: what `parse` gives, as text or not.
+
+    `apdu` is the name of the APDU, and `value` its value. `profile` is the name of the profile where it is there. The other members of
+    `parse` may be left out, and hold anything. Numbers are written in full.
+
+    Raises `NotBuilt` where no message is said. What is no JSON in Python, such as octets in a dict, raises what `json.dumps` does.
+    """
+    profile_number, line = _number_of(profile), _line_of(message)
+    cause = ctypes.c_uint32()
+    room = min(len(line), LIMIT) + 256
+    status, octets = _put(lambda *memory: library.illcanon_build_as(profile_number, line, len(line), *memory), room, cause)
+    if status == Status.REFUSED:
+        raise _not_built(cause.value, octets)
+    if status == Status.OUT_OF_MEMORY:
+        raise MemoryError
+    if status != Status.DONE:
+        raise _broken(status)
+    return octets
+
+
+def _line_of(message: Union[Dict[str, Any], str, Octets]) -> bytes:
+    """The line of JSON that a message is, or is written as."""
+    if isinstance(message, dict):
+        return json.dumps(message, allow_nan=False, separators=(",", ":")).encode("ascii")
+    # A character that is half of a pair is no UTF-8, which the call refuses.
+    return message.encode("utf-8", "surrogatepass") if isinstance(message, str) else _bytes(message)
+
+
+def _not_built(cause: int, pointer: bytes) -> NotBuilt:
+    if not 1 <= cause <= len(BUILD_CAUSES):
+        raise SystemError(f"libillcanon reported the cause {cause} of a line, which has no name")
+    return NotBuilt(BUILD_CAUSES[cause - 1], pointer.decode("utf-8"))
 
 
 def dump(octets: Octets, number: int = 1, *, profile: Profile = "2") -> Tuple[str, Optional[Refused]]:

@@ -3,7 +3,7 @@ from __future__ import annotations
 
 import ctypes
 import os
-from typing import Optional, Tuple
+from typing import Callable, Optional, Tuple
 
 # The version of the package, which is that of the library.
 VERSION = "0.2.0"
@@ -31,6 +31,7 @@ def _load() -> ctypes.CDLL:
         "illcanon_normalise_as": [*octets, *written],
         "illcanon_show_as": [*octets, ctypes.c_uint32, *written],
         "illcanon_json_as": [*octets, ctypes.c_uint32, ctypes.c_uint64, *written],
+        "illcanon_build_as": [*octets, *text, ctypes.POINTER(ctypes.c_uint32)],
         "illcanon_dump_as": [*octets, ctypes.c_uint32, *written],
         "illcanon_digest_as": [*octets, *written],
         "illcanon_check_as": [*octets, *answer],
@@ -39,6 +40,7 @@ def _load() -> ctypes.CDLL:
         "illcanon_normalise_next_as": [*octets, ctypes.POINTER(ctypes.c_size_t), *written],
         "illcanon_frame": [ctypes.c_void_p, ctypes.c_size_t, ctypes.POINTER(ctypes.c_size_t)],
         "illcanon_cause_name": [ctypes.c_uint32, *text],
+        "illcanon_build_cause_name": [ctypes.c_uint32, *text],
     }
     for call_name, arguments in types.items():
         call = getattr(found, call_name)
@@ -59,22 +61,23 @@ def _check_version(found: ctypes.CDLL, name: str) -> None:
         raise ImportError(f"{name} is libillcanon {version}, and this package needs {VERSION}")
 
 
-def _causes() -> Tuple[str, ...]:
-    """The names of the causes, by their numbers from 1, up to the first number that is no cause's."""
+def _causes(call: Callable[..., int]) -> Tuple[str, ...]:
+    """The names of the causes that a call names, by their numbers from 1, up to the first number that is no cause's."""
     names = []
     for number in range(1, 256):
-        name = _cause_name(number)
+        name = _cause_name(call, number)
         if name is None:
             break
         names.append(name)
     return tuple(names)
 
 
-def _cause_name(number: int) -> Optional[str]:
+def _cause_name(call: Callable[..., int], number: int) -> Optional[str]:
     buffer, size = ctypes.create_string_buffer(ROOM), ctypes.c_size_t()
-    status = library.illcanon_cause_name(number, buffer, ROOM, ctypes.byref(size))
+    status = call(number, buffer, ROOM, ctypes.byref(size))
     return buffer.raw[: size.value].decode("ascii") if status == 0 else None
 
 
 library = _load()
-CAUSES = _causes()
+CAUSES = _causes(library.illcanon_cause_name)
+BUILD_CAUSES = _causes(library.illcanon_build_cause_name)

@@ -25,7 +25,7 @@ import tracemalloc
 import unittest
 
 import illcanon
-from illcanon import Message, Refused
+from illcanon import Message, NotBuilt, Refused
 
 TOP = os.path.join(os.path.dirname(os.path.abspath(__file__)), "..", "..", "..")
 PROGRAM = os.path.join(TOP, "crates", "illcanon", "out", "illcanon")
@@ -405,6 +405,7 @@ class Profiles(unittest.TestCase):
                 apdu = random_value(chance, root)
                 octets, form = Speller(chance).value(root, apdu, None), Writer().value(root, apdu, None)
                 self.assertEqual(illcanon.normalise(octets, profile=profile), form, octets.hex())
+                self.assertEqual(illcanon.build(illcanon.parse(octets, profile=profile), profile=profile), form, octets.hex())
 
     def test_changed_messages_are_judged(self):
         for profile, root in ROOTS.items():
@@ -669,6 +670,162 @@ class Results(unittest.TestCase):
             self.assertEqual(Refused(0, name).cause_number, number)
 
 
+# The value of EXPIRED.
+VALUE = {
+    "protocol-version-num": 2,
+    "transaction-id": {"transaction-group-qualifier": {"general": "G"}, "transaction-qualifier": {"general": "Q"}},
+    "service-date-time": {"date-time-of-this-service": {"date": "20240229"}},
+}
+GROUP = ("value", "transaction-id", "transaction-group-qualifier")
+DATE_TIME = ("value", "service-date-time", "date-time-of-this-service")
+ITEM = ("value", "supplemental-item-description", 0)
+
+
+def expired(**changed):
+    return {"apdu": "Expired", "value": {**VALUE, **changed}}
+
+
+def grouped(qualifier):
+    return expired(**{"transaction-id": {**VALUE["transaction-id"], "transaction-group-qualifier": qualifier}})
+
+
+def dated(**parts):
+    return expired(**{"service-date-time": {"date-time-of-this-service": parts}})
+
+
+def requested(**changed):
+    """The dict of REQUEST, without the parts that have their defaults."""
+    messages = {"can-send-received": False, "can-send-returned": False, "requester-shipped": 1, "requester-checked-in": 1}
+    value = {**VALUE, "ill-service-type": ["loan"], "requester-optional-messages": messages, "item-id": {}}
+    return {"apdu": "ILL-Request", "value": {**value, **changed}}
+
+
+def returned(encoding, **named):
+    external = {**named, "encoding": encoding}
+    return {"apdu": "Returned", "value": {**VALUE, "supplemental-item-description": [external], "date-returned": "20240229"}}
+
+
+# A line or a dict that says no message, and its cause and path. No result is the program's own.
+UNBUILT = [
+    ("", "NotJson", ()),
+    ("{'apdu': 'Expired'}", "NotJson", ()),
+    (b'{"apdu":"\xff"}', "NotJson", ()),
+    ('{"apdu":"\ud800"}', "NotJson", ()),
+    ("[" * 200 + "]" * 200, "NotJson", ()),
+    (b" " * (1 << 24), "NotJson", ()),
+    (b" " * ((1 << 24) + 1), "LineTooLong", ()),
+    ("[]", "WrongType", ()),
+    ({"apdu": "Expired", "value": []}, "WrongType", ("value",)),
+    (expired(**{"protocol-version-num": True}), "WrongType", ("value", "protocol-version-num")),
+    (expired(**{"protocol-version-num": "version-2"}), "WrongType", ("value", "protocol-version-num")),
+    (expired(**{"a/b~1": 1}), "UnknownMember", ("value", "a/b~1")),
+    (expired(**{"0": 1}), "UnknownMember", ("value", "0")),
+    ({**expired(), "grüße": 1}, "UnknownMember", ("grüße",)),
+    ('{"apdu":"Expired","value":{},"value":{}}', "RepeatedMember", ("value",)),
+    ({"apdu": "Forward-Notification", "value": {}}, "LeftOut", ("apdu",)),
+    (expired(**{"expired-extensions": []}), "LeftOut", ("value", "expired-extensions")),
+    ({"value": VALUE}, "MissingMember", ("apdu",)),
+    ({"apdu": "Expired"}, "MissingMember", ("value",)),
+    ({"apdu": "Expired", "value": {"protocol-version-num": 2}}, "MissingMember", ("value", "transaction-id")),
+    (grouped({}), "NotOneMember", GROUP),
+    (grouped({"general": "G", "visible": "G"}), "NotOneMember", GROUP),
+    ({"apdu": "expired", "value": VALUE}, "UnknownName", ("apdu",)),
+    (requested(**{"transaction-type": "complex"}), "UnknownName", ("value", "transaction-type")),
+    ({**expired(), "profile": "3"}, "UnknownName", ("profile",)),
+    (requested(**{"transaction-type": {"number": 1, "name": "chained"}}), "OtherName", ("value", "transaction-type", "name")),
+    (expired(**{"protocol-version-num": 2.0}), "NotWhole", ("value", "protocol-version-num")),
+    (expired(**{"protocol-version-num": 2**63}), "NumberTooLong", ("value", "protocol-version-num")),
+    (expired(**{"protocol-version-num": -(10**400)}), "NumberTooLong", ("value", "protocol-version-num")),
+    (grouped({"general": "\u0100"}), "BadCharacter", (*GROUP, "general")),
+    (grouped({"visible": "a\nb"}), "BadText", (*GROUP, "visible")),
+    (dated(date="20230229"), "BadDate", (*DATE_TIME, "date")),
+    (dated(date="20240229", time="250000"), "BadTime", (*DATE_TIME, "time")),
+    (grouped({"general": "Q" * (1 << 20)}), "NormalTooLong", ()),
+    ({**expired(), "profile": "module"}, "OtherProfile", ("profile",)),
+]
+UNBUILT_OF_MODULE = [
+    ({**expired(), "profile": "2"}, "OtherProfile", ("profile",)),
+    ({"apdu": "Forward-Notification", "value": {}}, "MissingMember", ("value", "protocol-version-num")),
+    (returned({"octet-aligned": {"octets": "0G"}}), "BadHexadecimal", (*ITEM, "encoding", "octet-aligned", "octets")),
+    (returned({"octet-aligned": {"octets": "0A"}}), "BadHexadecimal", (*ITEM, "encoding", "octet-aligned", "octets")),
+    (returned({"single-asn1-type": {"foreign": "123"}}), "BadHexadecimal", (*ITEM, "encoding", "single-asn1-type", "foreign")),
+    (returned({"single-asn1-type": {"foreign": "05000500"}}), "BadForeign", (*ITEM, "encoding", "single-asn1-type", "foreign")),
+    (returned({"single-asn1-type": {"foreign": "058100"}}), "BadForeign", (*ITEM, "encoding", "single-asn1-type", "foreign")),
+    (returned({"arbitrary": {"bits": 5, "octets": "f4"}}), "BadBits", (*ITEM, "encoding", "arbitrary")),
+    (returned({"arbitrary": {"bits": 8, "octets": "f800"}}), "BadBits", (*ITEM, "encoding", "arbitrary")),
+    (returned({"arbitrary": {"bits": -1, "octets": ""}}), "NumberTooLong", (*ITEM, "encoding", "arbitrary", "bits")),
+    (returned({"octet-aligned": {"octets": ""}}, **{"direct-reference": "3.1"}), "BadOid", (*ITEM, "direct-reference")),
+    (returned({"octet-aligned": {"octets": ""}}, **{"direct-reference": "1.02"}), "BadOid", (*ITEM, "direct-reference")),
+]
+
+
+class Built(unittest.TestCase):
+    """Messages that are built of dicts and of lines of JSON."""
+
+    def is_not_built(self, message, cause, path, profile):
+        with self.assertRaises(NotBuilt) as caught:
+            illcanon.build(message, profile=profile)
+        it = caught.exception
+        steps = [str(step).replace("~", "~0").replace("/", "~1") for step in path]
+        self.assertEqual((it.cause, it.path, it.pointer), (cause, path, "".join("/" + step for step in steps)))
+        self.assertEqual(illcanon.BUILD_CAUSES[it.cause_number - 1], cause)
+
+    def test_what_is_parsed_is_built(self):
+        for name, profile in [*((name, "2") for name, _ in FILES), ("module.ber", "module")]:
+            for message in illcanon.messages(octets_of(name), profile=profile):
+                found, form = illcanon.parse(message, profile=profile), illcanon.normalise(message, profile=profile)
+                self.assertEqual(illcanon.build(found, profile=profile), form)
+                line = json.dumps(found, indent=1, sort_keys=True, ensure_ascii=False)
+                for same in (line, line.encode(), bytearray(line.encode()), memoryview(line.encode())):
+                    self.assertEqual(illcanon.build(same, profile=profile), form)
+
+    def test_a_dict_is_built(self):
+        self.assertEqual(illcanon.build(expired()), EXPIRED)
+        self.assertEqual(illcanon.build({**expired(), "profile": "2", "number": None, "octets": "x"}), EXPIRED)
+        self.assertEqual(illcanon.build({**expired(), "profile": "module"}, profile="module"), EXPIRED)
+        self.assertEqual(illcanon.build(requested()), REQUEST)
+        for kind in (1, "simple", {"number": 1, "name": "simple"}, {"name": "simple", "number": 1}):
+            self.assertEqual(illcanon.build(requested(**{"transaction-type": kind, "retry-flag": False})), REQUEST)
+
+    def test_the_greatest_message_is_built(self):
+        message = greatest_message()
+        self.assertTrue(illcanon.build(illcanon.parse(message)) == message)
+
+    def test_numbers_are_written_in_full(self):
+        for number in (2**63 - 1, -(2**63), 2**53 + 1, 0, -1):
+            octets = illcanon.build(expired(**{"protocol-version-num": number}))
+            self.assertEqual(illcanon.parse(octets)["value"]["protocol-version-num"], number)
+
+    def test_each_line_has_its_fault(self):
+        for profile, rows in (("2", UNBUILT), ("module", UNBUILT_OF_MODULE)):
+            for message, cause, path in rows:
+                with self.subTest(str(message)[:200], profile=profile):
+                    self.is_not_built(message, cause, path, profile)
+        self.assertEqual({cause for _, cause, _ in UNBUILT + UNBUILT_OF_MODULE}, set(illcanon.BUILD_CAUSES))
+
+    def test_a_fault_is_a_line(self):
+        faults = [NotBuilt("NotJson"), NotBuilt("MissingMember", "/value/transaction-id")]
+        self.assertEqual([str(it) for it in faults], ["not built: NotJson", "not built at /value/transaction-id: MissingMember"])
+        for it in faults:
+            again = pickle.loads(pickle.dumps(it))
+            self.assertEqual((type(again), again.cause, again.pointer), (NotBuilt, it.cause, it.pointer))
+            self.assertIsInstance(it, ValueError)
+
+    def test_what_is_no_json_is_an_error(self):
+        for wrong in (expired(x=b"x"), expired(x={1}), 7, None, [expired()]):
+            self.assertRaises(TypeError, illcanon.build, wrong)
+        self.assertRaises(ValueError, illcanon.build, expired(x=float("nan")))
+        self.assertRaises(TypeError, illcanon.build, expired(), "module")
+        for profile in ("", "3", "Module", 2, None):
+            self.assertRaises(ValueError, illcanon.build, expired(), profile=profile)
+
+    def test_causes_are_those_of_the_header(self):
+        with open(os.path.join(TOP, "bindings", "c", "illcanon.h"), encoding="utf-8") as file:
+            words = re.findall(r"ILLCANON_BUILD_(\w+) = (\d+)", file.read().partition("enum illcanon_build_cause {")[2].partition("};")[0])
+        self.assertEqual([word.title().replace("_", "") for word, _ in words], list(illcanon.BUILD_CAUSES))
+        self.assertEqual([int(number) for _, number in words], list(range(1, 23)))
+
+
 # Calls that end with STATUS, whatever they are given, three of them with SIZE as their size, and 22 causes.
 WRONG_LIBRARY = """
 #include <stddef.h>
@@ -688,6 +845,9 @@ uint32_t illcanon_cause_name(uint32_t cause, uint8_t *buffer, size_t room, size_
     *size = 1;
     return cause <= 22 ? ILLCANON_DONE : ILLCANON_UNKNOWN_CAUSE;
 }
+uint32_t illcanon_build_cause_name(uint32_t cause, uint8_t *buffer, size_t room, size_t *size) {
+    return illcanon_cause_name(cause, buffer, room, size);
+}
 uint32_t illcanon_normalise_as(uint32_t profile, const uint8_t *octets, size_t count, uint8_t *buffer, size_t room, size_t *size) {
     *size = SIZE;
     return STATUS;
@@ -703,6 +863,7 @@ uint32_t illcanon_frame(const uint8_t *octets, size_t count, size_t *size) {
 #define CALL(name) uint32_t name(void) { return STATUS; }
 CALL(illcanon_show_as)
 CALL(illcanon_json_as)
+CALL(illcanon_build_as)
 CALL(illcanon_dump_as)
 CALL(illcanon_digest_as)
 CALL(illcanon_check_as)
@@ -714,7 +875,7 @@ CALL_EACH = """
 import illcanon
 first = lambda call: next(call(b"x"))
 calls = [illcanon.normalise, illcanon.check, illcanon.show, illcanon.parse, illcanon.digest, illcanon.dump, illcanon.frame]
-for call in [*calls, lambda octets: illcanon.same(octets, octets)]:
+for call in [*calls, lambda octets: illcanon.same(octets, octets), illcanon.build]:
     try:
         print(call(b"x"))
     except Exception as error:
@@ -775,9 +936,9 @@ class Libraries(unittest.TestCase):
     def test_an_unknown_status_is_an_error(self):
         version = f'-DVERSION="{illcanon.__version__}"'
         # no size is written, and no cause is named 0
-        rows = [(status, ["SystemError"] * 11) for status in (4, 6, 7, 99)]
-        rows.append((5, ["MemoryError"] * 6 + ["SystemError"] + ["MemoryError"] * 4))
-        rows.append((1, ["SystemError"] * 6 + ["ValueError"] + ["SystemError"] * 4))
+        rows = [(status, ["SystemError"] * 12) for status in (4, 6, 7, 99)]
+        rows.append((5, ["MemoryError"] * 6 + ["SystemError"] + ["MemoryError"] * 5))
+        rows.append((1, ["SystemError"] * 6 + ["ValueError"] + ["SystemError"] * 5))
         for status, wanted in rows:
             done = self.run_with(CALL_EACH, version, f"-DSTATUS={status}", "-DSIZE=0")
             self.assertEqual((done.stdout.split(), done.stderr), (wanted, ""), status)
@@ -847,6 +1008,7 @@ class Vectors(unittest.TestCase):
                     self.assertEqual(illcanon.digest(octets, profile=profile), hashlib.sha256(wanted).digest())
                     self.assertEqual(illcanon.check(octets, profile=profile), octets == wanted)
                     self.assertEqual(list(illcanon.messages(octets, profile=profile)), [octets])
+                    self.assertEqual(illcanon.build(illcanon.parse(octets, profile=profile), profile=profile), wanted)
                 else:
                     self.assertEqual(fault, (vector["cause"], vector["offset"], vector.get("part")))
         self.assertGreater(count, 10_000)

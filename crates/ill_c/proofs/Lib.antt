@@ -1,6 +1,9 @@
+pub mod BuildCauses
+pub mod Built
 pub mod CTexts
 pub mod Framings
 pub mod Fronts
 pub mod Made
+pub mod OneBuild
 pub mod OneResult
 pub mod Parts

@@ -4,5 +4,6 @@ pub mod Refusals
 pub mod Version
 pub mod Memory
 pub mod Calls
+pub mod Builds
 pub mod OneResult
 pub mod code

@@ -3,7 +3,12 @@ use Rattle.std.specs.Prelude.{◌≡◌, ◌≢◌, ℕ, ◌≤◌, ◌<◌, Lis
 use Rattle.ber_framing.specs.Framed.{IsFrame, IsPartOfFrame}
 use Rattle.ber_leaf.specs.Profile.{Profile}
 use Rattle.ill_schema.specs.Apdu.{Apdu, SpellsApdu, Accepts, normal_form_in}
+use Rattle.ill_build.specs.Causes.{cause_name as build_cause_name, cause_number as build_cause_number}
+use Rattle.ill_build.specs.Line.{IsFaultyLine, SaysApdu, line_limit, pointer_of}
+use Rattle.ill_build.specs.Path.{Step}
+use Rattle.ill_build.specs.declared.cause.BuildCause.{BuildCause}
 use Rattle.ill_schema.specs.Causes.{cause_name, cause_number}
+use Rattle.ill_schema.specs.Fits.{FitsApdu}
 use Rattle.ill_schema.specs.declared.refusal.Cause.{Cause}
 use Rattle.ill_refusals.specs.Fault.{Fault}
 use Rattle.ill_refusals.specs.Outcome.{OnlyRefuses}
@@ -90,3 +95,30 @@ pub record PutsOnce (octets : List ℕ) (buffer : Change (List ℕ)) (size : Cha
   pub room : length octets ≤ length buffer.before → (n ≡ 0) × Fills octets buffer size
   pub no_room : length buffer.before < length octets → (n ≡ 4) × IsTooShort octets buffer size
   pub buffer_stays : n ≢ 0 → Stays buffer
+
+-- the normal form of the APDU that the line says can be built: line and normal form are within their limits
+pub record IsBuildable (p : Profile) (line : List ℕ) (a : Apdu) : Type 0 where
+  pub says : SaysApdu p line a
+  pub fits : FitsApdu p a
+  pub line_short : length line ≤ line_limit
+  pub normal_short : length (normal_form_in p a) ≤ p.limit
+
+-- of the call that is given a line of JSON, which is within its limit where it is refused
+pub record BuildsOnce (p : Profile) (line : List ℕ) (buffer : Change (List ℕ)) (size cause : Change ℕ) (n : ℕ) : Type 0 where
+  pub room : (a : Apdu) → IsBuildable p line a → length (normal_form_in p a) ≤ length buffer.before → n ≢ 5 → (n ≡ 0) × Fills (normal_form_in p a) buffer size
+  pub no_room : (a : Apdu) → IsBuildable p line a → length buffer.before < length (normal_form_in p a) → n ≢ 5 → (n ≡ 4) × IsTooShort (normal_form_in p a) buffer size
+  pub refused : (c : BuildCause) (path : List Step) → length line ≤ line_limit → IsFaultyLine p line c path → length (pointer_of path) ≤ length buffer.before → n ≢ 5
+      → (n ≡ 1) × Fills (pointer_of path) buffer size × (cause.after ≡ build_cause_number c)
+  pub refused_no_room : (c : BuildCause) (path : List Step) → length line ≤ line_limit → IsFaultyLine p line c path → length buffer.before < length (pointer_of path) → n ≢ 5
+      → (n ≡ 4) × IsTooShort (pointer_of path) buffer size
+  pub buffer_stays : n ≢ 0 → n ≢ 1 → Stays buffer
+  pub size_stays : n ≡ 5 → Stays size
+  pub cause_stays : n ≢ 1 → Stays cause
+
+-- of the call that writes the name of a cause for which lines are refused
+pub record NamesBuildCauseOnce (number : ℕ) (buffer : Change (List ℕ)) (size : Change ℕ) (n : ℕ) : Type 0 where
+  pub room : (c : BuildCause) → build_cause_number c ≡ number → length (build_cause_name c) ≤ length buffer.before → (n ≡ 0) × Fills (build_cause_name c) buffer size
+  pub no_room : (c : BuildCause) → build_cause_number c ≡ number → length buffer.before < length (build_cause_name c) → (n ≡ 4) × IsTooShort (build_cause_name c) buffer size
+  pub unknown : ((c : BuildCause) → build_cause_number c ≢ number) → n ≡ 7
+  pub buffer_stays : n ≢ 0 → Stays buffer
+  pub size_stays : n ≡ 7 → Stays size

@@ -4,9 +4,10 @@ ghost use Rattle.ber_leaf.specs.Profile.{Profile};
 ghost use Rattle.ill_schema.specs.Apdu.{Apdu};
 ghost use Rattle.ill_schema.specs.Names.{cause_part_name_of};
 ghost use Rattle.ill_schema.specs.declared.refusal.Cause.{Cause};
+ghost use Rattle.ill_c.specs.Builds.{BuildsIn, NamesBuildCause};
 ghost use Rattle.ill_c.specs.Calls.{WritesIn, ChecksIn, ComparesIn, FindsIn, WritesFrontIn, DumpsIn, Frames, NamesCause, Puts};
 ghost use Rattle.ill_c.specs.Memory.{Change};
-ghost use Rattle.ill_c.specs.OneResult.{WritesOnce, ChecksOnce, ComparesOnce, FindsOnce, WritesFrontOnce, DumpsOnce, FramesOnce, NamesCauseOnce, PutsOnce};
+ghost use Rattle.ill_c.specs.OneResult.{WritesOnce, ChecksOnce, ComparesOnce, FindsOnce, WritesFrontOnce, DumpsOnce, FramesOnce, NamesCauseOnce, PutsOnce, BuildsOnce, NamesBuildCauseOnce};
 ghost use Rattle.ill_c.specs.Refusals.{part_text};
 ghost use Rattle.ill_c.specs.Status.{ReturnsStatus};
 
@@ -41,6 +42,12 @@ pub fn calls_have_one_result()
         → ReturnsStatus n (NamesCause number buffer size) → NamesCauseOnce number buffer size n }
     ensures puts { (octets : List ℕ) (buffer : Change (List ℕ)) (size : Change ℕ) (n : ℕ)
         → ReturnsStatus n (Puts octets buffer size) → PutsOnce octets buffer size n }
+    ensures builds { (p : Profile) (line : List ℕ) (buffer : Change (List ℕ)) (size cause : Change ℕ)
+        (n : ℕ) → ReturnsStatus n (BuildsIn p line buffer size cause)
+        → BuildsOnce p line buffer size cause n }
+    ensures names_build_cause { (number : ℕ) (buffer : Change (List ℕ)) (size : Change ℕ) (n : ℕ)
+        → ReturnsStatus n (NamesBuildCause number buffer size)
+        → NamesBuildCauseOnce number buffer size n }
 {}
 
 /// The name of a part has at most 63 octets, so a zero follows it in the 64 of a refusal.

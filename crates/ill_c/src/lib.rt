@@ -4,6 +4,8 @@
 //! exactly what its contract says: a buffer is written only where the call is done, and nothing after the octets.
 #![tactic(auto)]
 
+mod build;
+mod build_cause;
 mod cause;
 mod dump;
 mod frame;
@@ -20,6 +22,8 @@ mod verdict;
 mod version;
 mod whole;
 
+pub use build::{illcanon_build, illcanon_build_as};
+pub use build_cause::illcanon_build_cause_name;
 pub use cause::illcanon_cause_name;
 pub use dump::{illcanon_dump, illcanon_dump_as};
 pub use frame::illcanon_frame;
