@@ -28,7 +28,10 @@ has() { command -v "$1" >/dev/null || { echo "== without $1, its tests are left 
 
 calls_for_c() { (cd ../crates/ill_c && rt lib) && make -C ../bindings/c all example; }
 
+example_of_lines() { (cd ../crates/example_build && rt run </dev/null); }
+
 build "the program" ./build_program.sh
+build "the example of lines" example_of_lines
 build "the libraries for C" calls_for_c
 run ./check.sh --scripts
 run memory/allocations.sh
@@ -46,7 +49,7 @@ fi
 [ -e /usr/include/yaz/ill.h ] && run program/peer.py
 for profile in 2 module; do
     run ../vectors/run.py --adapter illcanon --profile $profile
-    for test in "spellings 2000" "refusals 2000" "shown 2000" "json_lines 2000" "lines 500" "dump 400" "dump_html 300" "archive 200000" "results 20000"; do
+    for test in "spellings 2000" "refusals 2000" "shown 2000" "json_lines 2000" "built 2000" "lines 500" "dump 400" "dump_html 300" "archive 200000" "results 20000"; do
         run program/${test% *}.py "$(od -An -N2 -tu2 /dev/urandom | tr -d ' ')" ${test#* } $profile
     done
     [ -x /usr/bin/time ] && run speed/worst.py $profile

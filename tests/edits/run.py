@@ -25,14 +25,18 @@ CRATES = TOP / "crates"
 # Of each crate, a function that no edit changes.
 UNTOUCHED = {
     "ber_core": "put::length_size",
+    "ber_foreign": "shortest::number",
     "ber_leaf": "null::NullLeaf::check",
+    "ill_build": "members::place_of",
     "ill_c": "profile::profile_numbered",
     "ill_grammar": "cell::levels_in",
     "ill_normal": "counts::Counts::none",
     "ill_parts": "leaves::number_value",
     "ill_read": "reader::Reader::outcome",
     "ill_schema": "entry::may_lack",
+    "ill_texts": "number::is_negative",
     "ill_write": "element::row_at",
+    "oid_text": "number::split_at_dot",
 }
 
 

@@ -132,21 +132,21 @@ def schema_of(node, name):
     return {"$ref": f"#/$defs/{NAMES[node][0] if node in ALL_ROWS else node}"}
 
 
-def node_schema(node):
+def node_schema(node, loose):
     rows = [(name, row) for name, row in zip(NAMES[node][1], ALL_ROWS[node]) if row.presence != "LeftOut"]
     members = {name: schema_of(row.node, name) for name, row in rows}
     if node in CHOICES:
         return {**object_of(members, []), "minProperties": 1, "maxProperties": 1}
-    return object_of(members, [name for name, row in rows if row.presence in ("Must", "Default")])
+    return object_of(members, [name for name, row in rows if row.presence == "Must" or row.presence == "Default" and not loose])
 
 
-def named_schema(names):
+def named_schema(names, loose):
     named = object_of({"number": {"type": "integer", "minimum": 1, "maximum": len(names)}, "name": {"enum": names}}, ["number", "name"])
-    return {"oneOf": [{"type": "integer"}, named]}
+    return {"oneOf": [{"type": "integer"}, *([{"enum": names}] if loose else []), named]}
 
 
-def make_schema():
-    """The schema of the module profile, which has every part that profile 2 has."""
+def make_schema(loose=False):
+    """The schema of the module profile, which has every part that profile 2 has. The loose one is that of lines that are built."""
     root = ROOTS["module"]
     bodies = [NAMES[row.node][0] for row in ALL_ROWS[root]]
     bit_count = {"description": "How many bits.", "type": "integer", "minimum": 0}
@@ -163,9 +163,9 @@ def make_schema():
         "BitString": object_of({"bits": bit_count, "octets": hexadecimal("The bits, and 0 for each that is missing.")}, ["bits", "octets"]),
         "Any": object_of({"foreign": hexadecimal("The octets of a value of any type, with the shortest lengths.")}, ["foreign"]),
     }
-    names = {name: named_schema(names) for name, names in NUMBER_NAMES.items()}
+    names = {name: named_schema(names, loose) for name, names in NUMBER_NAMES.items()}
     shown = set(reached(root)) - UNSHOWN - ALL_LISTS - {root}
-    nodes = {NAMES[node][0]: node_schema(node) for node in ALL_ROWS if node in shown}
+    nodes = {NAMES[node][0]: node_schema(node, loose) for node in ALL_ROWS if node in shown}
     members = {
         "file": {"description": "The name of the file, where there are several.", "type": "string"},
         "number": {"description": "The number of the message in its input.", "type": "integer", "minimum": 1, "maximum": 1_000_000},
@@ -176,10 +176,14 @@ def make_schema():
         "normal": {"description": "Whether the message is in normal form.", "type": "boolean"},
         "value": {"description": "An object of the rows that are there, with the defaults.", "type": "object"},
     }
+    if loose:
+        unread = {name: {"description": "Not read: it may hold anything."} for name in ("file", "number", "offset", "octets", "normal")}
+        value = {"description": "An object of the rows that are there. Defaults may be left out.", "type": "object"}
+        members = {**members, **unread, "profile": {"description": "The profile that the line is of.", "enum": list(ROOTS)}, "value": value}
     return {
         "$schema": "https://json-schema.org/draft/2020-12/schema",
-        "title": "A line of illcanon show --json",
-        **object_of(members, [name for name in members if name not in ("file", "profile")]),
+        "title": "A line that is built" if loose else "A line of illcanon show --json",
+        **object_of(members, ["apdu", "value"] if loose else [name for name in members if name not in ("file", "profile")]),
         "oneOf": [{"properties": {"apdu": {"const": name}, "value": {"$ref": f"#/$defs/{name}"}}} for name in bodies],
         "$defs": {**leaves, **names, **nodes},
     }
@@ -192,8 +196,8 @@ def block(value):
     return "[\n" + ",\n".join(f"    {json.dumps(part)}" for part in value) + "\n  ]"
 
 
-def schema_text():
-    parts = [f"  {json.dumps(name)}: {block(part) if name in ('properties', 'oneOf', '$defs') else json.dumps(part)}" for name, part in make_schema().items()]
+def schema_text(loose=False):
+    parts = [f"  {json.dumps(name)}: {block(part) if name in ('properties', 'oneOf', '$defs') else json.dumps(part)}" for name, part in make_schema(loose).items()]
     return "{\n" + ",\n".join(parts) + "\n}\n"
 
 

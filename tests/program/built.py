@@ -1,0 +1,199 @@
+#!/usr/bin/env python3
+"""Builds messages from lines of JSON, and compares them with what is known of the messages and with the builder of the model.
+
+The lines of the valid test vectors of vectors/ and of random APDUs give the octets that the vectors and the model's writer say. Lines that are
+changed in some places give the octets that the model's builder says, or its cause and its place. Each line that is built is as
+docs/build.schema.json says, which is made here.
+Usage: built.py [SEED [COUNT [PROFILE]]], PROFILE being `2`, the default, or `module`; or built.py --write, which writes the schema. Prints
+the seed, with which a run is made again. Needs the program of crates/example_build.
+"""
+import json
+import random
+import subprocess
+import sys
+from pathlib import Path
+
+TESTS = Path(__file__).resolve().parents[1]
+sys.path[:0] = [str(TESTS), str(TESTS.parent / "vectors")]
+
+from json_lines import PROFILE, SAID_PROFILE, octets_of, of_random, of_vector, schema_text
+from model.builder import Builder, Fault, Number, Object, parse
+from model.encoder import Writer
+from model.schema import Schema
+from model.tables import ALL_ROWS, NAMES, NUMBER_NAMES, ROOTS, TOP, random_value, seed_and_count
+
+PROGRAM = TOP / "crates/example_build/out/example_build"
+SCHEMA = TOP / "docs/build.schema.json"
+TABLES = json.loads((TESTS / "model/tables.json").read_text())
+BUILDERS = [Builder(TABLES, profile) for profile in ROOTS]
+# how many lines the program gets at once
+BATCH = 20_000
+
+ROW_NAMES = sorted({name for _, names in NAMES.values() for name in names if name})
+NUMBERS = ["0", "1", "2", "6", "-1", "-0", "1.0", "1e2", "9223372036854775807", "9223372036854775808", "-9223372036854775808", "-9223372036854775809"]
+TEXTS = ["", "A", "20240229", "20230229", "240000", "250000", "0500", "05000", "05FF", "1.2.3", "1.40", "oid 80", "\u00e9", "\u0100", "\U0001f4da", "\x1b", "\x7f",
+         "module", "2", "general", "Expired", *(name for names in NUMBER_NAMES.values() for name in names)]
+
+
+def write(value):
+    """The text of a value of JSON, whose objects are lists of pairs and whose numbers are texts."""
+    if isinstance(value, Object):
+        return "{" + ",".join(f"{json.dumps(name)}:{write(inner)}" for name, inner in value) + "}"
+    if isinstance(value, list):
+        return "[" + ",".join(map(write, value)) + "]"
+    return value if isinstance(value, Number) else json.dumps(value)
+
+
+def line_of(apdu, value):
+    return json.dumps({"apdu": apdu, **SAID_PROFILE, "value": value})
+
+
+# ---- messages that are known
+
+
+def vector_lines():
+    """The line and the normal form of each valid test vector."""
+    root = ROOTS[PROFILE]
+    nodes = {name: row.node for name, row in zip(NAMES[root][1], ALL_ROWS[root])}
+    for path in sorted((TOP / "vectors").glob("*.json")):
+        book = json.loads(path.read_text())
+        for vector in (vector for group in book.get("groups", []) for vector in group["vectors"]):
+            if "value" in vector and PROFILE in vector.get("profiles", [book.get("profile", "2")]):
+                yield line_of(vector["apdu"], of_vector(nodes[vector["apdu"]], "", vector["value"])), octets_of(vector, "normal", "normal_runs").hex()
+
+
+def random_lines(chance, count):
+    root = ROOTS[PROFILE]
+    for _ in range(count):
+        apdu = random_value(chance, root)
+        row, name = ALL_ROWS[root][apdu[0]], NAMES[root][1][apdu[0]]
+        yield line_of(name, of_random(row.node, "", apdu[1])), Writer().value(root, apdu, None).hex()
+
+
+# ---- changes
+
+
+def places(value):
+    """Each place of a value that holds another, as the list and the index of it."""
+    if not isinstance(value, list):
+        return
+    for i, entry in enumerate(value):
+        yield value, i
+        yield from places(entry[1] if isinstance(value, Object) else entry)
+
+
+def other_value(chance, value):
+    """A value to stand in the place of this one."""
+    if isinstance(value, str) and not isinstance(value, Number) and value and chance.random() < 0.4:
+        at = chance.randrange(len(value))
+        return value[:at] + chance.choice(["", *"0aAgZ~ .", "\x00", "\x0e", "\u00ff", "\u0100"]) + value[at + chance.randrange(2):]
+    names = chance.choice(sorted(NUMBER_NAMES))
+    number = Number(chance.choice(NUMBERS))
+    return chance.choice([
+        None, True, False, number, chance.choice(TEXTS), [], Object(), [value], Object([(chance.choice(ROW_NAMES), value)]),
+        Object([("number", number), ("name", chance.choice(NUMBER_NAMES[names]))]), Object([("bits", number), ("octets", chance.choice(TEXTS))]),
+        Object([("general", chance.choice(TEXTS))]), Object([("visible", chance.choice(TEXTS))]), Object([("octets", chance.choice(TEXTS))]),
+        Object([("foreign", chance.choice(TEXTS))]),
+    ])
+
+
+def change(chance, line):
+    """Changes one place of a line."""
+    holder, i = chance.choice(list(places(line)))
+    way = chance.randrange(6)
+    if way == 0:
+        del holder[i]
+    elif way == 1:
+        holder.insert(chance.randrange(len(holder) + 1), holder[i])
+    elif way == 2:
+        chance.shuffle(holder)
+    elif not isinstance(holder, Object):
+        holder[i] = other_value(chance, holder[i])
+    elif way == 3:
+        holder[i] = (chance.choice([*ROW_NAMES, "x", "a/b~c", "", "profile"]), holder[i][1])
+    else:
+        holder[i] = (holder[i][0], other_value(chance, holder[i][1]))
+
+
+def changed_text(chance, text):
+    """The text with another character, with one more or with one less."""
+    at = chance.randrange(len(text))
+    return text[:at] + chance.choice(["", *'"{}[],:0\\ x\t\u0001']) + text[at + chance.randrange(2):]
+
+
+ESCAPES = {**{octet: f"\\x{octet:02x}" for octet in (*range(0x20), *range(0x7F, 0x100))}, 9: "\\t", 10: "\\n", 13: "\\r", **{octet: "\\" + chr(octet) for octet in b"\"'\\"}}
+
+
+def escaped(pointer):
+    """The octets of a pointer, as Rust escapes them."""
+    return "".join(ESCAPES.get(octet, chr(octet)) for octet in pointer.encode())
+
+
+def answer(text):
+    """What the program says of a line, as the model has it."""
+    fault = None
+    for builder in BUILDERS:
+        try:
+            return builder.line(text).hex()
+        except Fault as refused:
+            fault = refused
+        if fault.cause != "OtherProfile":
+            break
+    return f'refused at "{escaped(fault.pointer())}": {fault.cause}'
+
+
+def changed_lines(chance, lines, count):
+    for _ in range(count):
+        line = parse(chance.choice(lines))
+        for _ in range(chance.choice([1, 1, 1, 2, 3])):
+            if line:
+                change(chance, line)
+        text = write(line)
+        text = changed_text(chance, text) if chance.random() < 0.05 else text
+        yield text, answer(text)
+
+
+# ---- the comparison
+
+
+def compare(pairs):
+    """The number of lines. The program gives each line its answer."""
+    for start in range(0, len(pairs), BATCH):
+        batch = pairs[start:start + BATCH]
+        done = subprocess.run([PROGRAM], input="".join(text + "\n" for text, _ in batch).encode(), capture_output=True, check=True)
+        answers = done.stdout.decode().split("\n")[:-1]
+        for (text, wanted), found in zip(batch, answers, strict=True):
+            if found != wanted:
+                sys.exit(f"built.py: {text}\n is {found}\n not {wanted}")
+    return len(pairs)
+
+
+def fit(schema, pairs):
+    """Lines that are built are as the schema says."""
+    for text, wanted in pairs:
+        fault = None if wanted.startswith("refused") else schema.fault(json.loads(text))
+        if fault:
+            sys.exit(f"built.py: {text}\n is built, and {fault}")
+
+
+def main():
+    made = schema_text(loose=True)
+    if sys.argv[1:] == ["--write"]:
+        SCHEMA.write_text(made)
+        return
+    if SCHEMA.read_text() != made:
+        sys.exit("docs/build.schema.json isn't what built.py --write makes")
+    seed, count = seed_and_count()
+    chance = random.Random(seed)
+    vectors = list(vector_lines())
+    known = list(random_lines(chance, count))
+    lines = [text for text, _ in vectors + known if len(text) < 4096]
+    changed = list(changed_lines(chance, lines, 10 * count))
+    causes = sorted({said.rsplit(" ", 1)[1] for _, said in changed if said.startswith("refused")})
+    counts = [compare(pairs) for pairs in (vectors, known, changed)]
+    fit(Schema(json.loads(made)), [pair for pair in vectors + known + changed if len(pair[0]) < 4096][:4 * count])
+    print(f"seed {seed}, profile {PROFILE}: {counts[0]} test vectors, {counts[1]} random APDUs and {counts[2]} changed lines, all right; {len(causes)} causes")
+
+
+if __name__ == "__main__":
+    main()
