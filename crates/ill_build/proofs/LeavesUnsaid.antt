@@ -24,7 +24,7 @@ use Rattle.ill_tables.specs.Numbers.{number_name, number_names}
 use Rattle.ill_tables.specs.declared.node.Kind.{Kind}
 use Rattle.ill_tables.specs.declared.node.LeafKind.{LeafKind}
 use Rattle.ill_tables.specs.declared.part.Presence.{Presence}
-use Rattle.ill_texts.proofs.CharacterTexts.{characters_once}
+use Rattle.ill_schema.proofs.CharacterTexts.{characters_once}
 use Rattle.ill_texts.proofs.HexadecimalTexts.{hexadecimal_once}
 use Rattle.ill_texts.proofs.NumberTexts.{decimal_is_whole, number_is_whole, number_once}
 use Rattle.ill_build.specs.declared.cause.BuildCause.{BuildCause}

@@ -27,7 +27,8 @@ use Rattle.ill_build.specs.Members.{IsObjectOf, of_names}
 use Rattle.ill_build.specs.Path.{OnRefused, Step, refusal_of, step_of}
 use Rattle.ill_build.specs.Said.{Says}
 use Rattle.ill_build.specs.code.Built.{BuiltRow}
-use Rattle.ill_build.specs.code.Lines.{OnFailure, failed}
+use Rattle.ill_build.specs.Line.{OnFailure}
+use Rattle.ill_build.specs.code.Lines.{failed}
 use Rattle.ill_build.specs.declared.stop.Step.{Step as Taken}
 use Rattle.ill_build.proofs.Lists.{drop_at}
 use Rattle.ill_build.proofs.Refusals.{path_of_stop}

@@ -17,7 +17,8 @@ use Rattle.ill_build.specs.Members.{name_fault, of_names, of_type, place_fault, 
 use Rattle.ill_build.specs.Path.{Step}
 use Rattle.ill_build.specs.Said.{Says}
 use Rattle.ill_build.proofs.LeavesUnsaid.{member_clean, object_clean, object_there, text_clean}
-use Rattle.ill_build.proofs.Names.{row_once, row_place}
+use Rattle.ill_tables.proofs.DistinctNames.{row_once}
+use Rattle.ill_build.proofs.Names.{row_place}
 use Rattle.ill_build.proofs.Unsaid.{carried_clean, said_clean}
 
 -- an APDU that a line may say: it fits, and its normal form is within the limit

@@ -21,7 +21,7 @@ use Rattle.ill_build.specs.Said.{Says}
 use Rattle.ill_build.specs.code.Refused.{inside}
 use Rattle.ill_build.proofs.LeavesUnsaid.{member_clean, text_clean}
 use Rattle.ill_build.proofs.LinesUnsaid.{name_clean, profile_clean, value_clean}
-use Rattle.ill_build.proofs.Names.{row_once}
+use Rattle.ill_tables.proofs.DistinctNames.{row_once}
 use Rattle.ill_build.proofs.OneLeafFault.{Same, behind, both_are, found_once, leaf_once, member_once, object_once, text_once}
 use Rattle.ill_build.proofs.Unsaid.{Clean, one_member, rows_clean, said_clean}
 

@@ -35,13 +35,15 @@ use Rattle.ill_tables.specs.declared.node.NodeId.{NodeId}
 use Rattle.ill_tables.specs.declared.node.NodeId.TheVariants.{Boolean}
 use Rattle.ill_tables.specs.declared.part.Presence.{Presence}
 use Rattle.ill_tables.specs.declared.part.Row.{Row}
-use Rattle.ill_texts.proofs.CharacterTexts.{characters_once}
+use Rattle.ill_schema.proofs.CharacterTexts.{characters_once}
 use Rattle.ill_texts.proofs.HexadecimalTexts.{hexadecimal_once}
 use Rattle.ill_texts.proofs.OctetLists.{octet_first}
 use Rattle.oid_text.proofs.OidTexts.{oid_text_once}
 use Rattle.ill_build.specs.Line.{SaysApdu, SaysLine}
 use Rattle.ill_build.specs.Said.{EntriesSay, Given, IsDefaultAt, IsDefaultOf, ItemsSay, LeafSays, NameSays, Says, Under}
-use Rattle.ill_build.proofs.Names.{all_named, is_named, name_at, name_once, names_enough, row_once}
+use Rattle.ill_tables.proofs.DistinctNames.{name_at, name_once, names_enough, row_once}
+use Rattle.ill_build.proofs.Unsaid.{one_member}
+use Rattle.ill_build.proofs.Names.{all_named, is_named}
 
 -- ---- texts of JSON
 
@@ -174,10 +176,6 @@ tree_once : (T U : Tree) → IsTrue (are_octets (encoding T)) → IsTrue (are_oc
 tree_once T U some other h k e = encoding_once T U h k (hexadecimal_once (encoding T) (encoding U) some other e)
 
 -- ---- rows
-
--- the only member
-one_member : (k l : List ℕ) (i j : Json) → json.object (json.member k i json.no_members) ≡ json.object (json.member l j json.no_members) → (k ≡ l) × (i ≡ j)
-one_member k l i j e = (cc, cc)
 
 array_same : (js ks : json.Items) → json.array js ≡ json.array ks → js ≡ ks
 array_same js ks e = cc

@@ -6,9 +6,9 @@ use Rattle.std.proofs.lemmas.Bool.{and_parts}
 use Rattle.std.proofs.lemmas.Int.Digits.{all_below_base_digits_of, length-digits_of-le}
 use Rattle.ber_core.specs.Der.{encoding, encodings, size, sizes}
 use Rattle.ber_core.specs.Foreign.{are_foreign, foreign_levels, is_foreign, is_identified}
-use Rattle.ber_core.proofs.Encodings.{length-encoding, length-encodings}
+use Rattle.ber_core.proofs.Encodings.{encoding_spells, length-encoding, length-encodings}
 use Rattle.ber_core.proofs.Foreign.{foreign_identified}
-use Rattle.ber_core.proofs.ReadOctets.{octets_join}
+use Rattle.ill_refusals.proofs.SpelledOctets.{foreign_octets, spelled_octets}
 use Rattle.ber_leaf.specs.Leaf.{Leaf, Holds, bit_string, normal_content, value}
 use Rattle.ber_leaf.specs.Profile.{Profile, profile_two}
 use Rattle.ber_leaf.specs.Simple.{Simple, bits}
@@ -150,84 +150,17 @@ default_short _ d = tt
 
 -- ---- foreign trees
 
--- octets of these numbers
-two_octets : (a b : ℕ) → a < 256 → b < 256 → IsTrue (are_octets (a ∷ b ∷ []))
-two_octets a b h k = octets-cons a (b ∷ []) h (octets-cons b [] k refl)
-
--- a great number of a tag
-base_128_octets : (n : ℕ) → n ≤ 268_435_455 → IsTrue (are_octets (base_128 n))
-base_128_octets n le = by (nat_lt n 128) (nat_lt n 16_384) (nat_lt n 2_097_152) refl refl refl
-  where
-    by : (a b c : Bool) → nat_lt n 128 ≡ a → nat_lt n 16_384 ≡ b → nat_lt n 2_097_152 ≡ c
-        → IsTrue (are_octets (if a then n ∷ [] else if b then (128 + n / 128) ∷ n % 128 ∷ [] else if c then (128 + n / 16_384) ∷ (128 + n / 128 % 128) ∷ n % 128 ∷ [] else (128 + n / 2_097_152) ∷ (128 + n / 16_384 % 128) ∷ (128 + n / 128 % 128) ∷ n % 128 ∷ []))
-    by true b c e f g = let l = ltb-true n 128 e in octets-cons n [] (omega (arith, l)) refl
-    by false true c e f g = let l = ltb-true n 16_384 f in two_octets (128 + n / 128) (n % 128) (omega (arith, l)) (omega arith)
-    by false false true e f g =
-        let l = ltb-true n 2_097_152 g in
-        octets-cons (128 + n / 16_384) ((128 + n / 128 % 128) ∷ n % 128 ∷ []) (omega (arith, l)) (two_octets (128 + n / 128 % 128) (n % 128) (omega arith) (omega arith))
-    by false false false e f g =
-        octets-cons (128 + n / 2_097_152) ((128 + n / 16_384 % 128) ∷ (128 + n / 128 % 128) ∷ n % 128 ∷ []) (omega (arith, le))
-        (octets-cons (128 + n / 16_384 % 128) ((128 + n / 128 % 128) ∷ n % 128 ∷ []) (omega arith) (two_octets (128 + n / 128 % 128) (n % 128) (omega arith) (omega arith)))
-
--- the bits of a class, and of a form
-small_class : (c : Class) → class_bits c ≤ 192
-small_class Universal = omega arith
-small_class Application = omega arith
-small_class Context = omega arith
-small_class Private = omega arith
-
-small_form : (f : Bool) → form_bit f ≤ 32
-small_form false = omega arith
-small_form true = omega arith
-
--- an identifier
-identifier_octets : (t : Tag) (f : Bool) → t.number ≤ 268_435_455 → IsTrue (are_octets (identifier t f))
-identifier_octets t f le = by (nat_lt t.number 31) refl
-  where
-    by : (b : Bool) → nat_lt t.number 31 ≡ b
-        → IsTrue (are_octets (if b then (class_bits t.class + form_bit f + t.number) ∷ [] else (class_bits t.class + form_bit f + 31) ∷ base_128 t.number))
-    by true e = let l = ltb-true t.number 31 e in octets-cons (class_bits t.class + form_bit f + t.number) [] (omega (arith, l, small_class t.class, small_form f)) refl
-    by false e = octets-cons (class_bits t.class + form_bit f + 31) (base_128 t.number) (omega (arith, small_class t.class, small_form f)) (base_128_octets t.number le)
-
--- numbers below 256
-below_base : (os : List ℕ) → AllBelowBase 256 os → IsTrue (are_octets os)
-below_base [] h = refl
-below_base (o ∷ os) h = octets-cons o os h.0 (below_base os h.1)
-
--- a length, where it can say its number
-length_octets : (n : ℕ) → n < 256 ^ 126 → IsTrue (are_octets (shortest_length n))
-length_octets n few = by (nat_lt n 128) refl
-  where
-    by : (b : Bool) → nat_lt n 128 ≡ b → IsTrue (are_octets (if b then n ∷ [] else (128 + length (digits_of 256 n)) ∷ digits_of 256 n))
-    by true e = let l = ltb-true n 128 e in octets-cons n [] (omega (arith, l)) refl
-    by false e =
-        let most : length (digits_of 256 n) ≤ 126 = length-digits_of-le 256 126 n (lit≤ tt) few in
-        octets-cons (128 + length (digits_of 256 n)) (digits_of 256 n) (omega (arith, most)) (below_base (digits_of 256 n) (all_below_base_digits_of 256 n (lit≤ tt)))
-
 -- where a length can say its size, a foreign tree is encoded in octets
-mutual
-  tree_octets : (most n : ℕ) (T : Tree) → most ≤ 256 ^ 126 → IsTrue (is_foreign n T) → size T < most → IsTrue (are_octets (encoding T))
-  tree_octets most zero T top h few = absurd cc
-  tree_octets most (suc n) (primitive t o) top h few =
-      octets_join (identifier t false) (shortest_length (length o) ++ o) (identifier_octets t false (foreign_identified (suc n) (primitive t o) h).number)
-      (octets_join (shortest_length (length o)) o (length_octets (length o) (lt_of_lt_of_le (let l : length o < most = omega (arith, few) in l) top)) (and_parts (is_identified t false) (are_octets o) h).1)
-  tree_octets most (suc n) (constructed t ts) top h few =
-      octets_join (identifier t true) (shortest_length (length (encodings ts)) ++ encodings ts) (identifier_octets t true (foreign_identified (suc n) (constructed t ts) h).0.number)
-      (octets_join (shortest_length (length (encodings ts))) (encodings ts) (length_octets (length (encodings ts)) (lt_of_lt_of_le (let l : length (encodings ts) < most = omega (arith, few, length-encodings ts) in l) top))
-      (trees_octets most n ts top (and_parts (is_identified t true) (are_foreign n ts) h).1 (omega (arith, few))))
-
-  trees_octets : (most n : ℕ) (ts : Trees) → most ≤ 256 ^ 126 → IsTrue (are_foreign n ts) → sizes ts < most → IsTrue (are_octets (encodings ts))
-  trees_octets most n none top h few = refl
-  trees_octets most n (more T ts) top h few =
-      let parts = and_parts (is_foreign n T) (are_foreign n ts) h in
-      octets_join (encoding T) (encodings ts) (tree_octets most n T top parts.0 (omega (arith, few))) (trees_octets most n ts top parts.1 (omega (arith, few)))
+tree_octets : (T : Tree) → IsTrue (is_foreign foreign_levels T) → size T < 256 ^ 126 → IsTrue (are_octets (encoding T))
+tree_octets T h few =
+    spelled_octets T (encoding T) (encoding_spells T (foreign_identified foreign_levels T h) (subst (λ n. n < 256 ^ 126) (sym (length-encoding T)) few)) (foreign_octets foreign_levels T h)
 
 -- ---- contents
 
 -- a line can say a content whose normal form has fewer than 2 ^ 59 octets
 pub few_octets_sayable : (p : Profile) (c : Content) (node : NodeId) (g : Tagging) → length (encoding (normal_tree c node g)) < 2 ^ 59 → Fits p c node → IsSayable c
 few_octets_sayable p c node g few fit =
-    of_content p (2 ^ 59) IsShort IsInOctets (record { of_leaf = leaf_short p; of_default = default_short; of_tree = λ T h s. tree_octets (2 ^ 59) foreign_levels T (lit≤ tt) h s }) c node g fit
+    of_content p (2 ^ 59) IsShort IsInOctets (record { of_leaf = leaf_short p; of_default = default_short; of_tree = λ T h s. tree_octets T h (lt_of_lt_of_le s (lit≤ tt)) }) c node g fit
     (subst (λ n. n < 2 ^ 59) (length-encoding (normal_tree c node g)) few)
 
 -- the same of an APDU

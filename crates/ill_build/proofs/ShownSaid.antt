@@ -29,7 +29,8 @@ use Rattle.ill_build.specs.Line.{IsProfileSaid, SaysLine, line_names, profile_wo
 use Rattle.ill_build.specs.Members.{IsObjectOf, Known, of_names, of_type, first_fault, name_fault, place_fault, presence_fault, row_fault}
 use Rattle.ill_build.specs.Said.{EntriesSay, Given, IsDefaultOf, ItemsSay, LeafSays, NameSays, Says, Under}
 use Rattle.ill_build.specs.Shown.{EachEntry, EachItem, IsInOctets, IsSayable, IsShort}
-use Rattle.ill_build.proofs.Names.{row_once, row_place, same_bytes}
+use Rattle.ill_tables.proofs.DistinctNames.{row_once, same_bytes}
+use Rattle.ill_build.proofs.Names.{row_place}
 
 -- ---- members without a fault
 

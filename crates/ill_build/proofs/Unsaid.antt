@@ -24,7 +24,8 @@ use Rattle.ill_build.specs.Said.{EntriesSay, Given, IsDefaultAt, ItemsSay, Says,
 use Rattle.ill_build.specs.code.Built.{IsLeafKind}
 use Rattle.ill_build.specs.code.Refused.{inside}
 use Rattle.ill_build.proofs.LeavesUnsaid.{foreign_clean, leaf_clean, object_clean, object_there}
-use Rattle.ill_build.proofs.Names.{row_named, row_once, row_place}
+use Rattle.ill_tables.proofs.DistinctNames.{row_once}
+use Rattle.ill_build.proofs.Names.{row_named, row_place}
 
 -- a value of the type that this one says, and that fits
 pub record IsSaid (p : Profile) (row : List ℕ) (node : NodeId) (j : Json) : Type 0 where

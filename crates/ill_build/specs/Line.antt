@@ -11,6 +11,8 @@ use Rattle.ill_tables.specs.Names.{row_name, row_node}
 use Rattle.ill_tables.specs.Table.{rows_of}
 use Rattle.ill_tables.specs.declared.part.Row.{Row}
 use Rattle.ill_build.specs.declared.cause.BuildCause.{BuildCause}
+use Rattle.ill_build.specs.declared.line.BuildFailure.{BuildFailure}
+use Rattle.ill_build.specs.declared.line.BuildFailure.TheVariants.{OutOfMemory, Refused}
 use Rattle.ill_build.specs.Faulty.{IsFaultOf, IsFaulty, IsMemberFault, IsObjectFault}
 use Rattle.ill_build.specs.Members.{IsObjectOf, name_fault, of_names, of_type}
 use Rattle.ill_build.specs.Path.{Step, indexed, named}
@@ -106,3 +108,8 @@ step_text (indexed i) = codes "/" ++ decimal i
 
 abbrev pub pointer_of : List Step → List ℕ
 pointer_of path = flat_map step_text path
+
+-- what is refused is this cause at a path with this pointer, unless memory ran out
+abbrev pub OnFailure : BuildFailure → (BuildCause → List Step → Type 0) → Type 0
+OnFailure OutOfMemory P = Unit {0}
+OnFailure (Refused refusal) P = (path : List Step) × (refusal.pointer.items ≡ pointer_of path) × P refusal.cause path

@@ -7,9 +7,9 @@ ghost use Rattle.ill_schema.specs.Profiles.{profile_of};
 ghost use Rattle.ill_tables.specs.declared.part.Row.{Row as RowOf};
 ghost use Rattle.ill_build.specs.Faulty.{IsFaultOf, IsMemberFault};
 ghost use Rattle.json.specs.Find.{as_str, get};
-ghost use Rattle.ill_build.specs.Line.{HasProfileFault, IsApduFault, IsFaultyLine, IsLineFault, IsProfileSaid, NamesApdu, SaysApdu, SaysLine, escaped, line_limit, pointer_of, profile_word, step_text};
+ghost use Rattle.ill_build.specs.Line.{HasProfileFault, IsApduFault, IsFaultyLine, IsLineFault, IsProfileSaid, NamesApdu, OnFailure, SaysApdu, SaysLine, escaped, line_limit, pointer_of, profile_word, step_text};
 ghost use Rattle.ill_build.specs.Path.{OnRefusal, Step as Place, refusal_of, step_of};
-ghost use Rattle.ill_build.specs.code.Lines.{OnFailure, failed};
+ghost use Rattle.ill_build.specs.code.Lines.{failed};
 
 use crate::cause::BuildCause;
 use crate::members::{Known, members_of, place_of};

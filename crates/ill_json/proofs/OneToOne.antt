@@ -1,5 +1,5 @@
 -- A line is of one APDU: values that fit the tables have one JSON value only where they are one value.
-use Rattle.std.proofs.Common.{◌≡◌, ℕ, zero, suc, ◌+◌, ◌-◌, ◌<◌, ◌≤◌, ◌/◌, ◌%◌, ◌^◌, Bool, true, false, not, ◌&&◌, ◌||◌, IsTrue, List, [], ◌∷◌, ◌++◌, length, Option, Some, None, IsUtf8, append_assoc, flat_map, ◌*◌, if◌then◌else◌, refl, sym, ap, subst, ◌∙◌, arith, codes, slice_get, ℤ, pos, negsuc, neg_ℤ, ◌≤ℤ◌, le-ltb, lt-ltb}
+use Rattle.std.proofs.Common.{◌≡◌, ℕ, zero, suc, ◌+◌, ◌-◌, ◌<◌, ◌≤◌, ◌/◌, ◌%◌, ◌^◌, Bool, true, false, not, ◌&&◌, ◌||◌, IsTrue, List, [], ◌∷◌, ◌++◌, length, Option, Some, None, IsUtf8, append_assoc, flat_map, ◌*◌, if◌then◌else◌, refl, sym, ap, subst, ◌∙◌, arith, codes, slice_get, ℤ, pos, negsuc, neg_ℤ, ◌≤ℤ◌, le-ltb, lt-ltb, ltb-true}
 use Rattle.std.specs.Prelude.{nat_le, nat_lt}
 use Rattle.std.specs.Char.{encode_utf8}
 use Rattle.std.specs.Fmt.{signed_decimal}
@@ -45,66 +45,11 @@ use Rattle.ill_schema.specs.Tagging.{leaf_of}
 use Rattle.ill_tables.specs.Numbers.{number_name, number_names}
 use Rattle.ill_tables.specs.Names.{name_or_none, node_or_left_out, row_name, row_node}
 use Rattle.ill_schema.specs.Texts.{characters}
+use Rattle.ill_schema.proofs.CharacterTexts.{characters_once}
+use Rattle.ill_tables.proofs.DistinctNames.{name_at, names_enough, row_once}
 use Rattle.ill_json.specs.Json.{entry_members, in_member, item_values, json_line_of, leaf_json, line_json, number_json, plain, value_json, with_file}
 use Rattle.ill_json.specs.declared.line.LineHead.{LineHead}
 use Rattle.ill_json.proofs.InAscii.{AreTexts-json_tokens, HasTexts, IsUtf8-are_low, are_low, in_ascii, in_ascii-cons, tokens-in_ascii}
-
-both : (a b : Bool) → IsTrue (a && b) → IsTrue a × IsTrue b
-both true b h = (refl, h)
-both false b h = absurd cc
-
--- ---- characters
-
-low : (a : ℕ) → a < 128 → encode_utf8 a ≡ a ∷ []
-unfolding encode_utf8
-low a h = rw (lt-ltb a 128 h) refl
-
-high : (a : ℕ) → 128 ≤ a → a < 256 → encode_utf8 a ≡ (192 + a / 64) ∷ (128 + a % 64) ∷ []
-unfolding encode_utf8
-high a h k = rw (le-ltb a 128 h, lt-ltb a 2048 (omega arith)) refl
-
--- two octets, as the first is ASCII or not
-one_by : (a b : ℕ) (x y : List ℕ) (s t : Bool) → nat_lt a 128 ≡ s → nat_lt b 128 ≡ t → a < 256 → b < 256 → encode_utf8 a ++ x ≡ encode_utf8 b ++ y → (a ≡ b) × (x ≡ y)
-one_by a b x y true true f g h k e =
-    let q : a ∷ x ≡ b ∷ y = ap (λ (l : List ℕ). l ++ x) (sym (low a (grind (arith, nat_tests)))) ∙ e ∙ ap (λ (l : List ℕ). l ++ y) (low b (grind (arith, nat_tests))) in
-    (cc, cc)
-one_by a b x y true false f g h k e =
-    let q : a ∷ x ≡ (192 + b / 64) ∷ (128 + b % 64) ∷ y = ap (λ (l : List ℕ). l ++ x) (sym (low a (grind (arith, nat_tests)))) ∙ e ∙ ap (λ (l : List ℕ). l ++ y) (high b (grind (arith, nat_tests)) k) in
-    let first : a ≡ 192 + b / 64 = cc in
-    let small : a < 128 = grind (arith, nat_tests) in
-    absurd (omega arith)
-one_by a b x y false true f g h k e =
-    let q : (192 + a / 64) ∷ (128 + a % 64) ∷ x ≡ b ∷ y = ap (λ (l : List ℕ). l ++ x) (sym (high a (grind (arith, nat_tests)) h)) ∙ e ∙ ap (λ (l : List ℕ). l ++ y) (low b (grind (arith, nat_tests))) in
-    let first : 192 + a / 64 ≡ b = cc in
-    let small : b < 128 = grind (arith, nat_tests) in
-    absurd (omega arith)
-one_by a b x y false false f g h k e =
-    let q : (192 + a / 64) ∷ (128 + a % 64) ∷ x ≡ (192 + b / 64) ∷ (128 + b % 64) ∷ y = ap (λ (l : List ℕ). l ++ x) (sym (high a (grind (arith, nat_tests)) h)) ∙ e ∙ ap (λ (l : List ℕ). l ++ y) (high b (grind (arith, nat_tests)) k) in
-    let first : 192 + a / 64 ≡ 192 + b / 64 = cc in
-    let second : 128 + a % 64 ≡ 128 + b % 64 = cc in
-    (omega arith, cc)
-
-some_character : (a : ℕ) (x : List ℕ) → a < 256 → [] ≡ encode_utf8 a ++ x → ⊥
-some_character a x h e = by (nat_lt a 128) refl
-  where
-    by : (s : Bool) → nat_lt a 128 ≡ s → ⊥
-    by true f = absurd (let q : [] ≡ a ∷ x = e ∙ ap (λ (l : List ℕ). l ++ x) (low a (grind (arith, nat_tests))) in cc)
-    by false f = absurd (let q : [] ≡ (192 + a / 64) ∷ (128 + a % 64) ∷ x = e ∙ ap (λ (l : List ℕ). l ++ x) (high a (grind (arith, nat_tests)) h) in cc)
-
-octet_of : (a : ℕ) (o : List ℕ) → IsTrue (are_octets (a ∷ o)) → (a < 256) × IsTrue (are_octets o)
-octet_of a o h = let p = both (nat_lt a 256) (are_octets o) h in let f = p.0 in (grind (arith, nat_tests), p.1)
-
-characters_once : (o p : List ℕ) → IsTrue (are_octets o) → IsTrue (are_octets p) → characters o ≡ characters p → o ≡ p
-characters_once [] [] h k e = refl
-characters_once [] (b ∷ p) h k e = absurd (some_character b (characters p) (octet_of b p k).0 e)
-characters_once (a ∷ o) [] h k e = absurd (some_character a (characters o) (octet_of a o h).0 (sym e))
-characters_once (a ∷ o) (b ∷ p) h k e =
-    let x = octet_of a o h in
-    let y = octet_of b p k in
-    let q = one_by a b (characters o) (characters p) (nat_lt a 128) (nat_lt b 128) refl refl x.0 y.0 e in
-    let rest = characters_once o p x.1 y.1 q.1 in
-    let first = q.0 in
-    cc
 
 -- ---- leaves
 
@@ -204,42 +149,6 @@ leaf_once p row k v w l m known f g h i e = absurd (let q : leaf_sort v ≡ leaf
 
 -- ---- the names of a node's rows
 
-abbrev all_new : List (List ℕ) → Bool
-all_new [] = true
-all_new (name ∷ names) = not (list_any (bytes_eq name) names) && all_new names
-
-names_new : (node : NodeId) → IsTrue (all_new (names_of node).1)
-names_new Boolean = refl
-names_new _ = refl
-
-names_enough : (node : NodeId) → IsTrue (nat_le (length (rows_of node)) (length (names_of node).1))
-names_enough Boolean = refl
-names_enough _ = refl
-
-same_bytes : (x : List ℕ) → bytes_eq x x ≡ true
-same_bytes x = (bytes_eq-Decides x x).1 refl
-
-any_at : (x : List ℕ) (names : List (List ℕ)) (i : ℕ) → slice_get names i ≡ Some x → list_any (bytes_eq x) names ≡ true
-any_at x [] i e = absurd cc
-any_at x (n ∷ names) zero e = let q : x ≡ n = cc in subst (λ y. bytes_eq x y || list_any (bytes_eq x) names ≡ true) q (rw (same_bytes x) refl)
-any_at x (n ∷ names) (suc i) e = rw (any_at x names i e) (or_true (bytes_eq x n))
-  where
-    or_true : (a : Bool) → (a || true) ≡ true
-    or_true true = refl
-    or_true false = refl
-
-not_new : (x : List ℕ) (names : List (List ℕ)) (i : ℕ) → IsTrue (all_new (x ∷ names)) → slice_get names i ≡ Some x → ⊥
-not_new x names i h e =
-    let p = (both (not (list_any (bytes_eq x) names)) (all_new names) h).0 in
-    absurd (let q : IsTrue (not true) = subst (λ (b : Bool). IsTrue (not b)) (any_at x names i e) p in cc)
-
-name_once : (names : List (List ℕ)) (i j : ℕ) (x : List ℕ) → IsTrue (all_new names) → slice_get names i ≡ Some x → slice_get names j ≡ Some x → i ≡ j
-name_once [] i j x h e f = absurd cc
-name_once (n ∷ names) zero zero x h e f = refl
-name_once (n ∷ names) zero (suc j) x h e f = let q : x ≡ n = cc in absurd (not_new n names j h (f ∙ ap (λ (y : List ℕ). Some y) q))
-name_once (n ∷ names) (suc i) zero x h e f = let q : x ≡ n = cc in absurd (not_new n names i h (e ∙ ap (λ (y : List ℕ). Some y) q))
-name_once (n ∷ names) (suc i) (suc j) x h e f = ap (λ (k : ℕ). suc k) (name_once names i j x (both (not (list_any (bytes_eq n) names)) (all_new names) h).1 e f)
-
 abbrev all_named : List (List ℕ) → Bool
 all_named [] = true
 all_named ([] ∷ names) = false
@@ -259,20 +168,6 @@ in_member-named names i [] v h e = absurd (no_empty names i h e)
     no_empty ((letter ∷ name) ∷ names) zero h e = absurd cc
     no_empty ((letter ∷ name) ∷ names) (suc i) h e = no_empty names i h e
 in_member-named names i (letter ∷ name) v h e = refl
-
-enough_after : (m n : ℕ) → IsTrue (nat_le (suc m) (suc n)) → IsTrue (nat_le m n)
-enough_after m n h = grind (arith, nat_tests)
-
-name_at : (names : List (List ℕ)) (rows : List Row) (i : ℕ) (row : Row) → IsTrue (nat_le (length rows) (length names)) → slice_get rows i ≡ Some row → slice_get names i ≡ Some (name_or_none (slice_get names i))
-name_at names [] i row h e = absurd cc
-name_at [] (r ∷ rows) i row h e = absurd (let q : length (r ∷ rows) ≤ 0 = grind (arith, nat_tests) in omega (arith, q))
-name_at (n ∷ names) (r ∷ rows) zero row h e = refl
-name_at (n ∷ names) (r ∷ rows) (suc i) row h e = name_at names rows i row (enough_after (length rows) (length names) h) e
-
-row_once : (node : NodeId) (i j : ℕ) (r s : Row) → slice_get (rows_of node) i ≡ Some r → slice_get (rows_of node) j ≡ Some s → row_name node i ≡ row_name node j → i ≡ j
-row_once node i j r s h k e =
-    name_once (names_of node).1 i j (row_name node i) (names_new node) (name_at (names_of node).1 (rows_of node) i r (names_enough node) h)
-    (name_at (names_of node).1 (rows_of node) j s (names_enough node) k ∙ ap (λ (x : List ℕ). Some x) (sym e))
 
 -- an alternative of a choice of profile 2 is an object
 alternative_named : (node : NodeId) (n : ℕ) (row : Row) (c : Content) → IsTrue (is_of_two node) → slice_get (rows_of node) n ≡ Some row
@@ -473,8 +368,8 @@ IsUtf8-number_name row (negsuc n) = IsUtf8-nil
 pub IsUtf8-characters : (o : List ℕ) → IsTrue (are_octets o) → IsUtf8 (characters o)
 IsUtf8-characters [] h = IsUtf8-nil
 IsUtf8-characters (a ∷ o) h =
-    let p = octet_of a o h in
-    let small = p.0 in
+    let p = and_parts (nat_lt a 256) (are_octets o) h in
+    let small = ltb-true a 256 p.0 in
     IsUtf8-append (encode_utf8 a) (characters o) (IsUtf8-encode a (low_scalar a (omega (arith, small)))) (IsUtf8-characters o p.1)
 
 pub number_written : (z : ℤ) (name : Option (List ℕ)) → mag z < 2 ^ 63 → IsUtf8 (name_or_none name) → IsWritten (number_json z name)

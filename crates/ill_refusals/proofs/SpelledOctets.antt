@@ -73,7 +73,7 @@ identifier_octets t f l =
 
 mutual
   -- what spells a tree with octets in it is octets
-  spelled_octets : (T : Tree) (b : List ℕ) → Spells T b → IsTrue (are_octets (text T)) → IsTrue (are_octets b)
+  pub spelled_octets : (T : Tree) (b : List ℕ) → Spells T b → IsTrue (are_octets (text T)) → IsTrue (are_octets b)
   spelled_octets (primitive t octets) b h o =
       subst (λ z. IsTrue (are_octets z)) (sym h.joined)
       (octets_join (identifier t false) (h.octets ++ octets) (identifier_octets t false h.has_identifier.number) (octets_join h.octets octets (length_octets (length octets) h.octets h.spell_length) o))
@@ -161,7 +161,7 @@ leaf_octets p object_descriptor (constructed t ts) o h = o
 -- ---- foreign trees, and values
 
 mutual
-  foreign_octets : (n : ℕ) (T : Tree) → IsTrue (is_foreign n T) → IsTrue (are_octets (text T))
+  pub foreign_octets : (n : ℕ) (T : Tree) → IsTrue (is_foreign n T) → IsTrue (are_octets (text T))
   foreign_octets zero T h = absurd cc
   foreign_octets (suc n) (primitive t octets) h = (and_parts (is_identified t false) (are_octets octets) h).1
   foreign_octets (suc n) (constructed t ts) h = foreigns_octets n ts (and_parts (is_identified t true) (are_foreign n ts) h).1

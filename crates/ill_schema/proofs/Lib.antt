@@ -21,3 +21,4 @@ pub mod FitsProps
 pub mod Twins
 pub mod Lifted
 pub mod BothProfiles
+pub mod CharacterTexts

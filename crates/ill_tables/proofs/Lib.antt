@@ -1,1 +1,2 @@
 pub mod RowNames
+pub mod DistinctNames

@@ -5,7 +5,7 @@ use Rattle.std.proofs.lemmas.Iterator.{YieldsList-from_chars}
 use Rattle.std.proofs.lemmas.Iterator.Consumers.{YieldsList-end, YieldsList-turn}
 use Rattle.ber_tree.specs.Octets.{are_octets}
 use Rattle.ill_schema.specs.Texts.{characters}
-use Rattle.ill_texts.proofs.CharacterTexts.{characters-chars, chars-characters}
+use Rattle.ill_schema.proofs.CharacterTexts.{characters-chars, chars-characters}
 use Rattle.ill_texts.proofs.OctetLists.{octet_within}
 use Rattle.ill_texts.proofs.characters.octets_by_character.Goals as goal
 
