@@ -13,7 +13,7 @@ sys.path[:0] = [str(FOLDER), str(FOLDER.parent / "tests")]
 
 from model.schema import Schema
 
-THEMES = "identifiers lengths end_marks booleans integers strings dates rows tagging defaults wrappers limits causes worked streams module module_worked".split()
+THEMES = "identifiers lengths end_marks booleans integers strings dates rows tagging defaults wrappers limits causes worked streams module module_worked json_lines".split()
 
 
 def books():

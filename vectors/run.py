@@ -2,7 +2,7 @@
 """Runs a program over the test vectors, and prints a table of the rules that it breaks.
 
 Usage: run.py [OPTION..] COMMAND..
-       run.py [OPTION..] --adapter illcanon|yaz|erlang
+       run.py [OPTION..] --adapter illcanon|library|yaz|erlang
 
 COMMAND is run once for each test vector, with one more word: the path of a file with the octets. Status 0: they are one message, and standard
 output has its normal form. Status 1: they aren't, and the last line of standard error is CAUSE OFFSET PART, or less of it, or Refused where the
@@ -11,12 +11,15 @@ program doesn't say why. Anything else: it broke.
   --decisions     compare statuses alone, whatever the outputs are
   --any-spelling  standard output may have any spelling of the APDU
   --streams       run over streams.json, too: standard output has the normal form of each message before the one that is refused
+  --lines         run over json.json alone: the file has a line of JSON, standard output has the octets of the message that is built, and the last
+                  line of standard error is CAUSE POINTER, or less of it. Of the adapters illcanon and library build messages
   --all           print each rule, not only those that are broken
   --vectors       print each test vector that differs
   --only NAME     run over NAME.json alone
   --profile NAME  run over the test vectors of a profile: 2, the default, or module; those that both profiles have belong to each
 """
 import argparse
+import ctypes
 import json
 import re
 import subprocess
@@ -40,7 +43,8 @@ MEANINGS = {
     "fault": "refused with another cause, offset or part",
     "broke": "neither accepted nor refused, or no end in time",
 }
-# what a program says of octets: its status, what it wrote, cause, offset and part of the fault (None: it doesn't say), and the text of the value
+# what a program says of octets: its status, what it wrote, cause, offset and part of the fault (None: it doesn't say), and the text of the value;
+# of the fault of a line the cause and the pointer
 Answer = namedtuple("Answer", "status output fault shown", defaults=[None, None])
 UNSAID = None, None, None
 
@@ -70,9 +74,25 @@ class Command:
 
     stream = message
 
+    def lines(self, lines):
+        with tempfile.TemporaryDirectory() as name:
+            path = Path(name, "line")
+            for octets in lines:
+                path.write_bytes(octets)
+                done = run(*self.words, path)
+                yield Answer(done.returncode, done.stdout, line_fault((done.stderr.splitlines() or [b""])[-1].decode("utf-8", "replace")))
+
+
+def line_fault(said):
+    """The cause and the pointer that a command says of a line: CAUSE POINTER, CAUSE or Refused; None where it says something else."""
+    cause, _, pointer = said.partition(" ")
+    if cause == "Refused":
+        return None, None
+    return (cause, pointer or None) if re.fullmatch("[A-Z][A-Za-z]+", cause) and pointer[:1] in ("", "/") else None
+
 
 class Illcanon:
-    """The program of this repository: `same` reads one whole message, `canonicalise` a stream."""
+    """The program of this repository: `same` reads one whole message, `canonicalise` a stream, and `build` lines."""
 
     def __init__(self, profile):
         from model.tables import PROGRAM
@@ -98,9 +118,59 @@ class Illcanon:
         said = re.search(rb"refused at (\d+) in [^:]*: (\w+)(?: (.+))?\n", line)
         return (said[2].decode(), int(said[1]), (said[3] or b"").decode()) if said else None
 
+    def lines(self, lines):
+        words = [self.program, "build", "--lines", *self.profile, "-", "-"]
+        done = subprocess.run(words, input=b"".join(octets + b"\n" for octets in lines), capture_output=True, timeout=SECONDS)
+        answers = done.stdout.decode().split("\n")[:-1]
+        return map(line_answer, answers) if len(answers) == len(lines) else [Answer(-1, done.stderr, None)] * len(lines)
+
+
+ESCAPES = {"n": "\n", "r": "\r", "t": "\t"}
+
+
+def line_answer(said):
+    """The answer of a line of results: the octets in hexadecimal digits, or `refused at POINTER: CAUSE`. The line itself has no pointer, or a column;
+    a pointer may be in quotes, with its octets escaped."""
+    if re.fullmatch("([0-9a-f]{2})+", said):
+        return Answer(0, bytes.fromhex(said))
+    found = re.fullmatch(r"refused(?: at (?:column \d+|(.*?)))?(?: in line \d+)?: ([A-Za-z]+)", said, re.S)
+    if not found:
+        return Answer(-1, said.encode(), None)
+    pointer = found[1] or ""
+    if pointer[:1] == '"':
+        octets = re.sub(r"\\(x[0-9a-f]{2}|.)", lambda escape: chr(int(escape[1][1:], 16)) if escape[1][0] == "x" else ESCAPES.get(escape[1], escape[1]), pointer[1:-1])
+        pointer = octets.encode("latin-1").decode()
+    return Answer(1, b"", (found[2], pointer))
+
+
+class Library:
+    """The calls for C of this repository, as `make` in bindings/c builds them: `illcanon_build_as` builds lines."""
+
+    PROFILES, STATUSES = {"2": 2, "module": 3}, {0: 0, 1: 1}
+    ROOM = 1 << 20
+
+    def __init__(self, profile):
+        self.profile = ctypes.c_uint32(self.PROFILES[profile])
+        self.library = ctypes.CDLL(str(FOLDER.parent / "bindings/c/build/libillcanon.so"))
+
+    def lines(self, lines):
+        return map(self.line, lines)
+
+    def line(self, octets):
+        buffer, size, cause = ctypes.create_string_buffer(self.ROOM), ctypes.c_size_t(), ctypes.c_uint32()
+        memory = buffer, ctypes.c_size_t(self.ROOM), ctypes.byref(size)
+        status = self.library.illcanon_build_as(self.profile, octets, ctypes.c_size_t(len(octets)), *memory, ctypes.byref(cause))
+        written = buffer.raw[: size.value]
+        if status != 1:
+            return Answer(self.STATUSES.get(status, -1), written)
+        self.library.illcanon_build_cause_name(cause, *memory)
+        return Answer(1, b"", (buffer.raw[: size.value].decode(), written.decode()))
+
 
 class Yaz(Command):
     """The codec of YAZ, which writes what it read in indefinite form. Needs `cc` and YAZ's headers (Debian: libyaz-dev)."""
+
+    lines = None
 
     # A process for each message, since it ends by a signal on some.
     def __init__(self, _):
@@ -121,13 +191,20 @@ class ErlangCodec:
     stream = message
 
 
-ADAPTERS = {"illcanon": Illcanon, "yaz": Yaz, "erlang": ErlangCodec}
+ADAPTERS = {"illcanon": Illcanon, "library": Library, "yaz": Yaz, "erlang": ErlangCodec}
 
 
 def octets_of(vector, name, runs):
     if name in vector:
         return bytes.fromhex(vector[name])
     return b"".join(bytes.fromhex(unit) * count for unit, count in vector[runs])
+
+
+def line_of(vector):
+    """The octets of a line."""
+    if "line_octets" in vector:
+        return bytes.fromhex(vector["line_octets"])
+    return "".join(unit * count for unit, count in vector.get("line_runs", [(vector.get("line"), 1)])).encode()
 
 
 def outcome(vector, answer, options):
@@ -147,7 +224,7 @@ def outcome(vector, answer, options):
         return "broke"
     if "messages" in vector and answer.output != normal:
         return "other"
-    wanted = vector["cause"], vector.get("offset"), vector.get("part", "")
+    wanted = (vector["cause"], vector["pointer"]) if "pointer" in vector else (vector["cause"], vector.get("offset"), vector.get("part", ""))
     return "right" if all(said in (None, want) for said, want in zip(answer.fault, wanted)) else "fault"
 
 
@@ -182,7 +259,7 @@ def title_of(rule):
 
 
 def kind_of(rule):
-    return next(kind for kind in ("clause", "row", "limit", "cause") if kind in rule)
+    return next(kind for kind in ("clause", "row", "limit", "cause", "line") if kind in rule)
 
 
 def line(title, counts):
@@ -203,21 +280,29 @@ def groups_of(path, profile):
 def run_group(adapter, group, file, options):
     """How often each outcome comes of the test vectors of a group."""
     counts = Counter()
-    for vector in group["vectors"]:
-        file.write_bytes(octets_of(vector, "octets", "runs"))
-        answer = (adapter.stream if "messages" in vector else adapter.message)(file)
+    for vector, answer in answers(adapter, group["vectors"], file, options):
         came = outcome(vector, answer, options)
         counts[came] += 1
         if came != "right" and options.vectors:
-            wanted = " ".join(str(vector[name]) for name in ("result", "cause", "offset", "part") if name in vector)
+            wanted = " ".join(str(vector[name]) for name in ("result", "cause", "offset", "part", "pointer") if name in vector)
             print(f"{vector['id']}: {MEANINGS[came]}; wanted {wanted}, got status {answer.status}, {answer.fault or answer.output[:60].hex()}")
     return counts
+
+
+def answers(adapter, vectors, file, options):
+    """Each test vector with what the program says of it."""
+    if options.lines:
+        yield from zip(vectors, adapter.lines(list(map(line_of, vectors))), strict=True)
+        return
+    for vector in vectors:
+        file.write_bytes(octets_of(vector, "octets", "runs"))
+        yield vector, (adapter.stream if "messages" in vector else adapter.message)(file)
 
 
 def options_of():
     parser = argparse.ArgumentParser(description=__doc__, formatter_class=argparse.RawDescriptionHelpFormatter)
     parser.add_argument("--adapter", choices=ADAPTERS)
-    for name in ("decisions", "any-spelling", "streams", "all", "vectors"):
+    for name in ("decisions", "any-spelling", "streams", "lines", "all", "vectors"):
         parser.add_argument(f"--{name}", action="store_true")
     parser.add_argument("--only")
     parser.add_argument("--profile", choices=["2", "module"], default="2")
@@ -225,6 +310,8 @@ def options_of():
     options = parser.parse_args()
     if bool(options.command) == bool(options.adapter):
         parser.error("a COMMAND or an adapter is wanted")
+    if options.adapter and not getattr(ADAPTERS[options.adapter], "lines" if options.lines else "message", None):
+        parser.error(f"the adapter {options.adapter} is only for " + ("octets" if options.lines else "lines"))
     return options
 
 
@@ -237,7 +324,7 @@ def main():
     print(line("rule", {name: name for name in MEANINGS}))
     with tempfile.TemporaryDirectory() as name:
         for path in sorted(FOLDER.glob(f"{options.only or '*'}.json")):
-            if path.name == "schema.json" or path.name == "streams.json" and not options.streams:
+            if path.name == "schema.json" or path.name == "streams.json" and not options.streams or (path.name == "json.json") != options.lines:
                 continue
             groups = list(groups_of(path, options.profile))
             if not groups:

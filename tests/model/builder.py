@@ -3,6 +3,8 @@ import json
 import re
 
 LIMIT = 1048576          # octets of a normal form
+LINE_LIMIT = 16777216    # octets of a line
+NESTING = 128            # levels of objects and lists
 LEVELS = 20              # levels of a foreign tree
 HEAD = {"profile", "file", "number", "offset", "octets", "normal"}       # all but the profile say where a message stood, and may hold anything
 CLASSES = {"universal": 0x00, "application": 0x40, "context": 0x80, "private": 0xC0}
@@ -42,16 +44,26 @@ class Object(list):
 
 
 def parse(text):
-    """A JSON value, or Fault."""
+    """The JSON value of a text, or of octets in UTF-8; or Fault."""
     def refuse(word):
         raise ValueError(word)
     try:
+        text = text if isinstance(text, str) else text.decode("utf-8")
         value = json.loads(text, object_pairs_hook=Object, parse_int=Number, parse_float=Number, parse_constant=refuse)
-    except ValueError as error:
+    except (ValueError, RecursionError) as error:
         raise Fault("NotJson", []) from error
-    if re.search("[\ud800-\udfff]", repr_strings(value)):
-        raise Fault("NotJson", [])     # a lone surrogate
+    if levels(value) > NESTING or re.search("[\ud800-\udfff]", repr_strings(value)):
+        raise Fault("NotJson", [])     # too deep, or a lone surrogate
     return value
+
+
+def levels(value):
+    """How many objects and lists are open at most in a value."""
+    most, level = 0, [value]
+    while level := [entry for entry in level if isinstance(entry, list)]:
+        most += 1
+        level = [entry[1] if isinstance(holder, Object) else entry for holder in level for entry in holder]
+    return most
 
 
 def repr_strings(value):
@@ -162,8 +174,10 @@ class Builder:
         raise Fault(cause, [*self.path, *more])
 
     def line(self, text):
-        """The octets of a line, or Fault."""
+        """The octets of a line, which is a text or octets, or Fault."""
         self.path = []
+        if len(text) > LINE_LIMIT or isinstance(text, str) and len(text.encode("utf-8", "surrogatepass")) > LINE_LIMIT:
+            self.fault("LineTooLong")
         value = parse(text)
         return self.message(value)
 

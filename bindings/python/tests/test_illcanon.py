@@ -976,6 +976,13 @@ def octets_in(vector, name="octets", runs="runs"):
     return b"".join(bytes.fromhex(unit) * count for unit, count in vector.get(runs, []))
 
 
+def line_in(vector):
+    """The octets of a line."""
+    if "line_octets" in vector:
+        return bytes.fromhex(vector["line_octets"])
+    return "".join(unit * count for unit, count in vector.get("line_runs", [(vector.get("line"), 1)])).encode()
+
+
 class Vectors(unittest.TestCase):
     """The test vectors of vectors/, whose results are written from the rules, in each profile that they are of."""
 
@@ -985,7 +992,8 @@ class Vectors(unittest.TestCase):
                 book = json.load(file)
             for group in book.get("groups", []):
                 for vector in group["vectors"]:
-                    if ("messages" in vector) == (wanted == "streams"):
+                    kind = "streams" if "messages" in vector else "messages" if "octets" in vector or "runs" in vector else "lines"
+                    if kind == wanted:
                         for profile in vector.get("profiles", [book.get("profile", "2")]):
                             yield vector, profile
 
@@ -1012,6 +1020,19 @@ class Vectors(unittest.TestCase):
                 else:
                     self.assertEqual(fault, (vector["cause"], vector["offset"], vector.get("part")))
         self.assertGreater(count, 10_000)
+
+    def test_lines(self):
+        count = 0
+        for vector, profile in self.vectors("lines"):
+            line, count = line_in(vector), count + 1
+            with self.subTest(vector["id"], profile=profile):
+                if vector["result"] == "valid":
+                    self.assertEqual(illcanon.build(line, profile=profile), octets_in(vector, "normal", "normal_runs"))
+                    continue
+                with self.assertRaises(NotBuilt) as caught:
+                    illcanon.build(line, profile=profile)
+                self.assertEqual((caught.exception.cause, caught.exception.pointer), (vector["cause"], vector["pointer"]))
+        self.assertGreater(count, 2_000)
 
     def test_streams(self):
         for vector, profile in self.vectors("streams"):

@@ -24,7 +24,7 @@ def tests():
     """Each test vector in each profile that it is for: as answers.js takes it."""
     found = []
     for path in sorted(VECTORS.glob("*.json")):
-        if path.name == "schema.json":
+        if path.name in ("schema.json", "json.json"):
             continue
         group_file = json.loads(path.read_text(encoding="utf-8"))
         own = group_file.get("profile", "2")
