@@ -1,5 +1,6 @@
 #!/usr/bin/env python3
-"""Puts the page together as one file, build/illcanon.html, of page/, illcanon.js, build/illcanon.wasm and examples/. Writes build/SHA256SUMS.
+"""Puts the page together as one file, build/illcanon.html, of page/, illcanon.js with json.js, build/illcanon.wasm and examples/. Writes
+build/SHA256SUMS.
 
 The scripts are one script there: what each exports is a name of the whole, so names differ, and the lines of `import` go. The policy of the
 page allows that script, that style and the module alone: nothing can be loaded or sent.

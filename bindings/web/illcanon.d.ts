@@ -1,8 +1,14 @@
 /** The greatest number of octets of a message, and of its normal form. */
 export const LIMIT: 1048576;
 
+/** The greatest number of octets of a line of JSON that a message is built from. */
+export const LINE_LIMIT: 16777216;
+
 /** The causes, by their numbers from 1. */
 export const CAUSES: readonly string[];
+
+/** The causes for which no message is built, by their numbers from 1. */
+export const BUILD_CAUSES: readonly string[];
 
 /** Octets. No call changes them. */
 export type Octets = ArrayBufferView | ArrayBuffer;
@@ -20,6 +26,25 @@ export interface Writing extends Reading {
   number?: number;
 }
 
+/** How a message is written as a line of JSON: also its offset in the line, which is 0 where none is given. */
+export interface Placing extends Writing {
+  offset?: number;
+}
+
+/** A value of JSON. Numbers are whole, and those past 53 bits are BigInt. */
+export type Json = null | boolean | number | bigint | string | readonly Json[] | { readonly [name: string]: Json };
+
+/** A message as docs/show.schema.json describes it. `profile` is there in the module profile. Its value may be changed, and built. */
+export type Message = {
+  number: number;
+  offset: number;
+  octets: number;
+  apdu: string;
+  profile?: "module";
+  normal: boolean;
+  value: { [name: string]: any };
+};
+
 /** Octets that are not exactly one message. */
 export class Refused extends Error {
   /** The offset of what the refusal is about, in octets from the first one of the message. */
@@ -30,6 +55,18 @@ export class Refused extends Error {
   readonly part: string | null;
   /** The number of the message, from 1: of `same` and `messages`. */
   readonly number: number;
+}
+
+/** A line of JSON, or a value, that says no message. */
+export class NotBuilt extends Error {
+  /** A word such as "MissingMember". */
+  readonly cause: string;
+  /** The number of the cause, from 1. */
+  readonly number: number;
+  /** The place as a JSON pointer (RFC 6901), such as "/value/service-date-time"; empty for the line itself. */
+  readonly pointer: string;
+  /** The steps of the pointer: of each member its name, of each item of a list its number from 0. */
+  readonly path: readonly (string | number)[];
 }
 
 /** Memory ran out. Nothing is known of the octets, and the next call begins with all the memory again. */
@@ -65,7 +102,7 @@ export interface Found {
 }
 
 /** The calls. Each may throw OutOfMemory and Stopped, a TypeError where its arguments are not what they are to be, and a RangeError where
- * a number isn't one of 32 bits. */
+ * a number isn't one of 32 bits, or of a value of JSON no safe integer. */
 export class Illcanon {
   private constructor();
   /** The normal form of the message that the octets are. Throws Refused. */
@@ -76,6 +113,13 @@ export class Illcanon {
   same(first: Octets, second: Octets, options?: Reading): boolean;
   /** The message that the octets are as text, a line for each leaf. Throws Refused. */
   show(octets: Octets, options?: Writing): string;
+  /** The message that the octets are as a line of JSON, with a line feed at its end. Throws Refused. */
+  json(octets: Octets, options?: Placing): string;
+  /** The message that the octets are as an object. A number past 53 bits is a BigInt. Throws Refused. */
+  parse(octets: Octets, options?: Placing): Message;
+  /** The normal form of the message that a value says, as `parse` gives it, or a line of JSON as text or octets. Throws NotBuilt, and a
+   * RangeError at a number that is no safe integer. */
+  build(message: Message | Json | Octets, options?: Reading): Uint8Array;
   /** SHA-256 of the normal form of the message that the octets are: the same for all spellings. Throws Refused. */
   digest(octets: Octets, options?: Reading): Uint8Array;
   /** The message as it is spelled, also where it is refused. */

@@ -3,15 +3,26 @@
  * The calls are those of bindings/c/illcanon.h, compiled to WebAssembly. Addresses and sizes are BigInt there, since the proved code has
  * 64 bits for each.
  */
+import { TooDeep, readJson, writeJson } from "./json.js";
 
 /** The greatest number of octets of a message, and of its normal form. */
 export const LIMIT = 1048576;
+
+/** The greatest number of octets of a line of JSON that a message is built from. */
+export const LINE_LIMIT = 16777216;
 
 /** The causes, by their numbers from 1. */
 export const CAUSES = [
   "Truncated", "BadTag", "BadLength", "TooLong", "Overrun", "TooDeep", "UnexpectedTag", "LeftOut", "WrongForm", "Missing", "BadEnd",
   "BadBoolean", "BadInteger", "IntegerTooLong", "BadText", "BadDate", "BadTime", "TrailingBytes", "NormalTooLong", "BadNull", "BadOid",
   "BadBits",
+];
+
+/** The causes for which no message is built, by their numbers from 1. */
+export const BUILD_CAUSES = [
+  "NotJson", "LineTooLong", "WrongType", "UnknownMember", "RepeatedMember", "LeftOut", "MissingMember", "NotOneMember", "UnknownName", "OtherName",
+  "NotWhole", "NumberTooLong", "BadCharacter", "BadText", "BadDate", "BadTime", "BadHexadecimal", "BadBits", "BadOid", "BadForeign",
+  "NormalTooLong", "OtherProfile",
 ];
 
 const DONE = 0, REFUSED = 1, SECOND_REFUSED = 2, NEEDS_MORE = 3, NO_ROOM = 4, OUT_OF_MEMORY = 5;
@@ -38,6 +49,23 @@ export class Refused extends Error {
     this.name = "Refused";
     Object.assign(this, { offset, cause, part, number });
   }
+}
+
+/** A line of JSON, or a value, that says no message. */
+export class NotBuilt extends Error {
+  constructor(cause, pointer = "") {
+    super(`not built${pointer ? ` at ${pointer}` : ""}: ${cause}`);
+    this.name = "NotBuilt";
+    Object.assign(this, { cause, number: BUILD_CAUSES.indexOf(cause) + 1, pointer, path: pathOf(cause, pointer) });
+  }
+}
+
+/** The steps of a JSON pointer (RFC 6901). */
+function pathOf(cause, pointer) {
+  const names = pointer.split("/").slice(1).map((name) => name.replaceAll("~1", "/").replaceAll("~0", "~"));
+  // No part has a name of digits: such a step is the number of an item, but for a last one that no part has.
+  const last = cause === "UnknownMember" ? names.length - 1 : names.length;
+  return names.map((name, at) => (at !== last && /^[0-9]+$/.test(name) ? Number(name) : name));
 }
 
 /** Memory ran out. Nothing is known of the octets, and the next call begins with all the memory again. */
@@ -85,6 +113,23 @@ function messageOf(octets) {
   return viewOf(octets).subarray(0, LIMIT + 1);
 }
 
+/** The octets of the line of JSON that a message is, or is written as. Of too many for a line, the first of them say as much as all. */
+function jsonOctetsOf(message) {
+  if (message instanceof ArrayBuffer || ArrayBuffer.isView(message)) return viewOf(message).subarray(0, LINE_LIMIT + 1);
+  const text = typeof message === "string" ? message : textOfValue(message), octets = new TextEncoder().encode(text);
+  // Half of a surrogate pair is no UTF-8. The encoder replaces it.
+  if (octets.length <= LINE_LIMIT && /\p{Surrogate}/u.test(text)) throw new NotBuilt("NotJson");
+  return octets.subarray(0, LINE_LIMIT + 1);
+}
+
+function textOfValue(message) {
+  try {
+    return writeJson(message);
+  } catch (error) {
+    throw error instanceof TooDeep ? new NotBuilt("NotJson") : error;
+  }
+}
+
 /** The options of a call that has options of these names. */
 function optionsOf(options, names) {
   if (options === undefined) return {};
@@ -111,7 +156,17 @@ function writingNumbers(options) {
   return { profile: profileNumber(profile), number };
 }
 
-const ASCII = new TextDecoder("latin1");
+/** The number of the profile that the options of a call name, and the number and the offset of the message. */
+function placeNumbers(options) {
+  const { offset = 0, ...rest } = optionsOf(options, ["profile", "number", "offset"]);
+  if (!Number.isSafeInteger(offset) || offset < 0) throw new RangeError(`offset ${String(offset)}`);
+  return { ...writingNumbers(rest), offset: BigInt(offset) };
+}
+
+const ASCII = new TextDecoder("latin1"), UTF8 = new TextDecoder();
+
+/** The calls that also write to their buffer where they refuse. */
+const WRITING_REFUSED = ["illcanon_dump_as", "illcanon_build_as"];
 
 /** The calls. One made by `load` has a memory of its own. */
 export class Illcanon {
@@ -154,6 +209,27 @@ export class Illcanon {
   show(octets, options) {
     const view = messageOf(octets), { profile, number } = writingNumbers(options);
     return ASCII.decode(this.#written("illcanon_show_as", view, profile, [number], 8 * view.length + 4096));
+  }
+
+  /** The message that the octets are as a line of JSON, as `illcanon show --json` writes it, with a line feed at its end. */
+  json(octets, options) {
+    const view = messageOf(octets), { profile, number, offset } = placeNumbers(options);
+    return ASCII.decode(this.#written("illcanon_json_as", view, profile, [number, offset], 8 * view.length + 4096));
+  }
+
+  /** The message that the octets are as an object: the value of the line of JSON. A number past 53 bits is a BigInt. */
+  parse(octets, options) {
+    return readJson(this.json(octets, options));
+  }
+
+  /** The normal form of the message that a value of JSON says, or a line of it as text or octets. */
+  build(message, options) {
+    const profile = readingNumber(options), line = jsonOctetsOf(message);
+    try {
+      return this.#written("illcanon_build_as", line, profile, [], Math.min(line.length, LIMIT) + 4096);
+    } finally {
+      if (this.memorySize > MOST_KEPT) this.#restart();
+    }
   }
 
   /** SHA-256 of the normal form of the message that the octets are: the same for all spellings. */
@@ -252,13 +328,19 @@ export class Illcanon {
         buffer = take(room);
         status = run();
       }
-      const refusal = status === REFUSED ? this.#refusal(why) : null;
-      const isWritten = status === DONE || name === "illcanon_dump_as";
-      return { octets: isWritten ? this.#view(buffer, this.#size(size)).slice() : null, refusal };
+      const octets = status === DONE || WRITING_REFUSED.includes(name) ? this.#view(buffer, this.#size(size)).slice() : null;
+      if (status !== REFUSED) return { octets, refusal: null };
+      return { octets, refusal: name === "illcanon_build_as" ? this.#notBuilt(why, octets) : this.#refusal(why) };
     });
   }
 
-  /** What a call writes of octets that are a message. */
+  /** Why a line is not built: the cause whose number is at a place, and the octets of its pointer. */
+  #notBuilt(at, pointer) {
+    const number = new DataView(this.#exports.memory.buffer).getUint32(Number(at), true);
+    return new NotBuilt(BUILD_CAUSES[number - 1], UTF8.decode(pointer));
+  }
+
+  /** What a call writes of octets that are not refused. */
   #written(...words) {
     const made = this.#made(...words);
     if (made.refusal) throw made.refusal;

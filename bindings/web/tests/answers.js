@@ -32,11 +32,18 @@ function octetsOf(vector) {
   return all;
 }
 
+/** The line of a test vector: a text, runs of texts, or octets in hexadecimal. */
+function lineOf(vector) {
+  if (vector.line_octets) return octetsOf({ octets: vector.line_octets });
+  return vector.line_runs ? vector.line_runs.map(([text, count]) => text.repeat(count)).join("") : vector.line;
+}
+
 /** What `work` returns, as a text, or the refusal that it throws. */
 function answerOf(work) {
   try {
     return String(work());
   } catch (error) {
+    if (error.name === "NotBuilt") return `${error.cause}@${error.pointer}`;
     if (error.name !== "Refused") throw error;
     return wordsOf(error);
   }
@@ -47,6 +54,7 @@ function messageAnswers(calls, octets, options) {
   const said = [`normalise ${answerOf(() => sumOf(calls.normalise(octets, options)))}`, `check ${answerOf(() => calls.check(octets, options))}`];
   said.push(`digest ${answerOf(() => hexOf(calls.digest(octets, options)))}`);
   said.push(`same ${answerOf(() => calls.same(calls.normalise(octets, options), octets, options))}`);
+  said.push(`build ${answerOf(() => sumOf(calls.build(calls.parse(octets, options), options)))}`);
   const first = calls.messages(octets, options).next().value;
   said.push(`first ${first ? (first.refusal ? wordsOf(first.refusal) : `${first.octets.length} ${first.normalSize} ${first.isNormal}`) : "none"}`);
   return said;
@@ -57,7 +65,8 @@ function textAnswers(calls, octets, options) {
   const encoded = (text) => Uint8Array.from(text, (character) => character.charCodeAt(0));
   const { text, refusal } = calls.dump(octets, { ...options, number: 7 });
   const shown = answerOf(() => sumOf(encoded(calls.show(octets, { ...options, number: 7 }))));
-  return [`dump ${refusal ? wordsOf(refusal) : "done"} ${sumOf(encoded(text))}`, `show ${shown}`];
+  const json = answerOf(() => sumOf(encoded(calls.json(octets, { ...options, number: 7, offset: 9 }))));
+  return [`dump ${refusal ? wordsOf(refusal) : "done"} ${sumOf(encoded(text))}`, `show ${shown}`, `json ${json}`];
 }
 
 /** The answer for a stream: its messages up to the first that is refused, their normal forms, and the refusal. */
@@ -75,8 +84,10 @@ function streamAnswer(calls, octets, options, most) {
 }
 
 /** The lines for a test vector in a profile: what the test vectors say, and what only the native library says. */
-export function answers(calls, { vector, profile, isStream }) {
-  const octets = octetsOf(vector), options = { profile };
+export function answers(calls, { vector, profile, isStream, isLine }) {
+  const options = { profile };
+  if (isLine) return [`build ${answerOf(() => sumOf(calls.build(lineOf(vector), options)))}`, ""];
+  const octets = octetsOf(vector);
   if (isStream) return [streamAnswer(calls, octets, options, 1000000), ""];
   const texts = octets.length > MOST_SHOWN ? [] : textAnswers(calls, octets, options);
   return [messageAnswers(calls, octets, options).join("; "), texts.join("; ")];

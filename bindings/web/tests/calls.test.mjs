@@ -6,7 +6,7 @@ import { readFileSync } from "node:fs";
 import test from "node:test";
 import * as module from "illcanon";
 
-const { CAUSES, LIMIT, OutOfMemory, Refused, Stopped, load } = module;
+const { BUILD_CAUSES, CAUSES, LIMIT, LINE_LIMIT, NotBuilt, OutOfMemory, Refused, Stopped, load } = module;
 const of = (hex) => Uint8Array.from(Buffer.from(hex, "hex"));
 const file = (name) => new Uint8Array(readFileSync(new URL(`../../../examples/${name}`, import.meta.url)));
 const WASM = new URL("../build/illcanon.wasm", import.meta.url);
@@ -32,14 +32,21 @@ refused at 7: Missing Expired.transaction-id
     due [1] transaction-id
       7    00 00  end mark  (not judged)
 `;
+const VALUE = {
+  "protocol-version-num": 2,
+  "transaction-id": { "transaction-group-qualifier": { general: "G" }, "transaction-qualifier": { general: "Q" } },
+  "service-date-time": { "date-time-of-this-service": { date: "20240229" } },
+};
+const LINE = JSON.stringify({ apdu: "Expired", value: VALUE });
 const WRONG_FORM = '      2    10 00  [UNIVERSAL 16] = ""  (not judged)';
 
 const calls = await load();
 
 /** Each call that takes options, on a message. */
 const EACH = {
-  ...Object.fromEntries(["normalise", "check", "show", "digest", "dump", "messages"].map((name) => [name, (octets, options) => calls[name](octets, options)])),
+  ...Object.fromEntries(["normalise", "check", "show", "json", "parse", "digest", "dump", "messages"].map((name) => [name, (octets, options) => calls[name](octets, options)])),
   same: (octets, options) => calls.same(octets, octets, options),
+  build: (octets, options) => calls.build(LINE, options),
 };
 
 /** An EXPIRED in normal form that has as many octets as a message may have, and then zeros: nearly all are of its transaction-qualifier. */
@@ -96,6 +103,125 @@ test("a refused message is written with the refusal at its place, and the rest a
   assert.match(trailed, /\nrefused at 33: TrailingBytes\n(    .*\n)+ {5}33  05 01  \[UNIVERSAL 5\] = ""  \(cut short, not judged\)\n$/);
 });
 
+test("a message is a line of JSON, and an object", () => {
+  const head = { number: 7, offset: 9, octets: 47, apdu: "Expired" };
+  const line = `${JSON.stringify({ ...head, normal: false, value: VALUE })}\n`;
+  assert.equal(calls.json(INDEFINITE, { number: 7, offset: 9 }), line);
+  assert.deepEqual(calls.parse(INDEFINITE, { number: 7, offset: 9 }), JSON.parse(line));
+  assert.deepEqual(calls.parse(EXPIRED), { number: 1, offset: 0, octets: 33, apdu: "Expired", normal: true, value: VALUE });
+  assert.deepEqual(calls.parse(EXPIRED, { profile: "module", offset: 2 ** 53 - 1 }), {
+    number: 1, offset: 2 ** 53 - 1, octets: 33, apdu: "Expired", profile: "module", normal: true, value: VALUE,
+  });
+  const extensions = [{ identifier: 1, critical: false, item: { foreign: "0500" } }];
+  assert.deepEqual(calls.parse(EXTENDED, { profile: "module" }).value["expired-extensions"], extensions);
+});
+
+test("a message is built of an object, a text or octets", () => {
+  const octets = new TextEncoder().encode(`x${LINE}`), lines = [LINE, ` ${LINE}\n`, octets.subarray(1), octets.slice(1).buffer, new DataView(octets.buffer, 1)];
+  for (const line of [...lines, { value: VALUE, apdu: "Expired" }, { ...calls.parse(INDEFINITE), offset: 2n ** 80n }, Object.assign(Object.create(null), JSON.parse(LINE))]) {
+    assert.deepEqual(calls.build(line), EXPIRED);
+  }
+  const message = calls.parse(EXPIRED);
+  message.value["service-date-time"]["date-time-of-this-service"].date = "20270101";
+  assert.deepEqual(calls.build(message), of("741f301d800102a10aa1031b0147a2031b0151a20ca00a80083230323730313031"));
+  const module = calls.parse(EXTENDED, { profile: "module" });
+  assert.deepEqual(calls.build(module, { profile: "module" }), calls.normalise(EXTENDED, { profile: "module" }));
+  assert.throws(() => calls.build(module), { name: "NotBuilt", cause: "OtherProfile", pointer: "/profile" });
+});
+
+test("numbers past 53 bits are BigInt, and exact", () => {
+  const rows = [
+    [2 ** 53 - 1, "071fffffffffffff"], [-(2 ** 53 - 1), "07e0000000000001"], [2n ** 53n, "0720000000000000"], [-(2n ** 53n), "07e0000000000000"],
+    [2n ** 53n + 1n, "0720000000000001"], [2n ** 63n - 1n, "087fffffffffffffff"], [-(2n ** 63n), "088000000000000000"], [0, "0100"], [-1, "01ff"],
+  ];
+  for (const [number, content] of rows) {
+    const size = content.length / 2, octets = of(`74${(30 + size - 1).toString(16)}30${(28 + size - 1).toString(16)}80${content}a10aa1031b0147a2031b0151a20ca00a80083230323430323239`);
+    const message = { apdu: "Expired", value: { ...VALUE, "protocol-version-num": number } };
+    assert.deepEqual(calls.build(message), octets);
+    assert.deepEqual(calls.parse(octets).value, message.value);
+    assert.deepEqual(calls.build({ apdu: "Expired", value: { ...VALUE, "protocol-version-num": BigInt(number) } }), octets);
+  }
+  assert.throws(() => calls.build({ apdu: "Expired", value: { ...VALUE, "protocol-version-num": 2n ** 63n } }), { cause: "NumberTooLong", pointer: "/value/protocol-version-num" });
+});
+
+test("each octet of a text is the character of its number", () => {
+  const general = Array.from({ length: 256 }, (_, octet) => String.fromCharCode(octet)).join(""), profile = "module";
+  const octets = calls.build({ apdu: "Lost", value: { ...VALUE, note: { general: `${general}:12345678901234567890,"\\` } } }, { profile });
+  assert.ok(Buffer.from(octets).includes(Uint8Array.from({ length: 256 }, (_, octet) => octet)));
+  assert.equal(calls.parse(octets, { profile }).value.note.general, `${general}:12345678901234567890,"\\`);
+  assert.throws(() => calls.build({ apdu: "Lost", value: { ...VALUE, note: { general: "\u0100" } } }), { cause: "BadCharacter", pointer: "/value/note/general" });
+});
+
+test("what says no message is refused with the cause and the place", () => {
+  const rows = [
+    ["", "NotJson", "", []],
+    ["{", "NotJson", "", []],
+    ["\ufeff{}", "NotJson", "", []],
+    [LINE.replace("G", "\ud83d"), "NotJson", "", []],
+    [of("7b22ff227d"), "NotJson", "", []],
+    [[], "WrongType", "", []],
+    [null, "WrongType", "", []],
+    [7, "WrongType", "", []],
+    [{}, "MissingMember", "/apdu", ["apdu"]],
+    ['{"apdu":"Expired","apdu":"Expired"}', "RepeatedMember", "/apdu", ["apdu"]],
+    [{ "a/b~1": 1 }, "UnknownMember", "/a~1b~01", ["a/b~1"]],
+    [{ apdu: "Expired", value: { ...VALUE, 0: 1 } }, "UnknownMember", "/value/0", ["value", "0"]],
+    [{ apdu: "Expired", value: { "\u00e9\u{1f4da}": 1 } }, "UnknownMember", "/value/\u00e9\u{1f4da}", ["value", "\u00e9\u{1f4da}"]],
+    [{ apdu: "Forward-Notification" }, "LeftOut", "/apdu", ["apdu"]],
+    [{ apdu: "ILL-Request", value: { ...VALUE, "ill-service-type": [1, "x"] } }, "UnknownName", "/value/ill-service-type/1", ["value", "ill-service-type", 1]],
+  ];
+  for (const [message, cause, pointer, path] of rows) {
+    assert.throws(() => calls.build(message), (error) => {
+      assert.ok(error instanceof NotBuilt && error instanceof Error && !(error instanceof Refused));
+      assert.deepEqual([error.name, error.cause, error.number, error.pointer, error.path], ["NotBuilt", cause, BUILD_CAUSES.indexOf(cause) + 1, pointer, path]);
+      return true;
+    });
+  }
+  assert.throws(() => calls.build({}), { message: "not built at /apdu: MissingMember", number: 7 });
+  assert.throws(() => calls.build("x"), { message: "not built: NotJson", number: 1 });
+});
+
+test("a pointer may be longer than the line's first buffer", () => {
+  const name = "x".repeat(3000000);
+  assert.throws(() => calls.build({ [name]: 1 }), { cause: "UnknownMember", pointer: `/${name}` });
+});
+
+test("what JSON doesn't have is not changed in silence", () => {
+  const holding = (value) => ({ apdu: "Expired", value: { ...VALUE, "protocol-version-num": value } });
+  for (const number of [2 ** 53, -(2 ** 53), 1e300, 1.5, NaN, Infinity, -Infinity, 5e-324]) {
+    for (const message of [number, holding(number), [number]]) assert.throws(() => calls.build(message), RangeError);
+  }
+  for (const value of [undefined, () => 1, Symbol("x"), new Date(0), new Map(), new Set(), /x/, Promise.resolve(), new Number(2), new String("2")]) {
+    for (const message of [value, holding(value), [value]]) assert.throws(() => calls.build(message), TypeError);
+  }
+  assert.throws(() => calls.build([, 1]), TypeError);
+  assert.throws(() => calls.build(holding(new Uint8Array(1))), TypeError);
+  const circle = { apdu: "Expired" };
+  circle.value = circle;
+  assert.throws(() => calls.build(circle), { cause: "NotJson" });
+  const deep = (levels) => (levels === 1 ? [] : [deep(levels - 1)]);
+  assert.deepEqual(calls.build({ ...JSON.parse(LINE), file: deep(127) }), EXPIRED);
+  assert.throws(() => calls.build({ ...JSON.parse(LINE), file: deep(128) }), { cause: "NotJson" });
+});
+
+test("the longest line is built, and one octet more is refused", async () => {
+  const calls = await load(), longest = LINE.padEnd(16777216);
+  assert.equal(LINE_LIMIT, longest.length);
+  assert.deepEqual(calls.build(longest), EXPIRED);
+  for (const line of [`${longest} `, `${longest}\ud800`, new Uint8Array(900000000)]) assert.throws(() => calls.build(line), { cause: "LineTooLong" });
+  assert.throws(() => calls.build(longest.replace("G", "\ud800").slice(0, -4)), { cause: "NotJson" });
+  assert.deepEqual(calls.build(LINE), EXPIRED);
+});
+
+test("a line takes at most the memory that there is, and gives it back", async () => {
+  const calls = await load();
+  for (const line of [`[${"0,".repeat(8388606)}0]`, `[${"[],".repeat(5592404)}[]]`]) {
+    assert.throws(() => calls.build(line), (error) => error instanceof OutOfMemory || error.cause === "WrongType");
+    assert.ok(calls.memorySize < 268435457, String(calls.memorySize));
+    assert.deepEqual(calls.build(LINE), EXPIRED);
+  }
+});
+
 test("each call refuses alike", () => {
   const rows = [
     [new Uint8Array(0), 0, "Truncated", null],
@@ -111,7 +237,7 @@ test("each call refuses alike", () => {
       assert.deepEqual([error.offset, error.cause, error.part, error.number], [offset, cause, part, number]);
       return true;
     };
-    for (const call of ["normalise", "check", "show", "digest"]) assert.throws(() => calls[call](octets), refuses(1));
+    for (const call of ["normalise", "check", "show", "json", "parse", "digest"]) assert.throws(() => calls[call](octets), refuses(1));
     assert.throws(() => calls.same(octets, octets), refuses(1));
     assert.throws(() => calls.same(EXPIRED, octets), refuses(2));
     assert.ok(refuses(1)(calls.dump(octets).refusal));
@@ -267,7 +393,10 @@ test("profiles and numbers are checked", () => {
     for (const call of Object.values(EACH)) assert.throws(() => call(EXPIRED, { profile }), TypeError);
   }
   for (const number of [-1, 4294967296, 1.5, "1", null, NaN]) {
-    for (const call of ["show", "dump"]) assert.throws(() => calls[call](EXPIRED, { number }), RangeError);
+    for (const call of ["show", "dump", "json", "parse"]) assert.throws(() => calls[call](EXPIRED, { number }), RangeError);
+  }
+  for (const offset of [-1, 2 ** 53, 1.5, "1", null, NaN, 1n]) {
+    for (const call of ["json", "parse"]) assert.throws(() => calls[call](EXPIRED, { offset }), RangeError);
   }
 });
 
@@ -280,7 +409,7 @@ test("options are an object that has no name but those of the call's options", (
   for (const [name, call] of Object.entries(EACH)) {
     for (const options of wrong) assert.throws(() => call(EXPIRED, options), TypeError, `${name} ${String(options)}`);
     for (const options of [undefined, {}, Object.create(null), { profile: undefined }, { profile: "2" }, { profile: "module" }]) assert.doesNotThrow(() => call(EXPIRED, options));
-    const isWriting = name === "show" || name === "dump";
+    const isWriting = ["show", "dump", "json", "parse"].includes(name);
     assert[isWriting ? "doesNotThrow" : "throws"](() => call(EXPIRED, { number: 3 }), isWriting ? undefined : TypeError);
   }
 });
@@ -300,9 +429,12 @@ test("the largest message is read, and one octet more is refused", () => {
 
 test("the causes are those of the header for C", () => {
   const header = readFileSync(new URL("../../c/illcanon.h", import.meta.url), "utf8");
-  const named = [...header.matchAll(/^ +ILLCANON_([A-Z_]+) = (\d+),? +\/\* (?!profile|the module|what|the octets are not|of two|the octets end before|the buffer|malloc|the number)/gm)];
-  for (const [, name, number] of named) assert.equal(CAUSES[number - 1].toUpperCase(), name.replaceAll("_", ""));
-  assert.equal(named.length, CAUSES.length);
+  const rows = [[CAUSES, "illcanon_cause", "ILLCANON_"], [BUILD_CAUSES, "illcanon_build_cause", "ILLCANON_BUILD_"]];
+  for (const [causes, type, prefix] of rows) {
+    const named = [...header.match(new RegExp(`^enum ${type} \\{([^}]*)\\};`, "m"))[1].matchAll(new RegExp(`^ +${prefix}([A-Z_]+) = (\\d+)`, "gm"))];
+    for (const [, name, number] of named) assert.equal(causes[number - 1].toUpperCase(), name.replaceAll("_", ""));
+    assert.equal(named.length, causes.length);
+  }
 });
 
 test("the types are those of what the calls return", () => {
@@ -311,14 +443,21 @@ test("the types are those of what the calls return", () => {
     const body = types.slice(types.search(new RegExp(`^export (?:interface|class) ${name}\\b`, "m")));
     return Object.fromEntries([...body.slice(0, body.search(/^\}/m)).matchAll(/^  (?:readonly )?(\w+): (.*);$/gm)].map(([, member, type]) => [member, type]));
   };
+  const errors = [{}, "x", { "a~": 1 }].map((message) => {
+    try {
+      return calls.build(message);
+    } catch (error) {
+      return error;
+    }
+  });
   const typeOf = (value) => (typeof value === "object" && value !== null ? value.constructor.name : value === null ? "null" : typeof value);
   const found = [...calls.messages(Uint8Array.from([...EXPIRED, ...MISSING]))], refusals = [found[1].refusal, calls.dump(of("6280")).refusal];
-  const rows = [["Found", found], ["Refused", refusals], ["Dump", [calls.dump(EXPIRED), calls.dump(MISSING)]], ["Illcanon", [calls]]];
+  const rows = [["Found", found], ["Refused", refusals], ["NotBuilt", errors], ["Dump", [calls.dump(EXPIRED), calls.dump(MISSING)]], ["Illcanon", [calls]]];
   for (const [name, values] of rows) {
     const members = Object.entries(declared(name));
     assert.ok(members.length > 0, name);
     for (const [member, type] of members) {
-      for (const value of values) assert.ok(type.split(" | ").includes(typeOf(value[member])), `${name}.${member}: ${type}`);
+      for (const value of values) assert.ok(type.replace(/^readonly \(.*\)\[\]$/, "Array").split(" | ").includes(typeOf(value[member])), `${name}.${member}: ${type}`);
     }
   }
 });

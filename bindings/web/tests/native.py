@@ -1,7 +1,7 @@
-"""What the native library answers: the texts of messages, which no test vector has. The line is the second one of answers.js."""
+"""What the native library answers: the texts of messages and their lines of JSON, which no test vector has. The line is the second one of answers.js."""
 import ctypes
 import zlib
-from ctypes import byref, c_char, c_size_t, c_uint32
+from ctypes import byref, c_char, c_size_t, c_uint32, c_uint64
 
 from vectors import octets_of
 
@@ -27,13 +27,13 @@ class Native:
     def __init__(self, path):
         self.library = ctypes.CDLL(str(path))
 
-    def written(self, call, profile, octets):
-        """The refusal, or None, and the text that a call writes."""
+    def written(self, call, profile, octets, *words):
+        """The refusal, or None, and the text that a call writes, which is given the number 7 and more words."""
         room, size, refusal = 65536, c_size_t(), Refusal()
         while True:
             buffer = ctypes.create_string_buffer(room)
             status = getattr(self.library, f"illcanon_{call}_as")(
-                c_uint32(PROFILES[profile]), octets, c_size_t(len(octets)), c_uint32(7), buffer, c_size_t(room), byref(size), byref(refusal))
+                c_uint32(PROFILES[profile]), octets, c_size_t(len(octets)), c_uint32(7), *words, buffer, c_size_t(room), byref(size), byref(refusal))
             if status != NO_ROOM:
                 break
             room = size.value
@@ -41,10 +41,12 @@ class Native:
         return refusal if status == REFUSED else None, buffer.raw[: size.value]
 
     def texts(self, test):
-        octets = b"" if test["isStream"] else octets_of(test["vector"])
-        if test["isStream"] or len(octets) > MOST_SHOWN:
+        octets = b"" if test["isStream"] or test["isLine"] else octets_of(test["vector"])
+        if test["isStream"] or test["isLine"] or len(octets) > MOST_SHOWN:
             return ""
         refusal, text = self.written("dump", test["profile"], octets[: LIMIT + 1])
         said = f"dump {refusal or 'done'} {len(text)}:{zlib.crc32(text):08x}"
-        refusal, text = self.written("show", test["profile"], octets)
-        return f"{said}; show {refusal or f'{len(text)}:{zlib.crc32(text):08x}'}"
+        for call, *words in [("show",), ("json", c_uint64(9))]:
+            refusal, text = self.written(call, test["profile"], octets, *words)
+            said += f"; {call} {refusal or f'{len(text)}:{zlib.crc32(text):08x}'}"
+        return said

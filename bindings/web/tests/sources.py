@@ -9,7 +9,7 @@ import sys
 from pathlib import Path
 
 WEB = Path(__file__).resolve().parents[1]
-SCRIPTS = [WEB / "illcanon.js", *sorted((WEB / "page").glob("*.js"))]
+SCRIPTS = [WEB / "illcanon.js", WEB / "json.js", *sorted((WEB / "page").glob("*.js"))]
 FORBIDDEN = [
     (r"\b(innerHTML|outerHTML|insertAdjacentHTML|document\.write|createContextualFragment|DOMParser)\b", "text that is read as markup"),
     (r"\beval\(|new Function\(|setTimeout\(\s*[\"']", "text that is run"),
