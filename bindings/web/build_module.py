@@ -33,7 +33,8 @@ X86_ATTRIBUTES = {"probe-stack", "stack-probe-size", "target-cpu", "target-featu
 # Attributes of LLVM that say the same for every processor.
 ATTRIBUTES = set(
     "alwaysinline cold inlinehint memory mustprogress nobuiltin noinline noreturn nosync nounwind willreturn nofree norecurse noalias nocallback "
-    "speculatable nonlazybind uwtable minsize optsize allockind allocsize alloc-family convergent hot returns_twice".split()
+    "speculatable nonlazybind uwtable minsize optsize allockind allocsize alloc-family convergent hot returns_twice "
+    "nocreateundeforpoison".split()
 )
 # Words of LLVM's text whose meaning depends on the processor, or that src/ and one thread don't give.
 UNKNOWN_WORDS = "asm llvm.x86 x86_fp80 x86_mmx fp80 thread_local musttail invoke addrspace cmpxchg atomicrmw fence".split()
