@@ -6,8 +6,9 @@ Usage: tests/docs/docs.py [PROGRAM]
 
 A block ```console holds commands, each after `$ `, and after each the lines that it prints (standard output and standard
 error together). They run one after the other, by bash, in a new folder that has the files of examples/, with `illcanon` on
-the path. A block ```sh is run, too, unless it is marked `no-run`, and has to end with status 0. PROGRAM is the built program
-(else crates/illcanon/out/illcanon); without it no example is run, and that is a fault.
+the path. A block ```sh is run, too, unless it is marked `no-run`, and has to end with status 0. A block ```console jq is run
+where jq is installed. PROGRAM is the built program (else crates/illcanon/out/illcanon); without it no example is run, and
+that is a fault.
 """
 import os
 import pathlib
@@ -40,7 +41,7 @@ SOURCE_WORDS = [
 ]
 LARGEST = {"README.md": 9216, "docs/DECISIONS.md": 12288}
 # as many words as README.md and docs/*.md have at most
-MOST_WORDS = 12_150
+MOST_WORDS = 12_400
 faults = []
 
 
@@ -234,7 +235,9 @@ def run_examples(path, text, program):
 
         count = 0
         for first, language, lines in blocks(text):
-            if language == "console":
+            if language == "console jq" and not shutil.which("jq"):
+                print(f"{path.relative_to(ROOT)}:{first}: no jq, so the example is not run")
+            elif language in ("console", "console jq"):
                 for number, command, wanted in steps(lines):
                     count += 1
                     found = run("\n".join(command)).stdout.splitlines()
