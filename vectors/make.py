@@ -1,7 +1,8 @@
 #!/usr/bin/env python3
 """Writes the test vectors, vectors/*.json, from the rules in vectors/rules: the same octets each time.
 
-Usage: make.py [--check]. With --check nothing is written, and the status is 1 where a file isn't what the rules give.
+Usage: make.py [--check]. With --check nothing is written, and the status is 1 where a file isn't what the rules give. It is also 1 where
+README.md doesn't say how many test vectors there are.
 """
 import importlib
 import json
@@ -34,8 +35,23 @@ def dense(value):
     return json.dumps(value, separators=(", ", ": "))
 
 
+def phrases(made):
+    """What README.md has to say of the numbers of test vectors, of pairs of a book and one of its test vectors."""
+    octets = [(book.profile, vector.get("profiles", [book.profile])) for book, vector in made if book.name != "json"]
+    lines = [vector["profiles"] for book, vector in made if book.name == "json"]
+    own = [profile for profile, _ in octets]
+    both = sum("module" in profiles for _, profiles in octets)
+    return [
+        f"{len(octets):,} test vectors for programs that read",
+        f"{own.count('2'):,} of profile 2, and {own.count('module'):,} of the module profile",
+        f"This runs {both:,}:",
+        f"{len(lines):,} more",
+        f"{sum('2' in profiles for profiles in lines):,} run, and {sum('module' in profiles for profiles in lines):,} with",
+    ]
+
+
 def main():
-    wrong, names, total = 0, set(), 0
+    wrong, names, made = 0, set(), []
     schema = Schema(json.loads((FOLDER / "schema.json").read_text()))
     for book in books():
         text, file = text_of(book), FOLDER / f"{book.name}.json"
@@ -45,13 +61,18 @@ def main():
             assert vector["id"] not in names, vector["id"]
             names.add(vector["id"])
         print(f"{book.name}: {len(book.vectors())} test vectors of {len(book.groups)} rules, {len(text)} octets")
-        total += len(book.vectors())
+        made += [(book, vector) for vector in book.vectors()]
         if "--check" not in sys.argv:
             file.write_text(text)
         elif not file.exists() or file.read_text() != text:
             wrong += 1
             print(f"{file.name} isn't what the rules give; run vectors/make.py")
-    print(f"{total} test vectors")
+    readme = (FOLDER / "README.md").read_text()
+    for phrase in phrases(made):
+        if phrase not in readme:
+            wrong += 1
+            print(f"README.md has to say: {phrase}")
+    print(f"{len(made)} test vectors")
     sys.exit(1 if wrong else 0)
 
 

@@ -125,9 +125,6 @@ class Illcanon:
         return map(line_answer, answers) if len(answers) == len(lines) else [Answer(-1, done.stderr, None)] * len(lines)
 
 
-ESCAPES = {"n": "\n", "r": "\r", "t": "\t"}
-
-
 def line_answer(said):
     """The answer of a line of results: the octets in hexadecimal digits, or `refused at POINTER: CAUSE`. The line itself has no pointer, or a column;
     a pointer may be in quotes, with its octets escaped."""
@@ -135,12 +132,18 @@ def line_answer(said):
         return Answer(0, bytes.fromhex(said))
     found = re.fullmatch(r"refused(?: at (?:column \d+|(.*?)))?(?: in line \d+)?: ([A-Za-z]+)", said, re.S)
     if not found:
-        return Answer(-1, said.encode(), None)
+        return Answer(-1, said.encode())
     pointer = found[1] or ""
-    if pointer[:1] == '"':
-        octets = re.sub(r"\\(x[0-9a-f]{2}|.)", lambda escape: chr(int(escape[1][1:], 16)) if escape[1][0] == "x" else ESCAPES.get(escape[1], escape[1]), pointer[1:-1])
-        pointer = octets.encode("latin-1").decode()
-    return Answer(1, b"", (found[2], pointer))
+    return Answer(1, b"", (found[2], unescaped(pointer[1:-1]) if pointer[:1] == '"' else pointer))
+
+
+ESCAPES = {"n": "\n", "r": "\r", "t": "\t"}
+
+
+def unescaped(octets):
+    """The text of octets that are escaped as `\\x1f`, `\\n`, `\\"` and so on."""
+    plain = re.sub(r"\\x([0-9a-f]{2})|\\(.)", lambda found: chr(int(found[1], 16)) if found[1] else ESCAPES.get(found[2], found[2]), octets)
+    return plain.encode("latin-1").decode()
 
 
 class Library:

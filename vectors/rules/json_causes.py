@@ -1,13 +1,12 @@
 """Lines that are refused: each cause at its first and its last place, what has it, and which of two faults counts."""
 from model.builder import Number, Object
-from model.tables import ALL_LISTS, ALL_ROWS, CHOICES, NAMES, NUMBER_NAMES, ROOTS
+from model.tables import ALL_LISTS, ALL_ROWS, CHOICES, NAMES, NUMBER_NAMES
 
 from rules.book import BOTH
-from rules.lines import EXPIRED, LINE_LIMIT, MODULE, NESTING, Runs, ends, levels, line_at, line_of, nested, normal, pointer_at, returned, said, text, with_date
-from rules.lines import with_extension, with_group, with_identifier, with_version
-from rules.messages import HEAD_VALUE, REQUEST_VALUE, along, sample, with_head
+from rules.lines import EXPIRED, LINE_LIMIT, MODULE, NESTING, NORMAL_LIMIT, Runs, ends, filled, levels, line_at, line_of, nested, pointer_at, returned
+from rules.lines import said, text, with_amount, with_date, with_extension, with_group, with_identifier, with_version
+from rules.messages import HEAD_VALUE, REQUEST_VALUE, sample, with_head
 
-NORMAL_LIMIT = 1_048_576
 NUMBERS = {"Integer", "Enumerated"}
 DATES = {"IsoDate", "IsoTime"}
 # the types that a line has as an object of one member, and those that it has as a text
@@ -69,6 +68,10 @@ def whole(line, pointer, what):
     return lambda profile: (line, pointer, what)
 
 
+def only_in_2(line, pointer, what):
+    return lambda profile: (line, pointer, what) if profile == "2" else None
+
+
 def other_profile(apdu):
     """A line that says the other profile."""
     return lambda profile: (text({"profile": "module" if profile == "2" else "2", **apdu}), "/profile", "the profile")
@@ -85,17 +88,6 @@ def too_long(which):
     return made
 
 
-def filled(profile, way, total):
-    """The line, and the octets, of the small APDU in which the text at the end of the way makes this many octets."""
-    size = total - 64
-    while True:
-        octets = normal(profile, along(way, ("general", "A" * size)))
-        if len(octets) == total:
-            before, after = line_at(profile, way, {"general": "@"}).split("@")
-            return Runs([[before, 1], ["A", size], [after, 1]]), octets
-        size += total - len(octets)
-
-
 AT_SPACES = [[EXPIRED, 1], [" ", LINE_LIMIT - len(EXPIRED) - 1]]
 # the places that are not in the value
 FIRST = {
@@ -104,7 +96,7 @@ FIRST = {
     "WrongType": whole("[]", "", "a line that is a list"),
     "UnknownMember": whole('{"x":1}', "/x", "the first member of the line"),
     "RepeatedMember": whole('{"apdu":"Expired","apdu":"Expired"}', "/apdu", "the second member of the line"),
-    "LeftOut": lambda profile: (line_of("Forward-Notification", {}), "/apdu", "the APDU") if profile == "2" else None,
+    "LeftOut": only_in_2(line_of("Forward-Notification", {}), "/apdu", "the APDU"),
     "MissingMember": whole("{}", "/apdu", "the APDU"),
     "UnknownName": whole('{"profile":"3"}', "/profile", "the profile"),
     "NormalTooLong": too_long("first"),
@@ -113,7 +105,7 @@ FIRST = {
 LAST = {
     "NotJson": whole(Runs([*AT_SPACES, ["x", 1]]), "", "the last octet of a line of the greatest size"),
     "LineTooLong": whole(Runs([*AT_SPACES, [" ", 2]]), "", "a line that says an APDU, of one octet too many"),
-    "LeftOut": lambda profile: (line_of("Expired", {**HEAD_VALUE, "expired-extensions": []}), "/value/expired-extensions", "the last row") if profile == "2" else None,
+    "LeftOut": only_in_2(line_of("Expired", {**HEAD_VALUE, "expired-extensions": []}), "/value/expired-extensions", "the last row"),
     "NormalTooLong": too_long("last"),
     "OtherProfile": other_profile({"apdu": "Expired", "value": HEAD_VALUE}),
 }
@@ -172,6 +164,10 @@ def in_member(value):
     return lambda node: ({ONE_MEMBER[node]: value}, ONE_MEMBER[node]) if node in ONE_MEMBER else (value,)
 
 
+def bad_hexadecimal(node):
+    return ({"bits": 8, "octets": "FF"}, "octets") if node == "BitString" else in_member("FF")(node)
+
+
 def has_names(name, node):
     return node == "Enumerated" and name in NUMBER_NAMES
 
@@ -195,7 +191,7 @@ VALUES = {
     "BadText": (is_of("PrintableString", "IllString"), lambda node: ({"visible": "\x7f"}, "visible") if node == "IllString" else ("*",)),
     "BadDate": (is_of("IsoDate"), lambda node: ("20230229",)),
     "BadTime": (is_of("IsoTime"), lambda node: ("240001",)),
-    "BadHexadecimal": (is_of("OctetString", "BitString", "Any"), lambda node: ({"bits": 8, "octets": "FF"}, "octets") if node == "BitString" else in_member("FF")(node)),
+    "BadHexadecimal": (is_of("OctetString", "BitString", "Any"), bad_hexadecimal),
     "BadBits": (is_of("BitString"), lambda node: ({"bits": 7, "octets": "ff"},)),
     "BadOid": (is_of("ObjectIdentifier"), lambda node: ("1.40",)),
     "BadForeign": (is_of("Any"), in_member("05")),
@@ -351,7 +347,8 @@ def names(book):
         line = line_of("Expired", {**HEAD_VALUE, member_name: 2})
         group.refused(f"unknown-{name}", f"a member {text(member_name)} in the value", line, "UnknownMember", f"/value/{pointer}")
         if name != "of-the-line":
-            group.refused(f"unknown-{name}-of-the-line", f"a member {text(member_name)} in the line", line_of("Expired", HEAD_VALUE, **{member_name: 2}), "UnknownMember", f"/{pointer}")
+            line = line_of("Expired", HEAD_VALUE, **{member_name: 2})
+            group.refused(f"unknown-{name}-of-the-line", f"a member {text(member_name)} in the line", line, "UnknownMember", f"/{pointer}")
     group = book.group("names of APDUs and profiles", "The name of an APDU is that of its row, and a profile is 2 or module.", cause="UnknownName")
     for name, apdu in [("small", "expired"), ("empty", ""), ("number", "20"), ("space", "Expired "), ("node", "IllApdu"), ("latin-1", "\u00c9xpired")]:
         group.refused(f"apdu-{name}", f"the APDU {text(apdu)}", line_of(apdu, HEAD_VALUE), "UnknownName", "/apdu")
@@ -368,16 +365,33 @@ def names(book):
 def leaves(book):
     numbers_of(book)
     texts_of(book)
-    of_the_module(book)
+    hexadecimal(book)
+    bits(book)
+    identifiers(book)
+    foreign(book)
 
 
 def numbers_of(book):
+    place = "/value/protocol-version-num"
     group = book.group("numbers that are not whole", "A number is written without point, exponent and -0.", cause="NotWhole")
-    for name, number in [("point", "2.0"), ("exponent", "2e0"), ("capital-exponent", "2E0"), ("minus-zero", "-0"), ("zero-point", "0.0"), ("huge", "1e999999"), ("many-digits", "9" * 30 + ".0")]:
-        group.refused(f"not-whole-{name}", f"the number {number}", with_version(Number(number)), "NotWhole", "/value/protocol-version-num")
+    for name, number in {
+        "point": "2.0",
+        "exponent": "2e0",
+        "capital-exponent": "2E0",
+        "minus-zero": "-0",
+        "zero-point": "0.0",
+        "huge": "1e999999",
+        "many-digits": "9" * 30 + ".0",
+    }.items():
+        group.refused(f"not-whole-{name}", f"the number {number}", with_version(Number(number)), "NotWhole", place)
     group = book.group("numbers that are too long", "A number is from -2^63 to 2^63 - 1.", cause="NumberTooLong")
-    for name, number in [("2-63", 2**63), ("minus-2-63-less-1", -(2**63) - 1), ("2-64", 2**64), ("30-digits", int("9" * 30)), ("minus-30-digits", -int("9" * 30))]:
-        group.refused(f"too-long-{name}", f"the number {number}", with_version(number), "NumberTooLong", "/value/protocol-version-num")
+    long = int("9" * 30)
+    for name, number in {"2-63": 2**63, "minus-2-63-less-1": -(2**63) - 1, "2-64": 2**64, "30-digits": long, "minus-30-digits": -long}.items():
+        group.refused(f"too-long-{name}", f"the number {number}", with_version(number), "NumberTooLong", place)
+    numbers_and_names(book)
+
+
+def numbers_and_names(book):
     group = book.group("numbers and names", "A name is that of a number of the row, and of the number beside it.", cause="OtherName")
     for name, value, cause, step in [
         ("other", {"number": 1, "name": "locations"}, "OtherName", "/name"),
@@ -419,67 +433,122 @@ def texts_of(book):
         ("visible-7f-and-100", "visible", "\x7f\u0100", "BadCharacter", BOTH),
     ]:
         group.refused(f"text-bad-{name}", f"{kind} is {text(characters)}", with_group(text({kind: characters})), cause, f"{place}/{kind}", profiles)
-    days = book.group("days", "A date is eight digits, of a day that exists.", cause="BadDate")
-    for name, date in [("29", "20230229"), ("1900", "19000229"), ("month-13", "20241301"), ("day-0", "20240200"), ("hyphens", "2024-02-29"), ("seven", "2024022"), ("nine", "202402290"), ("empty", ""), ("letters", "2024022A")]:
-        days.refused(f"date-bad-{name}", f"the date {text(date)}", with_date(date), "BadDate", "/value/service-date-time/date-time-of-this-service/date")
-    days.refused("date-bad-past-latin-1", "a digit that is not ASCII", with_date("2024022\u0669"), "BadCharacter", "/value/service-date-time/date-time-of-this-service/date")
-    times = book.group("times", "A time is six digits, of a time of day.", cause="BadTime")
-    for name, time in [("second-61", "235961"), ("after-24", "240001"), ("minute-60", "126000"), ("hour-25", "250000"), ("colons", "12:00:00"), ("four", "1200"), ("empty", "")]:
-        times.refused(f"time-bad-{name}", f"the time {text(time)}", with_date("20240229", time=time), "BadTime", "/value/service-date-time/date-time-of-this-service/time")
+    for name, character in {"asterisk": "*", "ampersand": "&", "at": "@", "underscore": "_", "semicolon": ";", "tab": "\t", "ff": "\xff"}.items():
+        line = with_amount("1" + character)
+        group.refused(f"printable-bad-{name}", f"{text(character)} in a PrintableString", line, "BadText", "/value/insured-for/monetary-value")
+    days_and_times(book)
 
 
-def of_the_module(book):
-    hexadecimal = book.group("hexadecimal", "Octets are pairs of digits 0 to 9 and a to f.", cause="BadHexadecimal")
-    for name, digits in [("odd", "0"), ("capital", "0A"), ("space", "00 00"), ("prefix", "0x00"), ("letter", "0g"), ("latin-1", "0\u00e9"), ("past-latin-1", "00\u0660\u0660")]:
+def days_and_times(book):
+    place = "/value/service-date-time/date-time-of-this-service"
+    group = book.group("days", "A date is eight digits, of a day that exists.", cause="BadDate")
+    for name, date in {
+        "29": "20230229",
+        "1900": "19000229",
+        "month-13": "20241301",
+        "day-0": "20240200",
+        "hyphens": "2024-02-29",
+        "seven": "2024022",
+        "nine": "202402290",
+        "empty": "",
+        "letter": "2024022A",
+    }.items():
+        group.refused(f"date-bad-{name}", f"the date {text(date)}", with_date(date), "BadDate", f"{place}/date")
+    group.refused("date-bad-past-latin-1", "a digit that is not ASCII", with_date("2024022\u0669"), "BadCharacter", f"{place}/date")
+    group = book.group("times", "A time is six digits, of a time of day.", cause="BadTime")
+    for name, time in {
+        "second-61": "235961",
+        "after-24": "240001",
+        "minute-60": "126000",
+        "hour-25": "250000",
+        "colons": "12:00:00",
+        "four": "1200",
+        "empty": "",
+    }.items():
+        group.refused(f"time-bad-{name}", f"the time {text(time)}", with_date("20240229", time=time), "BadTime", f"{place}/time")
+
+
+EXTERNAL, ITEM = "/value/supplemental-item-description/0", "/value/expired-extensions/0/item"
+
+
+def with_octets(octets):
+    return returned({"encoding": {"octet-aligned": {"octets": octets}}})
+
+
+def with_bits(*pairs):
+    return returned({"encoding": {"arbitrary": Object(pairs)}})
+
+
+def hexadecimal(book):
+    group = book.group("hexadecimal", "Octets are pairs of digits 0 to 9 and a to f.", cause="BadHexadecimal")
+    for name, digits in {
+        "odd": "0",
+        "capital": "0A",
+        "space": "00 00",
+        "prefix": "0x00",
+        "letter": "0g",
+        "latin-1": "0\u00e9",
+        "past-latin-1": "00\u0660\u0660",
+    }.items():
         for what, line, pointer in [
-            ("octets", returned({"encoding": {"octet-aligned": {"octets": digits}}}), "/value/supplemental-item-description/0/encoding/octet-aligned/octets"),
-            ("bits", returned({"encoding": {"arbitrary": {"bits": 8, "octets": digits}}}), "/value/supplemental-item-description/0/encoding/arbitrary/octets"),
-            ("foreign", with_extension({"foreign": digits}), "/value/expired-extensions/0/item/foreign"),
+            ("octets", with_octets(digits), f"{EXTERNAL}/encoding/octet-aligned/octets"),
+            ("bits", with_bits(("bits", 8), ("octets", digits)), f"{EXTERNAL}/encoding/arbitrary/octets"),
+            ("foreign", with_extension({"foreign": digits}), f"{ITEM}/foreign"),
         ]:
-            hexadecimal.refused(f"{what}-{name}", f"the octets {text(digits)}", line, "BadHexadecimal", pointer, MODULE)
-    bits = book.group("bits", "The octets are as many as the bits need, and the bits after the last one are 0.", cause="BadBits")
-    place = "/value/supplemental-item-description/0/encoding/arbitrary"
-    for name, count, octets, cause, step in [
-        ("more", 9, "ff", "BadBits", ""),
-        ("fewer-by-eight", 0, "00", "BadBits", ""),
-        ("none-of-two-octets", 8, "ff00", "BadBits", ""),
-        ("one-after", 7, "ff", "BadBits", ""),
-        ("one-of-none", 1, "", "BadBits", ""),
-        ("greatest", 2**63 - 1, "ff", "BadBits", ""),
-        ("below-0", -1, "ff", "NumberTooLong", "/bits"),
-        ("2-63", 2**63, "ff", "NumberTooLong", "/bits"),
-        ("point", Number("8.0"), "ff", "NotWhole", "/bits"),
-        ("minus-zero", Number("-0"), "", "NotWhole", "/bits"),
+            group.refused(f"{what}-{name}", f"the octets {text(digits)}", line, "BadHexadecimal", pointer, MODULE)
+
+
+def bits(book):
+    group = book.group("bits", "The octets are as many as the bits need, and the bits after the last one are 0.", cause="BadBits")
+    for name, count, octets, cause, *step in [
+        ("more", 9, "ff", "BadBits"),
+        ("fewer-by-eight", 0, "00", "BadBits"),
+        ("an-octet-more", 8, "ff00", "BadBits"),
+        ("one-after", 7, "ff", "BadBits"),
+        ("one-of-none", 1, "", "BadBits"),
+        ("greatest", 2**63 - 1, "ff", "BadBits"),
+        ("below-0", -1, "ff", "NumberTooLong", "bits"),
+        ("2-63", 2**63, "ff", "NumberTooLong", "bits"),
+        ("point", Number("8.0"), "ff", "NotWhole", "bits"),
+        ("minus-zero", Number("-0"), "", "NotWhole", "bits"),
     ]:
-        line = returned({"encoding": {"arbitrary": {"bits": count, "octets": octets}}})
-        bits.refused(f"bits-bad-{name}", f"{text(count)} bits of {text(octets)}", line, cause, place + step, MODULE)
-    identifiers = book.group("OBJECT IDENTIFIERs", "Numbers of at least two with dots between them; the first is at most 2, and the second at most 39 below 2.", cause="BadOid")
-    for name, identifier in [
-        ("empty", ""),
-        ("one-number", "1"),
-        ("3", "3.1"),
-        ("1-40", "1.40"),
-        ("dot-first", ".1.2"),
-        ("dot-last", "1.2."),
-        ("two-dots", "1..2"),
-        ("leading-zero", "1.02"),
-        ("minus", "1.-2"),
-        ("space", "1.2 3"),
-        ("letter", "1.a"),
-        ("braces", "{1 2 3}"),
-        ("2-63", "1.2.9223372036854775808"),
-        ("second-2-63", "2.9223372036854775728"),
-        ("oid-in-decimals", "oid 2a03"),
-        ("oid-empty", "oid "),
-        ("oid-padded", "oid 2a8001"),
-        ("oid-cut", "oid 2a80"),
-        ("oid-odd", "oid 2a8"),
-        ("oid-capital", "oid 2A81808080808080808000"),
-        ("oid-capital-word", "OID 2a81808080808080808000"),
-        ("past-latin-1", "1.\u0662"),
-    ]:
-        identifiers.refused(f"oid-bad-{name}", f"the OBJECT IDENTIFIER {text(identifier)}", with_identifier(identifier), "BadOid", "/value/damaged-details/document-type-id", MODULE)
-    foreign = book.group("DER of open types", "The octets are those of one element, with the shortest identifiers and lengths.", cause="BadForeign")
+        line, pointer = with_bits(("bits", count), ("octets", octets)), "/".join([f"{EXTERNAL}/encoding/arbitrary", *step])
+        group.refused(f"bits-bad-{name}", f"{text(count)} bits of {text(octets)}", line, cause, pointer, MODULE)
+
+
+def identifiers(book):
+    words = "Two numbers at least, with dots between them. The first is at most 2, and below 2 the second is at most 39."
+    group = book.group("OBJECT IDENTIFIERs", words, cause="BadOid")
+    for name, identifier in {
+        "empty": "",
+        "one-number": "1",
+        "3": "3.1",
+        "1-40": "1.40",
+        "dot-first": ".1.2",
+        "dot-last": "1.2.",
+        "two-dots": "1..2",
+        "leading-zero": "1.02",
+        "minus": "1.-2",
+        "space": "1.2 3",
+        "letter": "1.a",
+        "braces": "{1 2 3}",
+        "2-63": "1.2.9223372036854775808",
+        "second-2-63": "2.9223372036854775728",
+        "oid-in-decimals": "oid 2a03",
+        "oid-empty": "oid ",
+        "oid-padded": "oid 2a8001",
+        "oid-cut": "oid 2a80",
+        "oid-odd": "oid 2a8",
+        "oid-capital": "oid 2A81808080808080808000",
+        "oid-capital-word": "OID 2a81808080808080808000",
+        "past-latin-1": "1.\u0662",
+    }.items():
+        line, pointer = with_identifier(identifier), "/value/damaged-details/document-type-id"
+        group.refused(f"oid-bad-{name}", f"the OBJECT IDENTIFIER {text(identifier)}", line, "BadOid", pointer, MODULE)
+
+
+def foreign(book):
+    group = book.group("DER of open types", "The octets are those of one element, with the shortest identifiers and lengths.", cause="BadForeign")
     for name, octets, what in [
         ("empty", "", "no octets"),
         ("cut", "0401", "an element without its content"),
@@ -499,7 +568,7 @@ def of_the_module(book):
         ("inner-past-end", "300304050000", "an element past the end of the one that it is in"),
         ("21-levels", levels(21), "21 levels"),
     ]:
-        foreign.refused(f"foreign-bad-{name}", what, with_extension({"foreign": octets}), "BadForeign", "/value/expired-extensions/0/item/foreign", MODULE)
+        group.refused(f"foreign-bad-{name}", what, with_extension({"foreign": octets}), "BadForeign", f"{ITEM}/foreign", MODULE)
 
 
 # ---- which of two faults counts
@@ -534,14 +603,35 @@ def of_lines():
         ("member-and-apdu", "an unknown APDU, and after it an unknown member", '{"apdu":"x","x":1}', ("UnknownMember", "/x")),
         ("profile-and-apdu", "an APDU of another type, and such a profile", '{"apdu":1,"profile":1}', ("WrongType", "/profile")),
         ("profile-and-missing-apdu", "an unknown profile, and no APDU", '{"profile":""}', ("UnknownName", "/profile")),
-        ("profile-and-left-out", "an APDU that profile 2 leaves out, of the module profile", '{"apdu":"Forward-Notification","profile":"module"}', ("OtherProfile", "/profile", TWO)),
+        (
+            "profile-and-left-out",
+            "an APDU that profile 2 leaves out, of the module profile",
+            '{"apdu":"Forward-Notification","profile":"module"}',
+            ("OtherProfile", "/profile", TWO),
+        ),
         ("apdu-and-missing-value", "an unknown APDU, and no value", '{"apdu":"x"}', ("UnknownName", "/apdu")),
-        ("left-out-and-missing-value", "an APDU that profile 2 leaves out, and no value", '{"apdu":"Forward-Notification"}', ("LeftOut", "/apdu", TWO), ("MissingMember", "/value", MODULE)),
+        (
+            "left-out-and-missing-value",
+            "an APDU that profile 2 leaves out, and no value",
+            '{"apdu":"Forward-Notification"}',
+            ("LeftOut", "/apdu", TWO),
+            ("MissingMember", "/value", MODULE),
+        ),
         ("missing-apdu-and-value", "a value of another type, and no APDU", '{"value":1}', ("MissingMember", "/apdu")),
         ("apdu-and-value", "a value and an APDU of another type", '{"value":1,"apdu":1}', ("WrongType", "/apdu")),
         ("value-missing", "no value", '{"apdu":"Expired"}', ("MissingMember", "/value")),
-        ("fault-and-too-long", "a normal form of an octet too many, and an unknown member", Runs([["{\"x\":1," + line[0][0][1:], 1], *line[1:]]), ("UnknownMember", "/x")),
-        ("late-fault-and-too-long", "a text that passes the limit, and a later row of another type", Runs(late_fault(line)), ("WrongType", "/value/responder-id")),
+        (
+            "fault-and-too-long",
+            "a normal form of an octet too many, and an unknown member",
+            Runs([["{\"x\":1," + line[0][0][1:], 1], *line[1:]]),
+            ("UnknownMember", "/x"),
+        ),
+        (
+            "late-fault-and-too-long",
+            "a text that passes the limit, and a later row of another type",
+            Runs(late_fault(line)),
+            ("WrongType", "/value/responder-id"),
+        ),
         ("too-long-alone", "the same without a fault, and a member that is not read", Runs([[start, 1], *line[1:]]), ("NormalTooLong", "")),
     ]
 
@@ -569,7 +659,12 @@ def of_objects():
             ("LeftOut", "/value/expired-extensions", TWO),
             ("UnknownMember", "/value/x", MODULE),
         ),
-        ("unknown-and-left-out", "an unknown member, and after it a row that profile 2 leaves out", line_of("Expired", {"x": 1, "expired-extensions": None}), ("UnknownMember", "/value/x")),
+        (
+            "unknown-and-left-out",
+            "an unknown member, and after it a row that profile 2 leaves out",
+            line_of("Expired", {"x": 1, "expired-extensions": None}),
+            ("UnknownMember", "/value/x"),
+        ),
         (
             "left-out-twice",
             "a row that profile 2 leaves out, twice",
@@ -577,10 +672,30 @@ def of_objects():
             ("LeftOut", "/value/expired-extensions", TWO),
             ("RepeatedMember", "/value/expired-extensions", MODULE),
         ),
-        ("inner-member-and-outer", "an unknown member in the first row, and after it one in the object", line_of("Expired", {"transaction-id": {"x": 1}, "x": 1}), ("UnknownMember", "/value/x")),
-        ("rows-in-the-order-of-the-tables", "each row of another type, from the last one on", line_of("Expired", dict(reversed(NULLS.items()))), ("WrongType", "/value/protocol-version-num")),
-        ("row-and-missing-row", "a row of another type, and no later one", line_of("Expired", {"protocol-version-num": None}), ("WrongType", "/value/protocol-version-num")),
-        ("missing-row-and-row", "no first row, and later ones of another type", line_of("Expired", {"transaction-id": None, "service-date-time": None}), ("MissingMember", "/value/protocol-version-num")),
+        (
+            "inner-member-and-outer",
+            "an unknown member in the first row, and after it one in the object",
+            line_of("Expired", {"transaction-id": {"x": 1}, "x": 1}),
+            ("UnknownMember", "/value/x"),
+        ),
+        (
+            "rows-in-the-order-of-the-tables",
+            "each row of another type, from the last one on",
+            line_of("Expired", dict(reversed(NULLS.items()))),
+            ("WrongType", "/value/protocol-version-num"),
+        ),
+        (
+            "row-and-missing-row",
+            "a row of another type, and no later one",
+            line_of("Expired", {"protocol-version-num": None}),
+            ("WrongType", "/value/protocol-version-num"),
+        ),
+        (
+            "missing-row-and-row",
+            "no first row, and later ones of another type",
+            line_of("Expired", {"transaction-id": None, "service-date-time": None}),
+            ("MissingMember", "/value/protocol-version-num"),
+        ),
         ("all-missing", "no row", line_of("Expired", {}), ("MissingMember", "/value/protocol-version-num")),
         (
             "deep-and-later-row",
@@ -588,7 +703,12 @@ def of_objects():
             line_of("Expired", {"protocol-version-num": 2, "transaction-id": no_qualifier}),
             ("MissingMember", "/value/transaction-id/transaction-qualifier"),
         ),
-        ("optional-rows", "two optional rows of another type", line_of("Expired", {**HEAD_VALUE, "responder-id": None, "requester-id": None}), ("WrongType", "/value/requester-id")),
+        (
+            "optional-rows",
+            "two optional rows of another type",
+            line_of("Expired", {**HEAD_VALUE, "responder-id": None, "requester-id": None}),
+            ("WrongType", "/value/requester-id"),
+        ),
         (
             "default-and-missing-row",
             "a row with a default of an unknown name, and no mandatory row after it",
@@ -596,7 +716,12 @@ def of_objects():
             ("UnknownName", "/value/transaction-type"),
         ),
         ("null-of-an-optional-row", "null in an optional row", line_of("Expired", {**HEAD_VALUE, "requester-id": None}), ("WrongType", "/value/requester-id")),
-        ("null-of-a-default", "null in a row with a default", line_of("ILL-Request", with_head({**REQUEST_VALUE, "retry-flag": None})), ("WrongType", "/value/retry-flag")),
+        (
+            "null-of-a-default",
+            "null in a row with a default",
+            line_of("ILL-Request", with_head({**REQUEST_VALUE, "retry-flag": None})),
+            ("WrongType", "/value/retry-flag"),
+        ),
     ]
 
 
@@ -615,9 +740,19 @@ def of_choices_and_lists():
         ("string-of-one-and-unknown", "an ILL-String with an unknown member", with_group('{"general":1,"x":1}'), ("UnknownMember", f"{place}/x")),
         ("string-of-one-twice", "an ILL-String of one member twice", with_group('{"general":"G","general":"G"}'), ("RepeatedMember", f"{place}/general")),
         ("string-of-none", "an ILL-String of no member", with_group("{}"), ("NotOneMember", place)),
-        ("choice-of-two", "a choice of two alternatives, each of another type", with_symbol({"person-symbol": 1, "institution-symbol": 1}), ("NotOneMember", symbol)),
+        (
+            "choice-of-two",
+            "a choice of two alternatives, each of another type",
+            with_symbol({"person-symbol": 1, "institution-symbol": 1}),
+            ("NotOneMember", symbol),
+        ),
         ("choice-of-one-and-unknown", "a choice with an unknown member", with_symbol({"person-symbol": 1, "x": 1}), ("UnknownMember", f"{symbol}/x")),
-        ("choice-of-one-twice", "a choice of one alternative twice", with_symbol(Object([("person-symbol", 1), ("person-symbol", 1)])), ("RepeatedMember", f"{symbol}/person-symbol")),
+        (
+            "choice-of-one-twice",
+            "a choice of one alternative twice",
+            with_symbol(Object([("person-symbol", 1), ("person-symbol", 1)])),
+            ("RepeatedMember", f"{symbol}/person-symbol"),
+        ),
         (
             "choice-of-two-with-left-out",
             "a choice of two alternatives, of which profile 2 leaves out the second",
@@ -637,22 +772,43 @@ def of_choices_and_lists():
 
 
 def of_leaves():
-    item, place = "/value/ill-service-type/0", "/value/supplemental-item-description/0/encoding/arbitrary"
-
-    def with_bits(pairs):
-        return returned({"encoding": {"arbitrary": Object(pairs)}})
-
+    item, place = "/value/ill-service-type/0", f"{EXTERNAL}/encoding/arbitrary"
     return [
-        ("number-and-unknown", "a number that is not whole, and an unknown member beside it", requested({"number": Number("1.5"), "x": 1}), ("UnknownMember", f"{item}/x")),
+        (
+            "number-and-unknown",
+            "a number that is not whole, and an unknown member beside it",
+            requested({"number": Number("1.5"), "x": 1}),
+            ("UnknownMember", f"{item}/x"),
+        ),
         ("number-and-missing-name", "a number that is not whole, and no name", requested({"number": Number("1.5")}), ("NotWhole", f"{item}/number")),
         ("number-and-name", "a name and a number of another type", requested({"name": 1, "number": "1"}), ("WrongType", f"{item}/number")),
         ("missing-number-and-name", "a name of another type, and no number", requested({"name": 1}), ("MissingMember", f"{item}/number")),
         ("long-number-and-name", "a number that is too long, and a name", requested({"number": 2**63, "name": "x"}), ("NumberTooLong", f"{item}/number")),
-        ("bits-and-octets", "bad octets and a bad number of bits", with_bits([("octets", "FF"), ("bits", -1)]), ("NumberTooLong", f"{place}/bits", MODULE)),
-        ("missing-bits-and-octets", "bad octets, and no number of bits", with_bits([("octets", "FF")]), ("MissingMember", f"{place}/bits", MODULE)),
-        ("bits-and-missing-octets", "a number of bits that is not whole, and no octets", with_bits([("bits", Number("1.5"))]), ("NotWhole", f"{place}/bits", MODULE)),
-        ("octets-and-number-of-bits", "bad octets, and more bits than they have", with_bits([("bits", 99), ("octets", "FF")]), ("BadHexadecimal", f"{place}/octets", MODULE)),
-        ("bits-and-unknown", "a bad number of bits, and an unknown member", with_bits([("bits", -1), ("x", 1)]), ("UnknownMember", f"{place}/x", MODULE)),
-        ("hexadecimal-and-element", "three digits of an element that is no DER", with_extension({"foreign": "308"}), ("BadHexadecimal", "/value/expired-extensions/0/item/foreign", MODULE)),
-        ("open-type-and-unknown", "octets that are no DER, and an unknown member", with_extension({"foreign": "", "x": 1}), ("UnknownMember", "/value/expired-extensions/0/item/x", MODULE)),
+        ("bits-and-octets", "bad octets and a bad number of bits", with_bits(("octets", "FF"), ("bits", -1)), ("NumberTooLong", f"{place}/bits", MODULE)),
+        ("missing-bits-and-octets", "bad octets, and no number of bits", with_bits(("octets", "FF")), ("MissingMember", f"{place}/bits", MODULE)),
+        (
+            "bits-and-missing-octets",
+            "a number of bits that is not whole, and no octets",
+            with_bits(("bits", Number("1.5"))),
+            ("NotWhole", f"{place}/bits", MODULE),
+        ),
+        (
+            "octets-and-number-of-bits",
+            "bad octets, and more bits than they have",
+            with_bits(("bits", 99), ("octets", "FF")),
+            ("BadHexadecimal", f"{place}/octets", MODULE),
+        ),
+        ("bits-and-unknown", "a bad number of bits, and an unknown member", with_bits(("bits", -1), ("x", 1)), ("UnknownMember", f"{place}/x", MODULE)),
+        (
+            "hexadecimal-and-element",
+            "three digits of an element that is no DER",
+            with_extension({"foreign": "308"}),
+            ("BadHexadecimal", f"{ITEM}/foreign", MODULE),
+        ),
+        (
+            "open-type-and-unknown",
+            "octets that are no DER, and an unknown member",
+            with_extension({"foreign": "", "x": 1}),
+            ("UnknownMember", f"{ITEM}/x", MODULE),
+        ),
     ]

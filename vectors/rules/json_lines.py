@@ -4,8 +4,9 @@ from model.tables import ALL_LISTS, ALL_ROWS, CHOICES, NAMES, NUMBER_NAMES, ROOT
 
 from rules import json_causes
 from rules.book import BOTH
-from rules.lines import EXPIRED, EXPIRED_OCTETS, LINE_LIMIT, MODULE, NESTING, LineBook, Runs, body_of, damaged, ends, levels, line_at, line_of, nested, normal
-from rules.lines import of_damaged, of_extension, of_returned, pointer_at, returned, said, text, with_date, with_extension, with_group, with_identifier, with_version
+from rules.lines import EXPIRED, EXPIRED_OCTETS, LINE_LIMIT, MODULE, NESTING, LineBook, Runs, body_of, damaged, ends, levels, line_at, line_of, nested
+from rules.lines import NORMAL_LIMIT, filled, normal, of_damaged, of_extension, of_returned, pointer_at, returned, said, text, with_amount, with_date
+from rules.lines import with_extension, with_group, with_identifier, with_version
 from rules.messages import HEAD_VALUE, REQUEST_VALUE, along, around, expired, full, message, other, part_name, sample, shortest_way, slug, with_head
 from rules.octets import element
 
@@ -20,6 +21,7 @@ def books():
     numbers(book)
     strings(book)
     lists(book)
+    sizes(book)
     module_leaves(book)
     json_causes.add(book)
     yield book
@@ -256,6 +258,9 @@ def strings(book):
     for name, characters in [("space", " "), ("tilde", "~"), ("letters", "A Z")]:
         octets, line = expired(group=element("A1", element("1A", characters.encode()))), with_group(text({"visible": characters}))
         group.built(f"visible-{name}", f"the VisibleString {text(characters)}", line, octets)
+    printable = "ABCDEFGHIJKLMNOPQRSTUVWXYZabcdefghijklmnopqrstuvwxyz0123456789 '()+,-./:=?"
+    octets = message("Returned", "9F 25 08 32 30 32 34 30 32 32 39", element("BF 27", element("81", printable.encode())))
+    group.built("printable-each", "a PrintableString of each character", with_amount(printable), octets)
     for day in ("00000101", "20240229", "20000229", "99991231"):
         group.built(f"date-{day}", f"the day {day}", with_date(day), expired(date=element("80", day.encode())))
     for time in ("000000", "235960", "240000"):
@@ -276,11 +281,20 @@ def lists(book):
         group.built(f"list-{name}", f"{len(items)} service types", line_of("ILL-Request", with_head({**request, "ill-service-type": items})), octets)
 
 
+def sizes(book):
+    limit = "octets of a normal form: 1,048,576"
+    group = book.group("size of the normal form", "A normal form has at most 1,048,576 octets.", limit=limit)
+    for which, (way, _) in zip(["first", "last"], ends("2", lambda name, node: node == "IllString")):
+        line, octets = filled("2", way, NORMAL_LIMIT)
+        group.built(f"normal-form-by-{which}-text", f"1,048,576 octets, by the {which} text", line, octets)
+
+
 # ---- what only the module profile has
 
 
 def module_leaves(book):
-    group = book.group("leaves of the module profile", "NULL, OBJECT IDENTIFIER, OCTET STRING, BIT STRING, ObjectDescriptor.", line="leaves of the module profile")
+    words = "NULL, OBJECT IDENTIFIER, OCTET STRING, BIT STRING, ObjectDescriptor."
+    group = book.group("leaves of the module profile", words, line="leaves of the module profile")
     group.built("null", "a NULL is null", damaged({"damaged-portion": {"complete-document": None}}), of_damaged("81 00"), MODULE)
     for name, shown, content in [
         ("0-0", "0.0", "00"),

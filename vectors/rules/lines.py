@@ -202,10 +202,21 @@ def pointer_at(way, *more):
     return "".join(f"/{step}" for step in ["value", *filter(None, steps), *more])
 
 
+def filled(profile, way, total):
+    """The line, and the octets, of the small APDU in which the text at the end of the way makes this many octets."""
+    size = total - 64
+    while True:
+        octets = normal(profile, along(way, ("general", "A" * size)))
+        if len(octets) == total:
+            before, after = line_at(profile, way, {"general": "@"}).split("@")
+            return Runs([[before, 1], ["A", size], [after, 1]]), octets
+        size += total - len(octets)
+
+
 # ---- small lines
 
 EXPIRED, EXPIRED_OCTETS = line_of("Expired", HEAD_VALUE), expired()
-LINE_LIMIT, NESTING = 16_777_216, 128
+LINE_LIMIT, NORMAL_LIMIT, NESTING = 16_777_216, 1_048_576, 128
 MODULE = ["module"]
 
 
@@ -237,6 +248,11 @@ def damaged(details):
 def with_identifier(identifier):
     """A DAMAGED whose details have this OBJECT IDENTIFIER."""
     return damaged({"document-type-id": identifier, "damaged-portion": {"complete-document": None}})
+
+
+def with_amount(value):
+    """A RETURNED that is insured for this."""
+    return line_of("Returned", with_head({"date-returned": "20240229", "insured-for": {"monetary-value": value}}))
 
 
 def returned(external):
