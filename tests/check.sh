@@ -1,8 +1,8 @@
 #!/bin/bash
 # `rt ci`, the edits, which take minutes, and then each script that takes less than a minute and starts no program but the shell's own, Python,
-# git, `cc` and `xxd`. Shows what each says, and goes on after a failure. The last line is 'N passed, M failed': the sum of what they count, with
-# one for each script that counts nothing. The status is 0 only if nothing failed. With --scripts `rt ci` and the edits are left out, and the
-# program has to be built.
+# git, `cc`, `xxd`, and jq where it is installed. Shows what each says, and goes on after a failure. The last line is 'N passed, M failed': the
+# sum of what they count, with one for each script that counts nothing. The status is 0 only if nothing failed. With --scripts `rt ci` and the
+# edits are left out, and the program has to be built.
 cd "$(dirname "$0")/.." || exit 2
 passed=0
 failed=0

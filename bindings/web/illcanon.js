@@ -116,7 +116,7 @@ function messageOf(octets) {
 /** The octets of the line of JSON that a message is, or is written as. Of too many for a line, the first of them say as much as all. */
 function jsonOctetsOf(message) {
   if (message instanceof ArrayBuffer || ArrayBuffer.isView(message)) return viewOf(message).subarray(0, LINE_LIMIT + 1);
-  const text = typeof message === "string" ? message : textOfValue(message), octets = new TextEncoder().encode(text);
+  const text = (typeof message === "string" ? message : textOfValue(message)).slice(0, LINE_LIMIT + 1), octets = new TextEncoder().encode(text);
   // Half of a surrogate pair is no UTF-8. The encoder replaces it.
   if (octets.length <= LINE_LIMIT && /\p{Surrogate}/u.test(text)) throw new NotBuilt("NotJson");
   return octets.subarray(0, LINE_LIMIT + 1);

@@ -208,7 +208,7 @@ test("the longest line is built, and one octet more is refused", async () => {
   const calls = await load(), longest = LINE.padEnd(16777216);
   assert.equal(LINE_LIMIT, longest.length);
   assert.deepEqual(calls.build(longest), EXPIRED);
-  for (const line of [`${longest} `, `${longest}\ud800`, new Uint8Array(900000000)]) assert.throws(() => calls.build(line), { cause: "LineTooLong" });
+  for (const line of [`${longest} `, `${longest}\ud800`, LINE.padEnd(500000000), new Uint8Array(900000000)]) assert.throws(() => calls.build(line), { cause: "LineTooLong" });
   assert.throws(() => calls.build(longest.replace("G", "\ud800").slice(0, -4)), { cause: "NotJson" });
   assert.deepEqual(calls.build(LINE), EXPIRED);
 });
