@@ -12,7 +12,8 @@ program doesn't say why. Anything else: it broke.
   --any-spelling  standard output may have any spelling of the APDU
   --streams       run over streams.json, too: standard output has the normal form of each message before the one that is refused
   --lines         run over json.json alone: the file has a line of JSON, standard output has the octets of the message that is built, and the last
-                  line of standard error is CAUSE POINTER, or less of it. Of the adapters illcanon and library build messages
+                  line of standard error is CAUSE POINTER, the pointer as a JSON string, or less of it. Of the adapters illcanon and library
+                  build messages
   --all           print each rule, not only those that are broken
   --vectors       print each test vector that differs
   --only NAME     run over NAME.json alone
@@ -88,7 +89,12 @@ def line_fault(said):
     cause, _, pointer = said.partition(" ")
     if cause == "Refused":
         return None, None
-    return (cause, pointer or None) if re.fullmatch("[A-Z][A-Za-z]+", cause) and pointer[:1] in ("", "/") else None
+    if not re.fullmatch("[A-Z][A-Za-z]+", cause):
+        return None
+    try:
+        return cause, json.loads(pointer) if pointer[:1] == '"' else pointer or None
+    except ValueError:
+        return None
 
 
 class Illcanon:
@@ -126,24 +132,32 @@ class Illcanon:
 
 
 def line_answer(said):
-    """The answer of a line of results: the octets in hexadecimal digits, or `refused at POINTER: CAUSE`. The line itself has no pointer, or a column;
-    a pointer may be in quotes, with its octets escaped."""
+    """The answer of a line of results: the octets in hexadecimal digits, or `refused at POINTER: CAUSE`. The line itself has no pointer, or a column."""
     if re.fullmatch("([0-9a-f]{2})+", said):
         return Answer(0, bytes.fromhex(said))
     found = re.fullmatch(r"refused(?: at (?:column \d+|(.*?)))?(?: in line \d+)?: ([A-Za-z]+)", said, re.S)
-    if not found:
-        return Answer(-1, said.encode())
-    pointer = found[1] or ""
-    return Answer(1, b"", (found[2], unescaped(pointer[1:-1]) if pointer[:1] == '"' else pointer))
+    return Answer(1, b"", (found[2], unescaped(found[1] or ""))) if found else Answer(-1, said.encode())
 
 
 ESCAPES = {"n": "\n", "r": "\r", "t": "\t"}
 
 
-def unescaped(octets):
-    """The text of octets that are escaped as `\\x1f`, `\\n`, `\\"` and so on."""
-    plain = re.sub(r"\\x([0-9a-f]{2})|\\(.)", lambda found: chr(int(found[1], 16)) if found[1] else ESCAPES.get(found[2], found[2]), octets)
-    return plain.encode("latin-1").decode()
+def unescaped(pointer):
+    """A pointer, which is in quotes where it has escapes: as a JSON string, as Rust escapes octets, or as `$'..'` of a shell."""
+    quoted = re.fullmatch(r"""(?:"|\$')(.*)["']""", pointer, re.S)
+    if not quoted:
+        return pointer
+    try:
+        return json.loads(pointer)
+    except ValueError:
+        return re.sub(rb"\\(x[0-9a-f]{2}|[0-7]{3}|.)", lambda found: octet_of(found[1].decode()), quoted[1].encode(), flags=re.S).decode()
+
+
+def octet_of(escape):
+    """What is meant by an escape after its backslash."""
+    if len(escape) == 3:
+        return bytes([int(escape[1:], 16) if escape[0] == "x" else int(escape, 8)])
+    return ESCAPES.get(escape, escape).encode()
 
 
 class Library:
