@@ -117,9 +117,20 @@ function messageOf(octets) {
 function jsonOctetsOf(message) {
   if (message instanceof ArrayBuffer || ArrayBuffer.isView(message)) return viewOf(message).subarray(0, LINE_LIMIT + 1);
   const text = (typeof message === "string" ? message : textOfValue(message)).slice(0, LINE_LIMIT + 1), octets = new TextEncoder().encode(text);
-  // Half of a surrogate pair is no UTF-8. The encoder replaces it.
-  if (octets.length <= LINE_LIMIT && /\p{Surrogate}/u.test(text)) throw new NotBuilt("NotJson");
+  // The encoder replaces half of a surrogate pair, which is no UTF-8.
+  if (octets.length <= LINE_LIMIT && hasHalfPair(text)) throw new NotBuilt("NotJson");
   return octets.subarray(0, LINE_LIMIT + 1);
+}
+
+/** Says whether a text has half of a surrogate pair. */
+function hasHalfPair(text) {
+  for (let at = 0; at < text.length; at++) {
+    const unit = text.charCodeAt(at);
+    if (unit < 0xd800 || unit > 0xdfff) continue;
+    const next = text.charCodeAt(++at);
+    if (unit > 0xdbff || !(next >= 0xdc00 && next <= 0xdfff)) return true;
+  }
+  return false;
 }
 
 function textOfValue(message) {

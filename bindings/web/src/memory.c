@@ -32,13 +32,21 @@ struct tried {
 
 static octet nothing[16] __attribute__((aligned(16)));
 
-/* Grows the memory until it has this many octets. Where it can't grow, the instruction returns -1: of 64 bits, or, once addresses are
- * lowered to 32 bits, of 32. */
+/* Grows the memory by pages. Where it can't grow, the instruction returns -1: of 64 bits, or, once addresses are lowered to 32 bits, of 32. */
+static int grow_by(size_t pages) {
+    return __builtin_wasm_memory_grow(0, pages) <= MOST / PAGE;
+}
+
+/* Grows the memory until it has this many octets. It grows by an eighth at least, where that is possible: an engine may collect garbage
+ * each time. */
 static int grow_to(size_t wanted) {
-    size_t there = __builtin_wasm_memory_size(0) * PAGE;
+    size_t there = __builtin_wasm_memory_size(0) * PAGE, eighth = there / 8 / PAGE;
     if (wanted <= there)
         return 1;
-    return __builtin_wasm_memory_grow(0, (wanted - there + PAGE - 1) / PAGE) <= MOST / PAGE;
+    size_t pages = (wanted - there + PAGE - 1) / PAGE;
+    if (pages < eighth && there + eighth * PAGE <= MOST && grow_by(eighth))
+        return 1;
+    return grow_by(pages);
 }
 
 static octet *new_block(size_t order) {

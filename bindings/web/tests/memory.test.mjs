@@ -23,6 +23,17 @@ test("the module imports nothing, and exports the calls alone", () => {
   assert.deepEqual(names.sort(), ["memory", "page_give", "page_take", ...CALLS.map((call) => `illcanon_${call}`)].sort());
 });
 
+test("the memory grows in few steps, and up to 1 GiB", () => {
+  const { page_take, memory } = new WebAssembly.Instance(module).exports, sizes = new Set();
+  for (let i = 0; i < 200000; i++) {
+    assert.ok(page_take(200n) > 0n);
+    sizes.add(memory.buffer.byteLength);
+  }
+  assert.ok(sizes.size < 50, String(sizes.size));
+  while (page_take(1048000n));
+  assert.ok(memory.buffer.byteLength > 1072693248 && memory.buffer.byteLength <= 1073741824, String(memory.buffer.byteLength));
+});
+
 test("blocks are aligned, never overlap, and are used again", () => {
   const { page_take, page_give, memory } = new WebAssembly.Instance(module).exports;
   const random = randoms(7), blocks = [];
