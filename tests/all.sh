@@ -49,7 +49,7 @@ fi
 [ -e /usr/include/yaz/ill.h ] && run program/peer.py
 for profile in 2 module; do
     run ../vectors/run.py --adapter illcanon --profile $profile
-    run ../vectors/run.py --adapter library --lines --profile $profile
+    for adapter in illcanon library; do run ../vectors/run.py --adapter $adapter --lines --profile $profile; done
     for test in "spellings 2000" "refusals 2000" "shown 2000" "json_lines 2000" "built 2000" "lines 500" "dump 400" "dump_html 300" "archive 200000" "results 20000"; do
         run program/${test% *}.py "$(od -An -N2 -tu2 /dev/urandom | tr -d ' ')" ${test#* } $profile
     done

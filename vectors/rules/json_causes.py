@@ -9,9 +9,8 @@ from rules.messages import HEAD_VALUE, REQUEST_VALUE, sample, with_head
 
 NUMBERS = {"Integer", "Enumerated"}
 DATES = {"IsoDate", "IsoTime"}
-# the types that a line has as an object of one member, and those that it has as a text
+# the types that a line has as an object of one member
 ONE_MEMBER = {"IllString": "general", "OctetString": "octets", "Any": "foreign"}
-TEXTS = {*DATES, "PrintableString", "ObjectDescriptor", "ObjectIdentifier"}
 WORDS = {
     "NotJson": "The line is no text of JSON (RFC 8259) in UTF-8, has half of a surrogate pair, or nests deeper than 128 levels. The place is the line.",
     "LineTooLong": "The line has more than 16,777,216 octets. The place is the line.",
@@ -51,7 +50,7 @@ def add(book):
 
 
 def first_and_last(book):
-    """Each cause at the first place where it can come, in the order in which lines are judged, and at the last place of the last APDU."""
+    """Each cause at the first place where it can come, in the order in which lines are judged, and at the last place of the last APDU that has one."""
     for cause, words in WORDS.items():
         group = book.group(cause, words, cause=cause)
         for which, at_line in [("first", FIRST), ("last", LAST)]:
@@ -65,6 +64,7 @@ def first_and_last(book):
 
 
 def whole(line, pointer, what):
+    """A line that is refused so in both profiles."""
     return lambda profile: (line, pointer, what)
 
 
