@@ -71,11 +71,11 @@ impl Part for IllAnswer {
         let entries = entries::<Self>(value);
         Ok(IllAnswer {
             transaction_results: required(alloc, entries, 5)?,
-            results_explanation: optional(alloc, entries, 6)?,
             send_to_list: optional(alloc, entries, 9)?,
             already_tried_list: optional(alloc, entries, 10)?,
             responder_optional_messages: optional(alloc, entries, 11)?,
             responder_note: optional(alloc, entries, 12)?,
+            results_explanation: optional(alloc, entries, 6)?,
             head: read_head(alloc, entries)?,
         })
     }
