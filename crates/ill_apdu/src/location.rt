@@ -51,9 +51,9 @@ impl Part for LocationInfo {
     fn read(alloc: Global, value: &Value) -> Result<Self, AllocError> {
         let entries = entries::<Self>(value);
         Ok(LocationInfo {
-            location_id: required(alloc, entries, 0)?,
-            location_address: optional(alloc, entries, 1)?,
             location_note: optional(alloc, entries, 2)?,
+            location_address: optional(alloc, entries, 1)?,
+            location_id: required(alloc, entries, 0)?,
         })
     }
 }

@@ -60,10 +60,10 @@ impl Part for Received {
     fn read(alloc: Global, value: &Value) -> Result<Self, AllocError> {
         let entries = entries::<Self>(value);
         Ok(Received {
-            supplier_id: optional(alloc, entries, 5)?,
-            date_received: required(alloc, entries, 7)?,
             shipped_service_type: required(alloc, entries, 8)?,
+            date_received: required(alloc, entries, 7)?,
             requester_note: optional(alloc, entries, 9)?,
+            supplier_id: optional(alloc, entries, 5)?,
             head: read_head(alloc, entries)?,
         })
     }

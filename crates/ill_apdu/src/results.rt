@@ -233,8 +233,8 @@ impl Part for WillSupply {
         Ok(WillSupply {
             reason_will_supply: required(alloc, entries, 0)?,
             supply_date: optional(alloc, entries, 1)?,
-            return_to_address: optional(alloc, entries, 2)?,
             location_list: optional(alloc, entries, 3)?,
+            return_to_address: optional(alloc, entries, 2)?,
         })
     }
 }

@@ -61,9 +61,9 @@ impl Part for Returned {
         let entries = entries::<Self>(value);
         Ok(Returned {
             date_returned: required(alloc, entries, 6)?,
+            requester_note: optional(alloc, entries, 9)?,
             returned_via: optional(alloc, entries, 7)?,
             insured_for: optional(alloc, entries, 8)?,
-            requester_note: optional(alloc, entries, 9)?,
             head: read_head(alloc, entries)?,
         })
     }

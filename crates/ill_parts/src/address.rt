@@ -64,7 +64,6 @@ impl Part for PostalAddress {
     fn read(alloc: Global, value: &Value) -> Result<Self, AllocError> {
         let entries = entries::<Self>(value);
         Ok(PostalAddress {
-            name_of_person_or_institution: optional(alloc, entries, 0)?,
             extended_postal_delivery_address: optional(alloc, entries, 1)?,
             street_and_number: optional(alloc, entries, 2)?,
             post_office_box: optional(alloc, entries, 3)?,
@@ -72,6 +71,7 @@ impl Part for PostalAddress {
             region: optional(alloc, entries, 5)?,
             country: optional(alloc, entries, 6)?,
             postal_code: optional(alloc, entries, 7)?,
+            name_of_person_or_institution: optional(alloc, entries, 0)?,
         })
     }
 }
@@ -181,8 +181,8 @@ impl Part for DeliveryAddress {
     fn read(alloc: Global, value: &Value) -> Result<Self, AllocError> {
         let entries = entries::<Self>(value);
         Ok(DeliveryAddress {
-            postal_address: optional(alloc, entries, 0)?,
             electronic_address: optional(alloc, entries, 1)?,
+            postal_address: optional(alloc, entries, 0)?,
         })
     }
 }

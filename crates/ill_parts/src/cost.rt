@@ -111,11 +111,11 @@ impl Part for CostInfo {
     fn read(alloc: Global, value: &Value) -> Result<Self, AllocError> {
         let entries = entries::<Self>(value);
         Ok(CostInfo {
-            account_number: optional(alloc, entries, 0)?,
-            maximum_cost: optional(alloc, entries, 1)?,
             reciprocal_agreement: required(alloc, entries, 2)?,
             will_pay_fee: required(alloc, entries, 3)?,
             payment_provided: required(alloc, entries, 4)?,
+            account_number: optional(alloc, entries, 0)?,
+            maximum_cost: optional(alloc, entries, 1)?,
         })
     }
 }

@@ -50,10 +50,10 @@ pub fn read_head(alloc: Global, entries: &[Option<Value>]) -> Result<Head, Alloc
 {
     Ok(Head {
         protocol_version_num: required(alloc, entries, 0)?,
-        transaction_id: required(alloc, entries, 1)?,
         service_date_time: required(alloc, entries, 2)?,
         requester_id: optional(alloc, entries, 3)?,
         responder_id: optional(alloc, entries, 4)?,
+        transaction_id: required(alloc, entries, 1)?,
     })
 }
 

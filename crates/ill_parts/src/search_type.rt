@@ -54,10 +54,10 @@ impl Part for SearchType {
     fn read(alloc: Global, value: &Value) -> Result<Self, AllocError> {
         let entries = entries::<Self>(value);
         Ok(SearchType {
-            level_of_service: optional(alloc, entries, 0)?,
-            need_before_date: optional(alloc, entries, 1)?,
             expiry_flag: required(alloc, entries, 2)?,
+            need_before_date: optional(alloc, entries, 1)?,
             expiry_date: optional(alloc, entries, 3)?,
+            level_of_service: optional(alloc, entries, 0)?,
         })
     }
 }

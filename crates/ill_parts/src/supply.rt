@@ -126,15 +126,15 @@ impl Part for SupplyDetails {
     fn read(alloc: Global, value: &Value) -> Result<Self, AllocError> {
         let entries = entries::<Self>(value);
         Ok(SupplyDetails {
+            chargeable_units: optional(alloc, entries, 2)?,
+            shipped_conditions: optional(alloc, entries, 4)?,
             date_shipped: optional(alloc, entries, 0)?,
             date_due: optional(alloc, entries, 1)?,
-            chargeable_units: optional(alloc, entries, 2)?,
-            cost: optional(alloc, entries, 3)?,
-            shipped_conditions: optional(alloc, entries, 4)?,
+            no_of_units_per_medium: optional(alloc, entries, 8)?,
             shipped_via: optional(alloc, entries, 5)?,
+            cost: optional(alloc, entries, 3)?,
             insured_for: optional(alloc, entries, 6)?,
             return_insurance_require: optional(alloc, entries, 7)?,
-            no_of_units_per_medium: optional(alloc, entries, 8)?,
         })
     }
 }

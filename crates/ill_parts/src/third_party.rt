@@ -52,9 +52,9 @@ impl Part for SendTo {
     fn read(alloc: Global, value: &Value) -> Result<Self, AllocError> {
         let entries = entries::<Self>(value);
         Ok(SendTo {
-            system_id: required(alloc, entries, 0)?,
             account_number: optional(alloc, entries, 1)?,
             system_address: optional(alloc, entries, 2)?,
+            system_id: required(alloc, entries, 0)?,
         })
     }
 }
@@ -130,10 +130,10 @@ impl Part for ThirdPartyInfo {
             permission_to_chain: required(alloc, entries, 1)?,
             permission_to_partition: required(alloc, entries, 2)?,
             permission_to_change_send_to_list: required(alloc, entries, 3)?,
-            initial_requester_address: optional(alloc, entries, 4)?,
             preference: required(alloc, entries, 5)?,
-            send_to_list: optional(alloc, entries, 6)?,
             already_tried_list: optional(alloc, entries, 7)?,
+            send_to_list: optional(alloc, entries, 6)?,
+            initial_requester_address: optional(alloc, entries, 4)?,
         })
     }
 }

@@ -54,10 +54,10 @@ impl Part for TransactionId {
     fn read(alloc: Global, value: &Value) -> Result<Self, AllocError> {
         let entries = entries::<Self>(value);
         Ok(TransactionId {
-            initial_requester_id: optional(alloc, entries, 0)?,
             transaction_group_qualifier: required(alloc, entries, 1)?,
             transaction_qualifier: required(alloc, entries, 2)?,
             sub_transaction_qualifier: optional(alloc, entries, 3)?,
+            initial_requester_id: optional(alloc, entries, 0)?,
         })
     }
 }
