@@ -41,7 +41,7 @@ SOURCE_WORDS = [
 ]
 LARGEST = {"README.md": 9216, "docs/DECISIONS.md": 12288}
 # as many words as README.md and docs/*.md have at most
-MOST_WORDS = 12_400
+MOST_WORDS = 12_550
 faults = []
 
 

@@ -14,7 +14,7 @@ from model.schema import Schema
 from model.tables import ALL_ROWS, NAMES, ROOTS, reached
 
 ROOT = Path(__file__).resolve().parents[2]
-HELP, TOPICS, COMMANDS, ARGUMENT, LINE = (f"crates/ill_args/src/{name}.rt" for name in ("help", "topics", "commands", "argument", "program"))
+HELP, TOPICS, COMMANDS, BUILD_HELP, ARGUMENT, LINE = (f"crates/ill_args/src/{name}.rt" for name in ("help", "topics", "commands", "build_help", "argument", "program"))
 MAN, GUIDE, DEFINITIONS, PERFORMANCE, SECURITY = "man/illcanon.1", "docs/GUIDE.md", "docs/DEFINITIONS.md", "docs/PERFORMANCE.md", "SECURITY.md"
 HEADER, RESULTS, REFUSAL, WALK = "bindings/c/illcanon.h", "docs/results.schema.json", "crates/ill_schema/src/refusal.rt", "crates/ill_walk/src/refusal.rt"
 WORDS = {"two": 2, "three": 3, "four": 4, "five": 5, "six": 6, "seven": 7, "eight": 8, "nine": 9, "ten": 10, "eleven": 11, "twelve": 12}
@@ -29,6 +29,7 @@ LIMITS = {
     "open": [("crates/ill_grammar/src/frames.rt", r"pub const MAX_DEPTH: usize = ([\d_]+);"), ("crates/ill_walk/src/unjudged.rt", r"const MAX_OPEN: usize = ([\d_]+);")],
     "levels": [("crates/ber_core/specs/Foreign.antt", r"^foreign_levels = (\d+)"), ("crates/ill_text/src/foreign.rt", r"const LEVELS: u8 = (\d+);")],
     "hex": [("crates/ill_inputs/src/hexadecimal.rt", r"pub const MAX_HEX_TEXT: usize = ([\d_]+);")],
+    "line": [("crates/ill_build/src/line.rt", r"pub const LINE_LIMIT: usize = ([\d_]+);"), ("crates/ill_build/specs/Line.antt", r"^line_limit = ([\d_]+)")],
     "integer": [("crates/ber_leaf/src/integer.rt", r"octets\.len\(\) > (\d+)\)\.then_some\(LeafFault::IntegerTooLong\)")],
     "tag": [("crates/ber_core/src/id.rt", r"pub const MAX_NUMBER: u32 = ([\d_]+);")],
 }
@@ -49,7 +50,8 @@ SAID = {
     "README.md": {"octets": 1, "open": 1, "levels": 1, "integer": 1, "tag number": 1},
     DEFINITIONS: {"open": 2, "levels": 2, "integer": 1, "tag number": 1, "tag": 1},
     GUIDE: {"messages": 2, "hex": 1},
-    MAN: {"messages": 2, "hex": 1},
+    MAN: {"messages": 2, "hex": 1, "line": 1},
+    BUILD_HELP: {"octets": 1, "line": 2, "levels": 1, "tag number": 1},
     TOPICS: {"octets": 3, "messages": 1, "hex": 1, "open": 2, "levels": 2, "integer": 2, "tag number": 2},
     REFUSAL: {"octets": 2, "open": 2, "integer": 2, "tag number": 2},
     WALK: {"levels": 1},
@@ -59,7 +61,7 @@ SAID = {
     SECURITY: {"octets": 1, "messages": 1},
 }
 # What says numbers, and is not of the documents that docs.py names.
-TEXTS = [HELP, TOPICS, COMMANDS, ARGUMENT, MAN, REFUSAL, WALK, HEADER]
+TEXTS = [HELP, TOPICS, COMMANDS, BUILD_HELP, ARGUMENT, MAN, REFUSAL, WALK, HEADER]
 # What says what was measured or what was so once.
 NOT_COMPARED = {PERFORMANCE, "CHANGELOG.md", "vectors/README.md"}
 # What names the kit or the gate, too, and is not of the documents that docs.py names.
@@ -157,6 +159,8 @@ def numbers_in(text):
                 continue
             if after.startswith(" messages") or re.search(r"messages up to $|there are more than $|number from 1 to $", before):
                 yield "messages", number
+            elif re.search(r"\bline has (at most|more than) $", before):
+                yield "line", number
             elif re.search(r"tag numbers of at most $", before):
                 yield "tag", number
             elif re.search(r"hex|--lines|text", before):

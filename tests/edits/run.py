@@ -29,6 +29,8 @@ UNTOUCHED = {
     "ber_leaf": "null::NullLeaf::check",
     "ill_build": "members::place_of",
     "ill_c": "profile::profile_numbered",
+    "ill_cli": "limit::RefusalLimit::error",
+    "ill_commands": "lines::words::push_cause",
     "ill_grammar": "cell::levels_in",
     "ill_normal": "counts::Counts::none",
     "ill_parts": "leaves::number_value",

@@ -23,6 +23,11 @@ LONG = bytes.fromhex("74811f301d800102a10aa1031b0147a2031b0151a20ca00a8008323032
 REFUSED = bytes.fromhex("7400")
 FILES = {"A": EXPIRED, "B": LONG + REFUSED + EXPIRED, "C": EXPIRED + LONG}
 LINES = b"".join(octets.hex().encode() + b"\n" for octets in (EXPIRED, REFUSED, LONG))
+# a line that says this EXPIRED, one that is refused, and again the first
+LINE = b"""{"apdu":"Expired","value":{"protocol-version-num":2,"transaction-id":{"transaction-group-qualifier":{"general":"G"},\
+"transaction-qualifier":{"general":"Q"}},"service-date-time":{"date-time-of-this-service":{"date":"20240229"}}}}
+"""
+JSON = LINE + b"{}\n" + LINE
 # the words of each command, and whether its lines of output name their files
 COMMANDS = [
     ("check --keep-going --summary A B C", True),
@@ -33,6 +38,8 @@ COMMANDS = [
     ("dump A C", True),
     ("canonicalise --keep-going -o OUT A B C", False),
     ("canonicalise --lines lines -", False),
+    ("build --keep-going -o OUT json json", False),
+    ("build --lines json -", False),
 ]
 BEFORE = b"what was there before"
 # what --summary says of a file that was left before its end
@@ -110,6 +117,7 @@ def main():
             (folder / name).write_bytes(octets)
         (folder / "list").write_bytes(b"\0".join(name.encode() for name in FILES))
         (folder / "lines").write_bytes(LINES)
+        (folder / "json").write_bytes(JSON)
         for words, names_files in COMMANDS:
             whole = Run(words, folder, library, 0)
             number, met = 1, 0

@@ -3,14 +3,16 @@
 
 The lines of the valid test vectors of vectors/ and of random APDUs give the octets that the vectors and the model's writer say. Lines that are
 changed in some places give the octets that the model's builder says, or its cause and its place. Each line that is built is as
-docs/build.schema.json says, which is made here.
+docs/build.schema.json says, which is made here. What the program shows of all test vectors with octets and all examples it builds into
+what `canonicalise` writes of them.
 Usage: built.py [SEED [COUNT [PROFILE]]], PROFILE being `2`, the default, or `module`; or built.py --write, which writes the schema. Prints
-the seed, with which a run is made again. Needs the program of crates/example_build.
+the seed, with which a run is made again. Needs the programs of crates/example_build and crates/illcanon.
 """
 import json
 import random
 import subprocess
 import sys
+import tempfile
 from pathlib import Path
 
 TESTS = Path(__file__).resolve().parents[1]
@@ -23,6 +25,7 @@ from model.schema import Schema
 from model.tables import ALL_ROWS, NAMES, NUMBER_NAMES, ROOTS, TOP, random_value, seed_and_count
 
 PROGRAM = TOP / "crates/example_build/out/example_build"
+ILLCANON = TOP / "crates/illcanon/out/illcanon"
 SCHEMA = TOP / "docs/build.schema.json"
 TABLES = json.loads((TESTS / "model/tables.json").read_text())
 BUILDERS = [Builder(TABLES, profile) for profile in ROOTS]
@@ -176,6 +179,38 @@ def fit(schema, pairs):
             sys.exit(f"built.py: {text}\n is built, and {fault}")
 
 
+# ---- the program
+
+
+def octets_of_vectors():
+    """The octets of each test vector that has them as they are, whatever the profile and the result."""
+    for path in sorted((TOP / "vectors").glob("*.json")):
+        for vector in (vector for group in json.loads(path.read_text()).get("groups", []) for vector in group["vectors"]):
+            if "octets" in vector:
+                yield bytes.fromhex(vector["octets"])
+
+
+def illcanon(*words, given=None):
+    """What the program prints. Refused messages are reported on standard error, which is left out."""
+    return subprocess.run([ILLCANON, *words], input=given, stdout=subprocess.PIPE, stderr=subprocess.DEVNULL).stdout
+
+
+def build_what_is_shown():
+    """The number of lines that the program shows, and builds into what it writes as normal forms."""
+    with tempfile.TemporaryDirectory() as folder:
+        paths = sorted((TOP / "examples").glob("*.ber"))
+        for i, octets in enumerate(octets_of_vectors()):
+            paths.append(Path(folder, f"{i}.ber"))
+            paths[-1].write_bytes(octets)
+        files = Path(folder, "list")
+        files.write_bytes(b"".join(bytes(path) + b"\0" for path in paths))
+        options = ["--keep-going", "--profile", PROFILE, "--files-from", files]
+        shown = illcanon("show", "--json", *options)
+        if illcanon("build", "--profile", PROFILE, "-", "-", given=shown) != illcanon("canonicalise", "-o", "-", *options):
+            sys.exit("built.py: what is shown is not built into the normal forms")
+    return shown.count(b"\n")
+
+
 def main():
     made = schema_text(loose=True)
     if sys.argv[1:] == ["--write"]:
@@ -192,7 +227,7 @@ def main():
     causes = sorted({said.rsplit(" ", 1)[1] for _, said in changed if said.startswith("refused")})
     counts = [compare(pairs) for pairs in (vectors, known, changed)]
     fit(Schema(json.loads(made)), [pair for pair in vectors + known + changed if len(pair[0]) < 4096][:4 * count])
-    print(f"seed {seed}, profile {PROFILE}: {counts[0]} test vectors, {counts[1]} random APDUs and {counts[2]} changed lines, all right; {len(causes)} causes")
+    print(f"seed {seed}, profile {PROFILE}: {counts[0]} test vectors, {counts[1]} random APDUs and {counts[2]} changed lines, all right; {len(causes)} causes; {build_what_is_shown()} lines of the program")
 
 
 if __name__ == "__main__":

@@ -13,13 +13,16 @@ commands_with() {
     done
 }
 
+# printing_with OPTION: each of them that reads messages, and prints its results
+printing_with() { commands_with "$1" | grep -vxE 'canonicalise|build'; }
+
 # words_of COMMAND: it, with the files that it needs besides one: IN, or the first of two
 words_of() {
-    case $1 in same | canonicalise) echo "$1 F" ;; *) echo "$1" ;; esac
+    case $1 in same | canonicalise | build) echo "$1 F" ;; *) echo "$1" ;; esac
 }
 
 # A list that misses a command would let a loop over it pass.
-for name in show check digest dump same canonicalise; do
+for name in show check digest dump same canonicalise build; do
     commands | grep -qx "$name" || { echo "commands.sh: the help doesn't list $name" && exit 1; }
 done
 for option in --json --max-refused --with-filename; do

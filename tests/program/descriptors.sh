@@ -16,6 +16,9 @@ cp "$examples/expired-long-form.ber" given/long.ber
 { cat given/long.ber && printf 't\0' && cat given/long.ber; } >given/mixed.ber
 od -An -v -tx1 given/long.ber | tr -d ' \n' >given/lines.txt
 printf '\n7400\n' >>given/lines.txt
+# A line that says a message, one that is refused, and again one.
+expired='{"apdu":"Expired","value":{"protocol-version-num":2,"transaction-id":{"transaction-group-qualifier":{"general":"G"},"transaction-qualifier":{"general":"Q"}},"service-date-time":{"date-time-of-this-service":{"date":"20240229"}}}}'
+printf '%s\n{}\n%s\n' "$expired" "$expired" >given/lines.json
 printf 'mixed.ber\0long.ber' >given/list
 echo precious >old
 old=
@@ -101,7 +104,7 @@ row() {
     done
 }
 
-for command in $(commands_with --with-filename) 'show --json'; do
+for command in $(printing_with --with-filename) 'show --json'; do
     row $command every.ber
     row $command mixed.ber long.ber absent.ber
     row $command --files-from list
@@ -110,7 +113,7 @@ for command in $(commands_with --with-filename) 'show --json'; do
     row $command --hex -
     row $command --files-from -
 done
-for command in $(commands_with --json); do
+for command in $(printing_with --json); do
     row $command --keep-going --summary mixed.ber long.ber
 done
 row same long.ber long.ber
@@ -139,6 +142,11 @@ row canonicalise --lines - OUT
 row canonicalise --whole - OUT
 row canonicalise -o OUT -
 row canonicalise -o OUT --files-from -
+row build lines.json OUT
+row build - OUT
+row build --keep-going --refused R --summary -o OUT lines.json absent.ber
+row build --lines lines.json OUT
+row build --json --keep-going -o OUT -
 row canonicalise --keep-going --refused R - OUT
 row canonicalise --keep-going --refused R -o OUT mixed.ber -
 row canonicalise - -

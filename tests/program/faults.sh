@@ -111,7 +111,7 @@ stays() {
     cmp -s OLD R || { failed=$((failed + 1)) && echo "failed: $1: the file of refused messages has changed"; }
     [ ! -e R.part ] || { failed=$((failed + 1)) && rm R.part && echo "failed: $1: a new file is left"; }
 }
-{ echo canonicalise - && echo canonicalise OUT && commands_with --json && commands_with --json | sed 's/$/ --json/'; } >WORDS
+{ echo canonicalise - && echo canonicalise OUT && printing_with --json && printing_with --json | sed 's/$/ --json/'; } >WORDS
 while read -r words; do
     out=''
     set -- $words

@@ -11,6 +11,7 @@ the others; R can't be written or replaced after OUT was; the line of JSON at th
 are 2 where the program ends with it without a fault, and 127 of a program that the system can't load. Then file systems in memory that are
 full, where they can be mounted. The last line is 'N passed, M failed'.
 """
+import json
 import os
 import pathlib
 import re
@@ -32,7 +33,10 @@ CALLS = [("openat", "EACCES"), ("openat", "ENOSPC"), ("openat", "EMFILE"), ("ope
          ("fchmod", "EIO"), ("fchown", "EPERM"), ("fchown", "EDQUOT"), ("rename", "EPERM"), ("renameat", "EPERM"), ("unlink", "EPERM"), ("unlinkat", "EPERM"),
          ("statx", "EIO"), ("newfstatat", "EIO"), ("fstat", "EIO"), ("readlink", "EIO"), ("readlinkat", "EIO"), ("close", "EIO"), ("mmap", "ENOMEM"), ("brk", "0"),
          ("ioctl", "ENOTTY")]
-INPUTS = {"good": GOOD * 300, "bad": GOOD * 2 + BAD + GOOD, "lines": (GOOD.hex() + "\n").encode() * 3, "list": b"good\0bad\0", "empty": b""}
+LINE = json.dumps({"apdu": "Expired", "value": {
+    "protocol-version-num": 2, "transaction-id": {"transaction-group-qualifier": {"general": "G"}, "transaction-qualifier": {"general": "Q"}},
+    "service-date-time": {"date-time-of-this-service": {"date": "20240229"}}}}).encode() + b"\n"
+INPUTS = {"json": LINE * 300 + b"{}\n" + LINE, "good": GOOD * 300, "bad": GOOD * 2 + BAD + GOOD, "lines": (GOOD.hex() + "\n").encode() * 3, "list": b"good\0bad\0", "empty": b""}
 # Words, and the files that are new at the end.
 COMMANDS = [
     ("canonicalise good OUT", "OUT"), ("canonicalise bad OUT", "OUT"), ("canonicalise --keep-going bad OUT", "OUT"), ("canonicalise --whole good OUT", "OUT"),
@@ -44,6 +48,7 @@ COMMANDS = [
     ("check --json --summary --keep-going --refused R bad", "R"), ("digest --json --keep-going --refused R good bad", "R"), ("show --keep-going --refused R bad", "R"),
     ("show --json --summary --keep-going --refused R bad", "R"), ("canonicalise --keep-going --refused R -o OUT --files-from empty", ""),
     ("check --keep-going --refused R --files-from empty", ""),
+    ("build json OUT", "OUT"), ("build --lines json OUT", "OUT"), ("build --whole json OUT", ""), ("build --keep-going --refused R -o OUT json absent", "OUT R"),
 ]
 FILES = ("OUT", "R")
 OLD = {"OUT": b"what was there\n", "R": b"refused before\n"}

@@ -138,7 +138,7 @@ required='error: the following required arguments were not provided:\n  '
 usage='\n\nUsage: illcanon '
 help="\n\nFor more information, try '--help'.\n"
 two_forms="${usage}canonicalise [OPTIONS] <IN> <OUT>\n       illcanon canonicalise [OPTIONS] -o <OUT> <FILE>...$help"
-for command in $(commands_with --json); do
+for command in $(printing_with --json); do
     row "no-file: $command" 2 '' "$required<FILE>..., or --files-from <LIST>$usage$command [OPTIONS] [FILE]...$help" $command
 done
 row no-in 2 '' "$required<IN>\n  <OUT>$two_forms" canonicalise
@@ -146,6 +146,11 @@ row no-out 2 '' "$required<OUT>$two_forms" canonicalise F
 row no-file-for-out 2 '' "$required<FILE>..., or --files-from <LIST>$two_forms" canonicalise -o F
 row list-without-out 2 '' "$required-o <OUT>$two_forms" canonicalise --files-from F G H
 row a-third-word 2 '' "error: unexpected argument 'H' found$two_forms" canonicalise F G H
+two_forms="${usage}build [OPTIONS] <IN> <OUT>\n       illcanon build [OPTIONS] -o <OUT> <FILE>...$help"
+row build-without-in 2 '' "$required<IN>\n  <OUT>$two_forms" build
+row build-without-out 2 '' "$required<OUT>$two_forms" build F
+row build-of-no-file 2 '' "$required<FILE>..., or --files-from <LIST>$two_forms" build -o F
+row build-with-a-third-word 2 '' "error: unexpected argument 'H' found$two_forms" build F G H
 row lines-and-keep-going 2 '' 'illcanon: --lines excludes --keep-going\n' check --lines --keep-going F
 row same-keeps-not-going 2 '' any same --keep-going F F
 row lines-and-summary 2 '' 'illcanon: --lines excludes --summary\n' check --lines --summary F
@@ -727,7 +732,7 @@ cp OLD OUT
 row max-refused-whole 1 '' "$second$one" canonicalise --whole --keep-going --max-refused 1 TWICE OUT
 kept max-refused-whole
 for command in $(commands_with --max-refused); do
-    [ $command != canonicalise ] || command='canonicalise -o OUT'
+    case $command in canonicalise | build) command="$command -o OUT" ;; esac
     row "max-refused-needs: $command" 2 '' 'illcanon: --max-refused needs --keep-going\n' $command --max-refused 1 GOOD
     for number in 0 1000001; do
         row "max-refused-$number: $command" 2 '' "error: invalid value '$number' for '--max-refused <N>': $number is not in 1..=1000000$help" $command --keep-going --max-refused $number GOOD
@@ -876,6 +881,38 @@ for name in 'a b' "it's" 'K\303\266ln' 'x\ny' '\033[2J' 'caf\351' '\302\205' "a\
         failed=$((failed + 1)) && echo "failed: name $name: status $status" && cat -v err
     fi
 done
+
+# Lines of JSON that are built.
+LINE='{"apdu":"Expired","value":{"protocol-version-num":2,"transaction-id":{"transaction-group-qualifier":{"general":"G"},"transaction-qualifier":{"general":"Q"}},"service-date-time":{"date-time-of-this-service":{"date":"20240229"}}}}'
+printf '%s\n' "$LINE" >LINES
+octets GOOD $EXPIRED
+row build 0 '' '' build LINES OUT
+cmp -s OUT GOOD || { failed=$((failed + 1)) && echo 'failed: build: OUT is not the message'; }
+row build-as-digits 0 "$EXPIRED\n" '' build --hex LINES -
+printf '%s\n{"apdu":"Expire"}\n[\n%s' "$LINE" "$LINE" >LINES
+UNNAMED='refused at /apdu in line 2: UnknownName\n'
+NO_JSON='refused at column 2 in line 3: NotJson\n'
+row build-up-to-a-fault 1 '' "illcanon: $UNNAMED" build LINES OUT
+cmp -s OUT GOOD || { failed=$((failed + 1)) && echo 'failed: build-up-to-a-fault: OUT is not the message'; }
+row build-going-on 1 "$EXPIRED\n$EXPIRED\n" "illcanon: $UNNAMED""illcanon: $NO_JSON" build --keep-going --hex --refused KEPT LINES -
+printf '{"apdu":"Expire"}\n[\n' | cmp -s - KEPT || { failed=$((failed + 1)) && echo 'failed: build-going-on: KEPT is not the refused lines'; }
+row build-of-two 1 "$EXPIRED\n$EXPIRED\n" "illcanon: LINES: $UNNAMED""illcanon: ./LINES: ${UNNAMED}illcanon: 2 files, 4 lines, 2 built, 2 refused, 66 octets, 2 left before the end\n" build --hex --summary -o - LINES ./LINES
+row build-by-lines 1 "$EXPIRED\nrefused at /apdu: UnknownName\nrefused at column 2: NotJson\n$EXPIRED\n" '' build --lines LINES -
+row build-as-json 1 '{"line":1,"apdu":"Expired","octets":33,"message":"'$EXPIRED'"}\n{"line":2,"refused":{"cause":"UnknownName","pointer":"/apdu"}}\n' '' build --json LINES -
+row build-over-the-input 2 '' 'illcanon: IN and OUT are the same file\n' build LINES ./LINES
+cp GOOD OUT
+row build-as-a-whole 1 '' "illcanon: $UNNAMED""illcanon: $NO_JSON" build --keep-going --whole LINES OUT
+cmp -s OUT GOOD || { failed=$((failed + 1)) && echo 'failed: build-as-a-whole: OUT has changed'; }
+row build-lines-and-json 2 '' 'illcanon: --lines excludes --json\n' build --lines --json LINES OUT
+# What was built is written before more is waited for.
+mkfifo ASKED TOLD
+"$program" build - - <ASKED >TOLD 2>err &
+exec 3>ASKED 4<TOLD
+printf '%s\n' "$LINE" >&3
+timeout 10 head -c 33 <&4 | cmp -s - GOOD && passed=$((passed + 1)) || { failed=$((failed + 1)) && echo 'failed: build waits before it writes'; }
+exec 3>&- 4<&-
+wait $!
+rm -f LINES KEPT OUT ASKED TOLD
 
 # Letters that aren't seen, or end a line, are shown by their octets: U+202E, U+2028, U+2029, U+034F, U+115F, U+180B, U+FE0F, U+E0100.
 for octets in '\342\200\256' '\342\200\250' '\342\200\251' '\315\217' '\341\205\237' '\341\240\213' '\357\270\217' '\363\240\204\200'; do

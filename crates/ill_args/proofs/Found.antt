@@ -15,6 +15,7 @@ use Rattle.ill_args.specs.Refused.{IsFaultOf}
 use Rattle.ill_args.specs.code.Commands.{IsFault}
 use Rattle.ill_args.specs.declared.fault.LineFault.{LineFault}
 use Rattle.ill_args.specs.declared.orders.FileJob.{FileJob}
+use Rattle.ill_args.specs.declared.orders.FormVerb.{FormVerb}
 use Rattle.ill_args.specs.declared.orders.Report.{Report}
 use Rattle.ill_args.specs.declared.orders.Verb.{Verb}
 
@@ -65,4 +66,6 @@ pub is_command_name : (verb : Verb) → list_any (λ one. bytes_eq (verb_name on
 is_command_name (Verb.Print (FileJob.Report Report.Check)) = refl
 is_command_name (Verb.Print (FileJob.Report _)) = refl
 is_command_name (Verb.Print _) = refl
+is_command_name (Verb.Write FormVerb.Build) = refl
+is_command_name (Verb.Write _) = refl
 is_command_name _ = refl

@@ -7,6 +7,7 @@ use Rattle.clap.specs.declared.builder.action.ArgAction.TheVariants.{Append, Set
 use Rattle.clap.specs.declared.builder.value_parser.ValueParser.TheVariants.{Names, Unsigned}
 use Rattle.ill_tables.specs.declared.profile.Profile.{Profile}
 use Rattle.ill_args.specs.declared.orders.FileJob.{FileJob}
+use Rattle.ill_args.specs.declared.orders.FormVerb.{FormVerb}
 use Rattle.ill_args.specs.declared.orders.Report.{Report}
 use Rattle.ill_args.specs.declared.orders.Verb.{Verb}
 
@@ -17,7 +18,8 @@ verb_name (Verb.Print (FileJob.Report Report.Check)) = codes "check"
 verb_name (Verb.Print (FileJob.Report Report.Digest)) = codes "digest"
 verb_name Verb.Dump = codes "dump"
 verb_name Verb.Same = codes "same"
-verb_name Verb.Canonicalise = codes "canonicalise"
+verb_name (Verb.Write FormVerb.Canonicalise) = codes "canonicalise"
+verb_name (Verb.Write FormVerb.Build) = codes "build"
 
 -- the word for a profile
 abbrev pub profile_name : Profile → Text
@@ -97,17 +99,21 @@ same_rules = file_rule (codes "first") ∷ file_rule (codes "second") ∷ []
 abbrev pub canonicalise_rules : List Rule
 canonicalise_rules = refusal_rules ++ flag_rule (codes "lines") ∷ flag_rule (codes "whole") ∷ output_rule ∷ inputs_rules
 
+abbrev pub build_rules : List Rule
+build_rules = refusal_rules ++ flag_rule (codes "lines") ∷ flag_rule (codes "json") ∷ flag_rule (codes "whole") ∷ output_rule ∷ inputs_rules ++ filename_rule ∷ []
+
 abbrev pub rules_of : Verb → List Rule
 rules_of (Verb.Print FileJob.Show) = show_rules
 rules_of (Verb.Print (FileJob.Report report)) = report_rules
 rules_of Verb.Dump = dump_rules
 rules_of Verb.Same = same_rules
-rules_of Verb.Canonicalise = canonicalise_rules
+rules_of (Verb.Write FormVerb.Canonicalise) = canonicalise_rules
+rules_of (Verb.Write FormVerb.Build) = build_rules
 
 -- all commands
 abbrev pub all_verbs : List Verb
 all_verbs =
-    Verb.Print FileJob.Show ∷ Verb.Print (FileJob.Report Report.Check) ∷ Verb.Print (FileJob.Report Report.Digest) ∷ Verb.Dump ∷ Verb.Same ∷ Verb.Canonicalise ∷ []
+    Verb.Print FileJob.Show ∷ Verb.Print (FileJob.Report Report.Check) ∷ Verb.Print (FileJob.Report Report.Digest) ∷ Verb.Dump ∷ Verb.Same ∷ Verb.Write FormVerb.Canonicalise ∷ Verb.Write FormVerb.Build ∷ []
 
 -- a command to which these arguments are added
 abbrev pub with_rules : App → List Rule → App

@@ -8,7 +8,11 @@ use Rattle.clap.specs.Walk.{Row, Text, all_of, first_of, one_of}
 use Rattle.ill_tables.specs.declared.profile.Profile.{Profile}
 use Rattle.ill_args.specs.CommandLine.{profile_name, verb_name}
 use Rattle.ill_args.specs.declared.orders.Elements.{Elements}
+use Rattle.ill_args.specs.declared.orders.BuildResults.{BuildResults}
+use Rattle.ill_args.specs.declared.orders.Building.{Building}
 use Rattle.ill_args.specs.declared.orders.FileJob.{FileJob}
+use Rattle.ill_args.specs.declared.orders.FormJob.{FormJob}
+use Rattle.ill_args.specs.declared.orders.FormVerb.{FormVerb}
 use Rattle.ill_args.specs.declared.orders.Inputs.{Inputs}
 use Rattle.ill_args.specs.declared.orders.KeepGoing.{KeepGoing}
 use Rattle.ill_args.specs.declared.orders.Limit.{Limit}
@@ -29,13 +33,18 @@ report_of _ = None
 -- the command that the results of lines are of, work, and an order
 abbrev pub verb_of_results : LineResults → Verb
 verb_of_results (LineResults.Report report) = Verb.Print (FileJob.Report report)
-verb_of_results _ = Verb.Canonicalise
+verb_of_results _ = Verb.Write FormVerb.Canonicalise
+
+-- the command that writes normal forms of this source
+abbrev pub form_verb : FormJob → FormVerb
+form_verb FormJob.Canonicalise = FormVerb.Canonicalise
+form_verb (FormJob.Build building) = FormVerb.Build
 
 abbrev pub verb_of_work : Work → Verb
 verb_of_work (Work.Print job json with_filename messages inputs) = Verb.Print job
 verb_of_work (Work.Dump elements with_filename inputs) = Verb.Dump
-verb_of_work (Work.Write messages input output) = Verb.Canonicalise
-verb_of_work (Work.Collect messages inputs output) = Verb.Canonicalise
+verb_of_work (Work.Write job messages input output) = Verb.Write (form_verb job)
+verb_of_work (Work.Collect job messages inputs output) = Verb.Write (form_verb job)
 verb_of_work (Work.Lines profile input results) = verb_of_results results
 
 abbrev pub verb : Order → Verb
@@ -45,8 +54,8 @@ verb (Order.Compare reading first second) = Verb.Same
 -- a line at the end says how many files and messages there were
 abbrev pub is_counted : Work → Bool
 is_counted (Work.Print job json with_filename messages inputs) = messages.summary
-is_counted (Work.Write messages input output) = messages.summary
-is_counted (Work.Collect messages inputs output) = messages.summary
+is_counted (Work.Write job messages input output) = messages.summary
+is_counted (Work.Collect job messages inputs output) = messages.summary
 is_counted _ = false
 
 -- the file that gets the octets of refused messages
@@ -60,8 +69,8 @@ limit_of messages = option_and_then (λ (going : KeepGoing). going.limit.max_ref
 abbrev pub max_refused_of : Work → Option ℕ
 max_refused_of (Work.Print job json with_filename messages inputs) = limit_of messages
 max_refused_of (Work.Dump elements with_filename inputs) = option_and_then (λ (limit : Limit). limit.max_refused) elements.keep_going
-max_refused_of (Work.Write messages input output) = limit_of messages
-max_refused_of (Work.Collect messages inputs output) = limit_of messages
+max_refused_of (Work.Write job messages input output) = limit_of messages
+max_refused_of (Work.Collect job messages inputs output) = limit_of messages
 max_refused_of _ = None
 
 -- reports are lines of JSON
@@ -214,6 +223,21 @@ HasResults rows input (LineResults.Report report) = HasOne rows input
 HasResults rows input (LineResults.Write output) = AreInAndOut rows input output
 HasResults rows input (LineResults.Collect output) = HasOne rows input × HasOutput rows output
 
+-- the results of lines that are built: what `--lines` says, or `--json`, or else the messages
+abbrev pub HasBuildResults : List Row → BuildResults → Type 0
+HasBuildResults rows BuildResults.Lines = HasLines rows
+HasBuildResults rows BuildResults.Json = (is_set (codes "lines") rows ≡ false) × (is_set (codes "json") rows ≡ true)
+HasBuildResults rows BuildResults.Messages = (is_set (codes "lines") rows ≡ false) × (is_set (codes "json") rows ≡ false)
+
+pub record IsBuilding (rows : List Row) (building : Building) : Type 0 where
+  pub results : HasBuildResults rows building.results
+  pub names : building.with_filename ≡ is_set (codes "with-filename") rows
+
+-- messages are read, and not lines in hexadecimal; or lines are built
+abbrev pub HasFormJob : List Row → FormJob → Type 0
+HasFormJob rows FormJob.Canonicalise = is_set (codes "lines") rows ≡ false
+HasFormJob rows (FormJob.Build building) = IsBuilding rows building
+
 -- messages are read, and not lines, of which only a report can be written
 abbrev pub IsByMessage : List Row → FileJob → Type 0
 IsByMessage rows job = IfSome (report_of job) (λ report. is_set (codes "lines") rows ≡ false)
@@ -222,8 +246,8 @@ abbrev pub HasWork : List Row → Work → Type 0
 HasWork rows (Work.Print job json with_filename messages inputs) =
     IsByMessage rows job × (json ≡ is_set (codes "json") rows) × (with_filename ≡ is_set (codes "with-filename") rows) × AreMessages rows messages × AreInputs rows inputs
 HasWork rows (Work.Dump elements with_filename inputs) = AreElements rows elements × (with_filename ≡ is_set (codes "with-filename") rows) × AreInputs rows inputs
-HasWork rows (Work.Write messages input output) = (is_set (codes "lines") rows ≡ false) × AreMessages rows messages × AreInAndOut rows input.now output
-HasWork rows (Work.Collect messages inputs output) = (is_set (codes "lines") rows ≡ false) × AreMessages rows messages × AreInputs rows inputs × HasOutput rows output
+HasWork rows (Work.Write job messages input output) = HasFormJob rows job × AreMessages rows messages × AreInAndOut rows input.now output
+HasWork rows (Work.Collect job messages inputs output) = HasFormJob rows job × AreMessages rows messages × AreInputs rows inputs × HasOutput rows output
 HasWork rows (Work.Lines profile input results) = NamesProfile rows profile × HasLines rows × HasResults rows input.now results
 
 abbrev pub HasWords : List Row → Order → Type 0

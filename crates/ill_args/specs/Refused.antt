@@ -3,6 +3,7 @@ use Rattle.std.specs.Prelude.{◌≡◌, ◌≢◌, ◌⊎◌, ◌<◌, ℕ, tru
 use Rattle.clap.specs.Walk.{Row, Text, first_of, one_of}
 use Rattle.clap.specs.Words.{HasKind, Kinds, kind_of}
 use Rattle.clap.specs.declared.error.kind.ErrorKind.{ErrorKind}
+use Rattle.ill_args.specs.declared.orders.FormVerb.{FormVerb}
 use Rattle.ill_args.specs.declared.orders.Order.{Order}
 use Rattle.ill_args.specs.declared.orders.Verb.{Verb}
 use Rattle.ill_args.specs.declared.fault.LineFault.{LineFault}
@@ -10,39 +11,39 @@ use Rattle.ill_args.specs.declared.fault.LineFault.TheVariants.{Line, SameWord, 
 use Rattle.ill_args.specs.CommandLine.{verb_name}
 use Rattle.ill_args.specs.Orders.{files_in, is_set, list_in, HasOne, HasPair, HasTwo, IsOptionNumber, NamesNothing, ReadsInputTwice, ReadsOutput, SharesRefused}
 
--- the command has any number of files: not `same`, nor `canonicalise` with IN and OUT
+-- the command has any number of files: not `same`, nor a command with IN and OUT
 abbrev pub HasAnyFiles : Verb → List Row → Type 0
 HasAnyFiles Verb.Same rows = ⊥
-HasAnyFiles Verb.Canonicalise rows = IsTrue (is_some (first_of (codes "output") rows))
+HasAnyFiles (Verb.Write form) rows = IsTrue (is_some (first_of (codes "output") rows))
 HasAnyFiles _ rows = Unit {0}
 
 -- the words of a command are enough for its files
 abbrev pub HasFiles : Verb → List Row → Type 0
 HasFiles Verb.Same rows = (first second : Text) × HasPair rows first second
-HasFiles Verb.Canonicalise rows = IsTrue (is_some (first_of (codes "output") rows)) ⊎ ((input output : Text) × HasTwo rows input output)
+HasFiles (Verb.Write form) rows = IsTrue (is_some (first_of (codes "output") rows)) ⊎ ((input output : Text) × HasTwo rows input output)
 HasFiles _ rows = Unit {0}
 
--- `same` has standard input twice, or IN and OUT of `canonicalise` are the same word other than `-`
+-- `same` has standard input twice, or IN and OUT are the same word other than `-`
 abbrev pub HasSameWord : Verb → List Row → Type 0
 HasSameWord Verb.Same rows = HasPair rows (codes "-") (codes "-")
-HasSameWord Verb.Canonicalise rows = (word : Text) × HasTwo rows word word × (word ≢ codes "-")
+HasSameWord (Verb.Write form) rows = (word : Text) × HasTwo rows word word × (word ≢ codes "-")
 HasSameWord _ rows = ⊥
 
--- words of `canonicalise` that are fewer than IN and OUT, or come with a list of files, and have no `-o`
+-- words of a command that writes normal forms: fewer than IN and OUT, or with a list of files, and without `-o`
 abbrev pub LacksTwo : Verb → List Row → Type 0
-LacksTwo Verb.Canonicalise rows = (first_of (codes "output") rows ≡ None) × ((length (files_in rows) < 2) ⊎ IsTrue (is_some (list_in rows)))
+LacksTwo (Verb.Write form) rows = (first_of (codes "output") rows ≡ None) × ((length (files_in rows) < 2) ⊎ IsTrue (is_some (list_in rows)))
 LacksTwo _ rows = ⊥
 
--- words of `canonicalise` that are more than IN and OUT, and have no `-o`
+-- more words than IN and OUT, without `-o`
 abbrev pub ExceedsTwo : Verb → List Row → Type 0
-ExceedsTwo Verb.Canonicalise rows = (first_of (codes "output") rows ≡ None) × (2 < length (files_in rows))
+ExceedsTwo (Verb.Write form) rows = (first_of (codes "output") rows ≡ None) × (2 < length (files_in rows))
 ExceedsTwo _ rows = ⊥
 
 -- what is wrong with the files of a command
 abbrev pub HasFileFault : Verb → List Row → LineFault → Type 0
 HasFileFault verb rows SameWord = HasSameWord verb rows
 HasFileFault verb rows InputTwice = HasAnyFiles verb rows × ReadsInputTwice rows
-HasFileFault verb rows OutputIsRead = (verb ≡ Verb.Canonicalise) × ReadsOutput rows
+HasFileFault verb rows OutputIsRead = ((form : FormVerb) × (verb ≡ Verb.Write form)) × ReadsOutput rows
 HasFileFault verb rows (Missing error) = (kind_of error ≡ ErrorKind.MissingRequiredArgument) × ((HasAnyFiles verb rows × NamesNothing rows) ⊎ LacksTwo verb rows)
 HasFileFault verb rows (Unexpected error) = (kind_of error ≡ ErrorKind.UnknownArgument) × ExceedsTwo verb rows
 HasFileFault verb rows NotOneFile = HasAnyFiles verb rows × (is_set (codes "lines") rows ≡ true) × ((file : Text) → HasOne rows file → ⊥)

@@ -37,12 +37,6 @@ pub enum Argument {
 
 use Argument::{File, Filename, Files, Flag, Number, Output, Value};
 
-/// The flag `--hex`.
-pub const HEX: Argument = Flag(
-    "hex",
-    "The input is hexadecimal text, in either case, with or without blanks",
-);
-
 /// An argument as clap takes it.
 pub fn arg<'a>(alloc: Global, argument: Argument) -> Arg<'a>
     ensures rule { rule_of result ≡ rule_for argument }

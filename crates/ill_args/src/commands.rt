@@ -1,11 +1,12 @@
 //! The commands: the word for each, its arguments, and what its help says.
-ghost use Rattle.std.specs.Prelude.{◌≡◌, map};
-ghost use Rattle.ill_args.specs.CommandLine.{rules_of, verb_name};
+ghost use Rattle.std.specs.Prelude.{◌≡◌, codes, map};
+ghost use Rattle.ill_args.specs.CommandLine.{flag_rule, rules_of, verb_name};
 ghost use Rattle.ill_args.specs.code.Arguments.{rule_for};
 
 use crate::argument::Argument;
 use crate::argument::Argument::{File, Filename, Files, Flag, Number, Output, Value};
-use crate::orders::{FileJob, Report, Verb};
+use crate::build_help;
+use crate::orders::{FileJob, FormVerb, Report, Verb};
 
 /// The end of the help of a command that can go on after refused messages: what it says of that stands between the two texts.
 macro_rules! with_refusals {
@@ -31,13 +32,14 @@ On a terminal, a line says how far the work is, where it takes more than two sec
 
 impl Verb {
     /// All commands.
-    pub const ALL: [Verb; 6] = [
+    pub const ALL: [Verb; 7] = [
         Verb::Print(FileJob::Show),
         Verb::Print(FileJob::Report(Report::Check)),
         Verb::Print(FileJob::Report(Report::Digest)),
         Verb::Dump,
         Verb::Same,
-        Verb::Canonicalise,
+        Verb::Write(FormVerb::Canonicalise),
+        Verb::Write(FormVerb::Build),
     ];
 
     /// The word for the command.
@@ -50,7 +52,8 @@ impl Verb {
             Verb::Print(FileJob::Report(Report::Digest)) => "digest",
             Verb::Dump => "dump",
             Verb::Same => "same",
-            Verb::Canonicalise => "canonicalise",
+            Verb::Write(FormVerb::Canonicalise) => "canonicalise",
+            Verb::Write(FormVerb::Build) => "build",
         }
     }
 
@@ -68,8 +71,11 @@ impl Verb {
                 "Writes each element of the messages as it is spelled, and why one is refused"
             }
             Verb::Same => "Reports whether two files hold the same message, however it is spelled",
-            Verb::Canonicalise => {
+            Verb::Write(FormVerb::Canonicalise) => {
                 "Writes the normal form (DER) of each message in IN, or in each FILE, to OUT"
+            }
+            Verb::Write(FormVerb::Build) => {
+                "Builds a message of each line of JSON in IN, or in each FILE, and writes it to OUT"
             }
         }
     }
@@ -82,7 +88,18 @@ impl Verb {
             Verb::Print(FileJob::Report(Report::Digest)) => DIGEST,
             Verb::Dump => DUMP,
             Verb::Same => SAME,
-            Verb::Canonicalise => CANONICALISE,
+            Verb::Write(FormVerb::Canonicalise) => CANONICALISE,
+            Verb::Write(FormVerb::Build) => build_help::HELP,
+        }
+    }
+
+    /// The flag `--hex` of the command.
+    pub fn hex(self) -> Argument
+        ensures { rule_for result ≡ flag_rule (codes "hex") }
+    {
+        match self {
+            Verb::Write(FormVerb::Build) => Flag("hex", build_help::HEX),
+            _ => Flag("hex", HEX),
         }
     }
 
@@ -95,7 +112,18 @@ impl Verb {
             Verb::Print(FileJob::Report(_)) => REPORT_ARGUMENTS.as_slice(),
             Verb::Dump => DUMP_ARGUMENTS.as_slice(),
             Verb::Same => SAME_ARGUMENTS.as_slice(),
-            Verb::Canonicalise => CANONICALISE_ARGUMENTS.as_slice(),
+            Verb::Write(FormVerb::Canonicalise) => CANONICALISE_ARGUMENTS.as_slice(),
+            Verb::Write(FormVerb::Build) => BUILD_ARGUMENTS.as_slice(),
+        }
+    }
+}
+
+impl FormVerb {
+    /// The two forms of the command.
+    pub fn usage<'a>(self) -> &'a str {
+        match self {
+            FormVerb::Canonicalise => CANONICALISE_USAGE,
+            FormVerb::Build => build_help::USAGE,
         }
     }
 }
@@ -151,6 +179,20 @@ static CANONICALISE_ARGUMENTS: [Argument; 9] = [
     Files("IN and OUT; or with `-o OUT` the messages; `-` is standard input or output"),
 ];
 
+static BUILD_ARGUMENTS: [Argument; 11] = [
+    Flag("keep-going", build_help::KEEP_GOING),
+    Value("refused", "FILE", build_help::REFUSED),
+    Number("max-refused", build_help::MAX_REFUSED),
+    Flag("summary", build_help::SUMMARY),
+    Flag("lines", build_help::LINES),
+    Flag("json", build_help::JSON),
+    Flag("whole", build_help::WHOLE),
+    Output,
+    FILES_FROM,
+    Files("IN and OUT; or with `-o OUT` the lines of JSON; `-` is standard input or output"),
+    Filename,
+];
+
 const KEEP_GOING_FLAG: Argument = Flag("keep-going", KEEP_GOING);
 
 const REFUSED_FILE: Argument = Value("refused", "FILE", REFUSED);
@@ -160,6 +202,8 @@ const MAX_REFUSED_NUMBER: Argument = Number("max-refused", MAX_REFUSED);
 const SUMMARY_FLAG: Argument = Flag("summary", SUMMARY);
 
 const FILES_FROM: Argument = Value("files-from", "LIST", LIST);
+
+const HEX: &str = "The input is hexadecimal text, in either case, with or without blanks";
 
 const KEEP_GOING: &str =
     "Reports a message that is refused, and goes on with the next one, where its end is known";
@@ -339,6 +383,6 @@ gave 3, else 1 if one gave 1."
 );
 
 /// The two forms of `canonicalise`.
-pub const CANONICALISE_USAGE: &str = "\
+const CANONICALISE_USAGE: &str = "\
 illcanon canonicalise [OPTIONS] <IN> <OUT>
        illcanon canonicalise [OPTIONS] -o <OUT> <FILE>...";

@@ -9,19 +9,19 @@ pub enum LineFault {
     /// A report of `clap`: a mistake, help that was asked for, or that memory ran out.
     #[error("{0}")]
     Line(LineError),
-    /// The two files of `same` are `-`, or IN and OUT of `canonicalise` are the same word other than `-`.
+    /// The two files of `same` are `-`, or IN and OUT are the same word other than `-`.
     #[error("the same word twice")]
     SameWord,
     /// Standard input would be read twice by a command other than `same`.
     #[error("standard input is named twice")]
     InputTwice,
-    /// OUT of `canonicalise -o OUT` is a word among the files that are read, or their list.
+    /// OUT of `-o OUT` is a word among the files that are read, or their list.
     #[error("OUT is one of the files that are read")]
     OutputIsRead,
     /// A file is missing. The text is that of clap for an argument that is required.
     #[error("{0}")]
     Missing(LineError),
-    /// `canonicalise` has more words than IN and OUT. The text is that of clap for an argument that is unknown.
+    /// There are more words than IN and OUT. The text is that of clap for an argument that is unknown.
     #[error("{0}")]
     Unexpected(LineError),
     /// Lines are texts of their own.

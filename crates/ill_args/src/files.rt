@@ -10,7 +10,7 @@ ghost use Rattle.ill_args.specs.declared.orders.Verb.{Verb};
 use crate::fault::LineFault;
 use crate::help;
 use crate::matches::{files_of, inputs_of, reads, value_of};
-use crate::orders::{Inputs, Verb};
+use crate::orders::{FormVerb, Inputs, Verb};
 use crate::program::{command_of, profiles};
 use clap::error::ErrorKind;
 use clap::{ArgMatches, Error};
@@ -63,18 +63,19 @@ pub fn one_file<'a>(words: &ArgMatches<'a>) -> Result<&'a str, LineFault>
     }
 }
 
-/// IN and OUT of `canonicalise` without `-o`.
+/// IN and OUT of a command that writes normal forms, without `-o`.
 pub fn in_and_out<'a>(
     alloc: Global,
+    form: FormVerb,
     words: &ArgMatches<'a>,
 ) -> Result<(&'a str, &'a str), LineFault>
     requires { first_of (codes "output") (rows_of (found_of words.now)) ≡ None }
     ensures two { IfOk result (λ pair.
         HasTwo (rows_of (found_of words.now)) pair.0.now pair.1.now) }
     ensures differ { IfOk result (λ pair. pair.0.now ≢ codes "-" → pair.1.now ≢ pair.0.now) }
-    ensures fault { IfErr result (IsFault Verb.Canonicalise (rows_of (found_of words.now))) }
+    ensures fault { IfErr result (IsFault (Verb.Write form) (rows_of (found_of words.now))) }
 {
-    let verb = Verb::Canonicalise;
+    let verb = Verb::Write(form);
     if value_of(words, "files-from").is_some() {
         return Err(LineFault::Missing(missing(alloc, verb, help::NO_OUTPUT)?));
     }
@@ -83,7 +84,7 @@ pub fn in_and_out<'a>(
         [_] => Err(LineFault::Missing(missing(alloc, verb, help::NO_OUT)?)),
         [input, output] if is_one_file(input, output) => Err(LineFault::SameWord),
         [input, output] => Ok((*input, *output)),
-        [_, _, word, ..] => Err(LineFault::Unexpected(unexpected(alloc, word)?)),
+        [_, _, word, ..] => Err(LineFault::Unexpected(unexpected(alloc, verb, word)?)),
     }
 }
 
@@ -101,17 +102,12 @@ fn missing(alloc: Global, verb: Verb, message: &str) -> Result<Error, AllocError
     error_of(alloc, verb, ErrorKind::MissingRequiredArgument, message)
 }
 
-/// The error of `canonicalise` with a third word.
-fn unexpected(alloc: Global, word: &str) -> Result<Error, AllocError>
+/// The error of a command with a third word.
+fn unexpected(alloc: Global, verb: Verb, word: &str) -> Result<Error, AllocError>
     ensures { IfOk result (λ e. kind_of e ≡ ErrorKind.UnknownArgument) }
 {
     let message = format!(in alloc; "unexpected argument '{word}' found")?;
-    error_of(
-        alloc,
-        Verb::Canonicalise,
-        ErrorKind::UnknownArgument,
-        &message,
-    )
+    error_of(alloc, verb, ErrorKind::UnknownArgument, &message)
 }
 
 /// The error in the words of a command, as clap reports it.

@@ -10,6 +10,7 @@
 #![tactic(auto)]
 
 mod argument;
+mod build_help;
 mod commands;
 mod fault;
 mod files;
@@ -24,6 +25,6 @@ mod topics;
 pub use fault::LineFault;
 pub use line::order;
 pub use orders::{
-    Elements, FileJob, Inputs, KeepGoing, Limit, LineResults, Messages, Order, Reading, Report,
-    Target, Verb, Work,
+    BuildResults, Building, Elements, FileJob, FormJob, FormVerb, Inputs, KeepGoing, Limit,
+    LineResults, Messages, Order, Reading, Report, Target, Verb, Work,
 };

@@ -3,10 +3,11 @@ ghost use Rattle.std.specs.Prelude.{◌≡◌, ◌≢◌, [], map, codes, true, 
 ghost use Rattle.std.specs.String.{string_bytes};
 ghost use Rattle.clap.specs.Words.{fault_of, first_of, found_of, rows_of, subcommand_of, subcommand_rows_of};
 ghost use Rattle.ill_args.specs.CommandLine.{program};
-ghost use Rattle.ill_args.specs.Orders.{is_set, HasTwo, IsOrderOf};
-ghost use Rattle.ill_args.specs.Refused.{IsFaultOf, IsRefusedBy};
+ghost use Rattle.ill_args.specs.Orders.{is_set, AreInputs, HasBuildResults, HasTwo, IsBuilding, IsOrderOf, ReadsOutput};
+ghost use Rattle.ill_args.specs.Refused.{HasFlagFault, IsFaultOf, IsRefusedBy};
 ghost use Rattle.ill_args.specs.code.Commands.{HasBoth, HasProfile, IsCommand, IsFault, IsOrder, IsWork};
 ghost use Rattle.ill_args.specs.declared.orders.FileJob.{FileJob};
+ghost use Rattle.ill_args.specs.declared.orders.FormVerb.{FormVerb};
 ghost use Rattle.ill_args.specs.declared.orders.Verb.{Verb};
 
 use crate::fault::LineFault;
@@ -15,7 +16,10 @@ use crate::flags::{check_lines, limit, messages, stops, target};
 use crate::matches::{
     is_set, matches_of, number_of, profile_of, reading_of, required, value_of, verb_of,
 };
-use crate::orders::{Elements, FileJob, LineResults, Order, Report, Verb, Work};
+use crate::orders::{
+    BuildResults, Building, Elements, FileJob, FormJob, FormVerb, Inputs, LineResults, Order,
+    Report, Verb, Work,
+};
 use clap::ArgMatches;
 use std::alloc::Global;
 
@@ -23,8 +27,8 @@ use std::alloc::Global;
 ///
 /// # Errors
 ///
-/// The report of `clap` on words that are no command line, or that ask for help. Or a file is missing, or `canonicalise` has a word more
-/// than IN and OUT. Or `same` has `-` twice, or `canonicalise` one word other than `-` for IN and OUT. Or another command has `-` twice
+/// The report of `clap` on words that are no command line, or that ask for help. Or a file is missing, or `canonicalise` or `build` has a
+/// word more than IN and OUT. Or `same` has `-` twice, or one of these two one word other than `-` for IN and OUT. Or another command has `-` twice
 /// among its files and their list, or `-o` has one of these words. Or `--lines` has no file, several, or a list, or is given with `--hex`,
 /// `--keep-going`, `--summary` or `--json`. Or `--whole` is given with standard output for OUT. Or `--refused` or
 /// `--max-refused` is given without `--keep-going`, or `--refused` with `-` or another of the command's files.
@@ -67,7 +71,7 @@ fn order_by<'a>(alloc: Global, verb: Verb, words: &ArgMatches<'a>) -> Result<Ord
         Verb::Print(job) => Ok(Order::Each(print(alloc, job, words)?)),
         Verb::Dump => Ok(Order::Each(dump(alloc, words)?)),
         Verb::Same => same(words),
-        Verb::Canonicalise => Ok(Order::Each(canonicalise(alloc, words)?)),
+        Verb::Write(form) => Ok(Order::Each(forms(alloc, form, words)?)),
     }
 }
 
@@ -145,16 +149,29 @@ fn same<'a>(words: &ArgMatches<'a>) -> Result<Order<'a>, LineFault>
     })
 }
 
-fn canonicalise<'a>(alloc: Global, words: &ArgMatches<'a>) -> Result<Work<'a>, LineFault>
+/// The work of a command that writes normal forms.
+fn forms<'a>(alloc: Global, form: FormVerb, words: &ArgMatches<'a>) -> Result<Work<'a>, LineFault>
     requires { HasProfile (rows_of (found_of words.now)) }
-    ensures order { IfOk result (IsWork Verb.Canonicalise (rows_of (found_of words.now))) }
-    ensures fault { IfErr result (IsFault Verb.Canonicalise (rows_of (found_of words.now))) }
+    ensures order { IfOk result (IsWork (Verb.Write form) (rows_of (found_of words.now))) }
+    ensures fault { IfErr result (IsFault (Verb.Write form) (rows_of (found_of words.now))) }
 {
     match value_of(words, "output") {
-        Some(output) => collect(alloc, words, output),
+        Some(output) => {
+            let inputs = inputs(alloc, Verb::Write(form), words)?;
+            if reads_output(words) {
+                return Err(LineFault::OutputIsRead);
+            }
+            match form {
+                FormVerb::Canonicalise => collect(words, inputs, output),
+                FormVerb::Build => build_all(words, inputs, output),
+            }
+        }
         None => {
-            let (input, output) = in_and_out(alloc, words)?;
-            write(words, input, output)
+            let (input, output) = in_and_out(alloc, form, words)?;
+            match form {
+                FormVerb::Canonicalise => write(words, input, output),
+                FormVerb::Build => build(words, input, output),
+            }
         }
     }
 }
@@ -164,12 +181,15 @@ fn write<'a>(words: &ArgMatches<'a>, input: &'a str, output: &'a str) -> Result<
     requires profile { HasProfile (rows_of (found_of words.now)) }
     requires two { HasTwo (rows_of (found_of words.now)) input.now output.now }
     requires differ { input.now ≢ codes "-" → output.now ≢ input.now }
-    ensures order { IfOk result (IsWork Verb.Canonicalise (rows_of (found_of words.now))) }
-    ensures fault { IfErr result (IsFault Verb.Canonicalise (rows_of (found_of words.now))) }
+    ensures order { IfOk result (IsWork (Verb.Write FormVerb.Canonicalise)
+        (rows_of (found_of words.now))) }
+    ensures fault { IfErr result (IsFault (Verb.Write FormVerb.Canonicalise)
+        (rows_of (found_of words.now))) }
 {
     if !is_set(words, "lines") {
         let output = target(words, output)?;
         return Ok(Work::Write {
+            job: FormJob::Canonicalise,
             messages: messages(words)?,
             input,
             output,
@@ -187,22 +207,23 @@ fn write<'a>(words: &ArgMatches<'a>, input: &'a str, output: &'a str) -> Result<
 
 /// The work of `canonicalise` with `-o`.
 fn collect<'a>(
-    alloc: Global,
     words: &ArgMatches<'a>,
+    inputs: Inputs<'a>,
     output: &'a str,
 ) -> Result<Work<'a>, LineFault>
     requires profile { HasProfile (rows_of (found_of words.now)) }
+    requires inputs { AreInputs (rows_of (found_of words.now)) inputs }
     requires output { first_of (codes "output") (rows_of (found_of words.now)) ≡ Some output.now }
-    ensures order { IfOk result (IsWork Verb.Canonicalise (rows_of (found_of words.now))) }
-    ensures fault { IfErr result (IsFault Verb.Canonicalise (rows_of (found_of words.now))) }
+    requires own { ReadsOutput (rows_of (found_of words.now)) → ⊥ }
+    ensures order { IfOk result (IsWork (Verb.Write FormVerb.Canonicalise)
+        (rows_of (found_of words.now))) }
+    ensures fault { IfErr result (IsFault (Verb.Write FormVerb.Canonicalise)
+        (rows_of (found_of words.now))) }
 {
-    let inputs = inputs(alloc, Verb::Canonicalise, words)?;
-    if reads_output(words) {
-        return Err(LineFault::OutputIsRead);
-    }
     if !is_set(words, "lines") {
         let output = target(words, output)?;
         return Ok(Work::Collect {
+            job: FormJob::Canonicalise,
             messages: messages(words)?,
             inputs,
             output,
@@ -217,4 +238,76 @@ fn collect<'a>(
         input,
         results: LineResults::Collect(output),
     })
+}
+
+/// The work of `build` with IN and OUT.
+fn build<'a>(words: &ArgMatches<'a>, input: &'a str, output: &'a str) -> Result<Work<'a>, LineFault>
+    requires profile { HasProfile (rows_of (found_of words.now)) }
+    requires two { HasTwo (rows_of (found_of words.now)) input.now output.now }
+    requires differ { input.now ≢ codes "-" → output.now ≢ input.now }
+    ensures order { IfOk result (IsWork (Verb.Write FormVerb.Build)
+        (rows_of (found_of words.now))) }
+    ensures fault { IfErr result (IsFault (Verb.Write FormVerb.Build)
+        (rows_of (found_of words.now))) }
+{
+    let building = building(words)?;
+    let output = target(words, output)?;
+    Ok(Work::Write {
+        job: FormJob::Build(building),
+        messages: messages(words)?,
+        input,
+        output,
+    })
+}
+
+/// The work of `build` with `-o`.
+fn build_all<'a>(
+    words: &ArgMatches<'a>,
+    inputs: Inputs<'a>,
+    output: &'a str,
+) -> Result<Work<'a>, LineFault>
+    requires profile { HasProfile (rows_of (found_of words.now)) }
+    requires inputs { AreInputs (rows_of (found_of words.now)) inputs }
+    requires output { first_of (codes "output") (rows_of (found_of words.now)) ≡ Some output.now }
+    requires own { ReadsOutput (rows_of (found_of words.now)) → ⊥ }
+    ensures order { IfOk result (IsWork (Verb.Write FormVerb.Build)
+        (rows_of (found_of words.now))) }
+    ensures fault { IfErr result (IsFault (Verb.Write FormVerb.Build)
+        (rows_of (found_of words.now))) }
+{
+    let building = building(words)?;
+    let output = target(words, output)?;
+    Ok(Work::Collect {
+        job: FormJob::Build(building),
+        messages: messages(words)?,
+        inputs,
+        output,
+    })
+}
+
+/// The way that messages are built.
+fn building(words: &ArgMatches<'_>) -> Result<Building, LineFault>
+    ensures building { IfOk result (IsBuilding (rows_of (found_of words.now))) }
+    ensures fault { IfErr result (HasFlagFault (rows_of (found_of words.now))) }
+{
+    Ok(Building {
+        results: build_results(words)?,
+        with_filename: is_set(words, "with-filename"),
+    })
+}
+
+/// The results of the lines that are built.
+fn build_results(words: &ArgMatches<'_>) -> Result<BuildResults, LineFault>
+    ensures results { IfOk result (HasBuildResults (rows_of (found_of words.now))) }
+    ensures fault { IfErr result (HasFlagFault (rows_of (found_of words.now))) }
+{
+    if is_set(words, "lines") {
+        check_lines(words)?;
+        stops(words)?;
+        return Ok(BuildResults::Lines);
+    }
+    if is_set(words, "json") {
+        return Ok(BuildResults::Json);
+    }
+    Ok(BuildResults::Messages)
 }

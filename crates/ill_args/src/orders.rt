@@ -9,7 +9,17 @@ pub enum Verb {
     Print(FileJob),
     Dump,
     Same,
+    /// The command that writes normal forms to OUT.
+    Write(FormVerb),
+}
+
+/// A command that writes normal forms to OUT.
+#[derive(Clone, Copy, Debug, PartialEq, Eq)]
+pub enum FormVerb {
+    /// Those of messages.
     Canonicalise,
+    /// Those of the messages that lines of JSON say.
+    Build,
 }
 
 /// The order of a command line. The word `-` is standard input.
@@ -45,14 +55,16 @@ pub enum Work<'a> {
         with_filename: bool,
         inputs: Inputs<'a>,
     },
-    /// The normal forms of the messages of one file, into another: `canonicalise IN OUT`.
+    /// The normal forms of the messages of one file, into another: `canonicalise IN OUT`, `build IN OUT`.
     Write {
+        job: FormJob,
         messages: Messages<'a>,
         input: &'a str,
         output: Target<'a>,
     },
-    /// The normal forms of the messages of each file, in turn, into one file: `canonicalise -o OUT`.
+    /// The normal forms of the messages of each file, in turn, into one file: `canonicalise -o OUT`, `build -o OUT`.
     Collect {
+        job: FormJob,
         messages: Messages<'a>,
         inputs: Inputs<'a>,
         output: Target<'a>,
@@ -63,6 +75,34 @@ pub enum Work<'a> {
         input: &'a str,
         results: LineResults<'a>,
     },
+}
+
+/// The source of normal forms.
+#[derive(Clone, Copy, Debug, PartialEq, Eq)]
+pub enum FormJob {
+    /// Messages.
+    Canonicalise,
+    /// Lines of JSON.
+    Build(Building),
+}
+
+/// The way that messages are built from lines of JSON.
+#[derive(Clone, Copy, Debug, PartialEq, Eq)]
+pub struct Building {
+    pub results: BuildResults,
+    /// True if each report on a line names its file, even if there is one file.
+    pub with_filename: bool,
+}
+
+/// The results of lines of JSON.
+#[derive(Clone, Copy, Debug, PartialEq, Eq)]
+pub enum BuildResults {
+    /// The messages; a line that is refused is reported.
+    Messages,
+    /// For each line a line: the message in hexadecimal, or the reason why the line is refused.
+    Lines,
+    /// For each line a line of JSON.
+    Json,
 }
 
 /// What is printed of each message.
@@ -98,7 +138,7 @@ pub enum LineResults<'a> {
 pub struct Reading {
     /// The profile that messages are read in.
     pub profile: Profile,
-    /// True if inputs are hexadecimal text.
+    /// True if messages are hexadecimal text.
     pub hex: bool,
 }
 

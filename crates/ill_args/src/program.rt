@@ -7,8 +7,7 @@ ghost use Rattle.ill_args.specs.CommandLine.{bare_program, command_for, program_
 ghost use Rattle.ill_args.specs.code.Commands.{AreAllNames};
 ghost use Rattle.ill_args.specs.code.Arguments.{rule_for};
 
-use crate::argument::{Argument, HEX, arg, profile};
-use crate::commands::CANONICALISE_USAGE;
+use crate::argument::{Argument, arg, profile};
 use crate::orders::Verb;
 use crate::{help, topics};
 use clap::Command;
@@ -35,9 +34,17 @@ pub fn command_of<'a>(
 {
     let command = by_hex(alloc, profiles, verb)?;
     let command = with_arguments(alloc, command, verb.arguments())?;
+    Ok(with_usage(command, verb))
+}
+
+/// The command with a usage of its own, if it has one.
+fn with_usage<'a>(command: Command<'a>, verb: Verb) -> Command<'a>
+    ensures app { app_of result ≡ app_of command.entry }
+    ensures local { (fields_of result).has_globals ≡ (fields_of command.entry).has_globals }
+{
     match verb {
-        Verb::Canonicalise => Ok(command.override_usage(CANONICALISE_USAGE)),
-        _ => Ok(command),
+        Verb::Write(form) => command.override_usage(form.usage()),
+        _ => command,
     }
 }
 
@@ -49,7 +56,7 @@ fn by_hex<'a>(alloc: Global, profiles: &'a [&'a str], verb: Verb) -> Result<Comm
     Command::new(alloc, verb.name())
         .about(verb.about())
         .after_help(verb.after_help())
-        .arg(arg(alloc, HEX))?
+        .arg(arg(alloc, verb.hex()))?
         .arg(profile(alloc, profiles))
 }
 

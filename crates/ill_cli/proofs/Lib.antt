@@ -1,3 +1,4 @@
+pub mod Builds
 pub mod InTurn
 pub mod Puts
 pub mod Statuses

@@ -4,6 +4,7 @@ use Rattle.ill_inputs.specs.declared.run_fault.RunFault.{RunFault}
 use Rattle.ill_normal.specs.Messages.{counted}
 use Rattle.ill_normal.specs.declared.report.RefusalReport.{RefusalReport}
 use Rattle.ill_normal.specs.declared.counts.Counts.{Counts}
+use Rattle.ill_cli.specs.declared.build.BuildCounts.{BuildCounts}
 use Rattle.ill_cli.specs.declared.summary.LeftAt.{LeftAt}
 use Rattle.ill_cli.specs.declared.summary.Summary.{Summary}
 
@@ -34,6 +35,14 @@ with_messages s messages good octets = record s {
 -- so many refused messages more
 abbrev pub with_refused : Summary → ℕ → Summary
 with_refused s count = record s { refused = counted (s.refused + count) }
+
+-- lines more, of which messages were built, or which are refused
+abbrev pub with_lines : Summary → BuildCounts → Summary
+with_lines s counts = record s {
+  normal = counted (s.normal + counts.built);
+  refused = counted (s.refused + counts.refused);
+  octets = counted (s.octets + counts.octets);
+}
 
 -- so many of the refused messages more are only not read
 abbrev pub with_not_read : Summary → ℕ → Summary

@@ -93,8 +93,8 @@ IsStatusOfLines (LineResults.Collect output) status = IsStatusOfCommand IsCollec
 abbrev pub IsStatusOfWork : Work → ℕ → Type 0
 IsStatusOfWork (Work.Print job json with_filename messages inputs) status = IsStatusOfCommand IsPrintStatus status
 IsStatusOfWork (Work.Dump elements with_filename inputs) status = IsStatusOfCommand IsPrintStatus status
-IsStatusOfWork (Work.Write messages input output) status = IsStatusOfOne status
-IsStatusOfWork (Work.Collect messages inputs output) status = IsStatusOfCommand IsCollectStatus status
+IsStatusOfWork (Work.Write job messages input output) status = IsStatusOfOne status
+IsStatusOfWork (Work.Collect job messages inputs output) status = IsStatusOfCommand IsCollectStatus status
 IsStatusOfWork (Work.Lines profile input results) status = IsStatusOfLines results status
 
 -- the exit status of an order: that of the work, and of the line of numbers

@@ -1,3 +1,4 @@
+pub mod Builds
 pub mod Counts
 pub mod Ends
 pub mod Limit

@@ -6,16 +6,20 @@ use Rattle.ill_commands.specs.declared.job.JobOptions.{JobOptions}
 use Rattle.ill_walk.specs.declared.markup.DumpFormat.{DumpFormat}
 use Rattle.ill_walk.specs.declared.markup.DumpFormat.TheVariants.{Html, Text}
 use Rattle.ill_dump.specs.declared.run.DumpOptions.{DumpOptions}
-use Rattle.ill_commands.specs.Lines.{line_options}
+use Rattle.ill_commands.specs.HexLines.{line_options}
 use Rattle.ill_commands.specs.declared.lines.job.LineJob.{LineJob}
+use Rattle.ill_args.specs.declared.orders.BuildResults.{BuildResults}
 use Rattle.ill_args.specs.declared.orders.Elements.{Elements}
 use Rattle.ill_args.specs.declared.orders.FileJob.{FileJob}
+use Rattle.ill_args.specs.declared.orders.FormJob.{FormJob}
 use Rattle.ill_args.specs.declared.orders.LineResults.{LineResults}
 use Rattle.ill_args.specs.declared.orders.Messages.{Messages}
 use Rattle.ill_args.specs.declared.orders.Reading.{Reading}
 use Rattle.ill_args.specs.declared.orders.Report.{Report}
 use Rattle.ill_args.specs.declared.orders.Work.{Work}
 use Rattle.ill_normal.specs.declared.messages.OnRefusal.{OnRefusal}
+use Rattle.ill_cli.specs.declared.build.BuildForm.{BuildForm}
+use Rattle.ill_cli.specs.declared.build.BuildOptions.{BuildOptions}
 use Rattle.ill_cli.specs.declared.plan.Action.{Action}
 use Rattle.ill_cli.specs.declared.plan.InputAction.{InputAction}
 use Rattle.ill_cli.specs.declared.plan.ReadOptions.{ReadOptions}
@@ -44,12 +48,24 @@ line_job_of (LineResults.Report Report.Check) = LineJob.Check
 line_job_of (LineResults.Report Report.Digest) = LineJob.Digest
 line_job_of _ = LineJob.Canonicalise
 
+-- the results of lines that are built; `--hex` asks for digits
+abbrev pub build_form_of : BuildResults → Bool → BuildForm
+build_form_of BuildResults.Messages hex = if hex then BuildForm.Digits else BuildForm.Octets
+build_form_of BuildResults.Lines hex = BuildForm.Lines
+build_form_of BuildResults.Json hex = BuildForm.Json
+
+-- normal forms of messages, or of what lines say
+abbrev pub form_action_of : FormJob → Messages → Action
+form_action_of FormJob.Canonicalise messages = Action.Messages Job.Canonicalise (read_options_of messages false)
+form_action_of (FormJob.Build building) messages =
+    Action.Build (build_form_of building.results messages.reading.hex) (read_options_of messages building.with_filename)
+
 -- what an order does with each of its inputs
 abbrev pub action_of : Work → Action
 action_of (Work.Print job json with_filename messages inputs) = Action.Messages (job_of job json) (read_options_of messages with_filename)
 action_of (Work.Dump elements with_filename inputs) = Action.Elements elements with_filename
-action_of (Work.Write messages input output) = Action.Messages Job.Canonicalise (read_options_of messages false)
-action_of (Work.Collect messages inputs output) = Action.Messages Job.Canonicalise (read_options_of messages false)
+action_of (Work.Write job messages input output) = form_action_of job messages
+action_of (Work.Collect job messages inputs output) = form_action_of job messages
 action_of (Work.Lines profile input results) = Action.Lines (line_options profile (line_job_of results))
 
 -- the results of messages are lines of JSON
@@ -63,6 +79,7 @@ abbrev pub names_inputs : Action → Bool
 names_inputs (Action.Messages job reading) = reading.names_inputs
 names_inputs (Action.Elements elements with_filename) = with_filename || elements.html
 names_inputs (Action.Lines options) = false
+names_inputs (Action.Build form reading) = reading.names_inputs
 
 -- what is written of all inputs is one HTML document
 abbrev pub is_document : Action → Bool
@@ -100,8 +117,24 @@ dump_of elements with_filename name count = record {
   on_refusal = on_refusal_of (is_some elements.keep_going) OnRefusal.EndWith;
 }
 
+-- each line has its result by `--lines`, so that none ends the work
+abbrev pub is_by_lines : BuildForm → Bool
+is_by_lines BuildForm.Lines = true
+is_by_lines _ = false
+
+-- the same for lines that are built
+abbrev pub building_of : BuildForm → ReadOptions → Bor (List ℕ) → ℕ → BuildOptions
+building_of form reading name count = record {
+  form = form;
+  profile = reading.profile;
+  name = name;
+  names_input = reading.names_inputs || nat_lt 1 count;
+  goes_on = reading.keep_going || is_by_lines form;
+}
+
 -- what is done with the input of this name, one of this many
 abbrev pub input_action_of : Action → Bor (List ℕ) → ℕ → InputAction
 input_action_of (Action.Messages job reading) name count = InputAction.Messages (options_of job reading name count)
 input_action_of (Action.Elements elements with_filename) name count = InputAction.Elements (dump_of elements with_filename name count)
 input_action_of (Action.Lines work) name count = InputAction.Lines work
+input_action_of (Action.Build form reading) name count = InputAction.Build (building_of form reading name count)

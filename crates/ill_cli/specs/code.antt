@@ -1,3 +1,4 @@
 pub mod Puts
 pub mod Results
 pub mod Tallied
+pub mod Kept

@@ -147,6 +147,9 @@ impl<'r, R: Print + Eprint + Input + Files + AllocGlobal + Host> Run<'_, 'r, '_,
             Ok(file) => file,
             Err(error) => return Ok(Err(error)),
         };
+        if self.action.escapes_names() {
+            return self.append_input(InputAction::new(self.action, file, count), file, to);
+        }
         match printed(alloc, file) {
             Ok(name) => self.append_input(InputAction::new(self.action, &name, count), file, to),
             Err(_) => Ok(Err(ProgramError::out_of_memory())),

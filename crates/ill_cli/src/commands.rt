@@ -6,7 +6,7 @@ ghost use Rattle.ill_cli.specs.Ends.{IsClosedStatus, IsStatusOfLines, IsStatusOf
 use crate::compare::compare;
 use crate::plan::{Action, ReadOptions};
 use crate::run::Run;
-use crate::summary::{JsonSummary, Summary};
+use crate::summary::{JsonSummary, LineSummary, Summary};
 use crate::tally::{Tally, end};
 use ill_args::{Inputs, LineResults, Order, Work, order};
 use ill_files::{
@@ -70,6 +70,7 @@ fn run_work<R: Print + Eprint + Input + Files + AllocGlobal + Host>(rt: &R, work
     };
     let tally = Tally::new(is_counted, work.max_refused(), &progress);
     let is_json = work.has_json_reports();
+    let counts_lines = Action::new(&work).counts_lines();
     let (status, summary) = run_inputs(rt, work, tally);
     if !is_counted {
         return status;
@@ -79,7 +80,11 @@ fn run_work<R: Print + Eprint + Input + Files + AllocGlobal + Host>(rt: &R, work
         return print_json(rt, JsonSummary(summary), status);
     }
     // A line that can't be written changes nothing of the work.
-    let _ = eprintln!(rt; "illcanon: {summary}");
+    let _ = if counts_lines {
+        eprintln!(rt; "illcanon: {}", LineSummary(summary))
+    } else {
+        eprintln!(rt; "illcanon: {summary}")
+    };
     status
 }
 

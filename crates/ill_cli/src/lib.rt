@@ -9,6 +9,8 @@
 //! ```
 #![tactic(auto)]
 
+mod build;
+mod build_report;
 mod collect;
 mod commands;
 mod compare;
@@ -25,7 +27,9 @@ mod summary;
 mod tally;
 mod write;
 
+pub use build::{BuildCounts, BuildForm, BuildOptions};
+pub use build_report::{BuildReport, WhyUnbuilt};
 pub use commands::{run_order, run_program};
 pub use plan::{Action, InputAction, ReadOptions};
 pub use report_lines::ReportLine;
-pub use summary::{JsonSummary, LeftAt, Summary};
+pub use summary::{JsonSummary, LeftAt, LineSummary, Summary};

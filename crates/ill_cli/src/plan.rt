@@ -1,8 +1,12 @@
 //! Actions of orders: what is done with each input, by which flags.
 ghost use Rattle.std.specs.Prelude.{◌≡◌};
-ghost use Rattle.ill_cli.specs.Plans.{action_of, format_if, input_action_of, is_document, job_of, line_job_of, names_inputs, on_refusal_of, read_options_of};
+ghost use Rattle.ill_cli.specs.Plans.{action_of, build_form_of, form_action_of, format_if, input_action_of, is_document, job_of, line_job_of, names_inputs, on_refusal_of, read_options_of};
 
-use ill_args::{Elements, FileJob, LineResults, Messages, Reading, Report, Work};
+use crate::build::{BuildForm, BuildOptions};
+use ill_args::{
+    BuildResults, Building, Elements, FileJob, FormJob, LineResults, Messages, Reading, Report,
+    Work,
+};
 use ill_commands::{Job, JobOptions, LineJob, LineOptions};
 use ill_dump::{DumpFormat, DumpOptions};
 use ill_normal::OnRefusal;
@@ -36,6 +40,8 @@ pub enum Action {
     },
     /// A result for each line.
     Lines(LineOptions),
+    /// A message of each line of JSON.
+    Build(BuildForm, ReadOptions),
 }
 
 impl Action {
@@ -64,8 +70,8 @@ impl Action {
                 elements: *elements,
                 names_inputs: *with_filename,
             },
-            Work::Write { messages, .. } | Work::Collect { messages, .. } => {
-                Action::Messages(Job::Canonicalise, read_options(*messages, false))
+            Work::Write { job, messages, .. } | Work::Collect { job, messages, .. } => {
+                form_action(*job, *messages)
             }
             Work::Lines {
                 profile,
@@ -78,12 +84,18 @@ impl Action {
         }
     }
 
-    /// Tells whether lines are JSON.
-    pub fn is_json(&self) -> bool {
+    /// Tells whether what is written of an input has escapes of its own for the input's name.
+    pub fn escapes_names(&self) -> bool {
         match self {
             Action::Messages(job, _) => job.is_json(),
+            Action::Build(..) => true,
             Action::Elements { .. } | Action::Lines(_) => false,
         }
+    }
+
+    /// Tells whether each line of an input counts, and not each message.
+    pub fn counts_lines(&self) -> bool {
+        matches!(self, Action::Build(..))
     }
 
     /// Tells whether lines name their input, even if there is one input.
@@ -91,7 +103,7 @@ impl Action {
         ensures { result ≡ names_inputs self.now }
     {
         match self {
-            Action::Messages(_, reading) => reading.names_inputs,
+            Action::Messages(_, reading) | Action::Build(_, reading) => reading.names_inputs,
             Action::Elements {
                 elements,
                 names_inputs,
@@ -106,8 +118,35 @@ impl Action {
     {
         match self {
             Action::Elements { elements, .. } => elements.html,
-            Action::Messages(..) | Action::Lines(_) => false,
+            Action::Messages(..) | Action::Lines(_) | Action::Build(..) => false,
         }
+    }
+}
+
+/// The action that writes normal forms.
+fn form_action(job: FormJob, messages: Messages<'_>) -> Action
+    ensures { result ≡ form_action_of job messages.entry }
+{
+    match job {
+        FormJob::Canonicalise => {
+            Action::Messages(Job::Canonicalise, read_options(messages, false))
+        }
+        FormJob::Build(building) => Action::Build(
+            build_form(building.results, messages.reading.hex),
+            read_options(messages, building.with_filename),
+        ),
+    }
+}
+
+/// The form of the results of lines that are built.
+fn build_form(results: BuildResults, hex: bool) -> BuildForm
+    ensures { result ≡ build_form_of results hex }
+{
+    match results {
+        BuildResults::Messages if hex => BuildForm::Digits,
+        BuildResults::Messages => BuildForm::Octets,
+        BuildResults::Lines => BuildForm::Lines,
+        BuildResults::Json => BuildForm::Json,
     }
 }
 
@@ -202,6 +241,8 @@ pub enum InputAction<'a> {
     Elements(DumpOptions<'a>),
     /// A result for each line.
     Lines(LineOptions),
+    /// A message of each line of JSON.
+    Build(BuildOptions<'a>),
 }
 
 impl<'a> InputAction<'a> {
@@ -237,6 +278,13 @@ impl<'a> InputAction<'a> {
                 on_refusal: on_refusal(elements.keep_going.is_some(), OnRefusal::EndWith),
             }),
             Action::Lines(work) => InputAction::Lines(work),
+            Action::Build(form, reading) => InputAction::Build(BuildOptions {
+                form,
+                profile: reading.profile,
+                name,
+                names_input: reading.names_inputs || count > 1,
+                goes_on: reading.keep_going || form == BuildForm::Lines,
+            }),
         }
     }
 }

@@ -98,8 +98,7 @@ impl<'r, R: Print + Eprint + Input + Files + AllocGlobal + Host> Run<'_, 'r, '_,
     fn print_named(&mut self, name: &[u8], count: usize) -> Result<Verdict, ProgramError> {
         let alloc = self.rt.alloc();
         let file = text_of(alloc, name)?;
-        // JSON has its own escapes for names.
-        if self.action.is_json() {
+        if self.action.escapes_names() {
             return self.print_input(InputAction::new(self.action, file, count), file);
         }
         let name = printed(alloc, file).map_err(|_| ProgramError::out_of_memory())?;

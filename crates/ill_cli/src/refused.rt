@@ -4,6 +4,7 @@ ghost use Rattle.ill_cli.specs.Ends.{IsClosedStatus};
 
 use crate::tally::Tally;
 use ber_core::{ToWrite, put_all};
+use ill_build::LINE_LIMIT;
 use ill_files::{
     Count, FileId, FileNameRef, Host, Output, OutputDestination, OutputOf, ProgramError, ToOutput,
     are_one_target, close_output, open_output, print_error_of,
@@ -19,16 +20,19 @@ use std::{fs, str};
 pub struct RefusedFile<'a, 'r, R: Print + Files> {
     rt: &'r R,
     name: Option<&'a str>,
+    /// True if lines are written to it, and not messages.
+    is_of_lines: bool,
     destination: Option<OutputDestination<'a>>,
     output: OutputOf<'r, R>,
 }
 
 impl<'a, 'r, R: Print + Eprint + Files + AllocGlobal> RefusedFile<'a, 'r, R> {
-    /// The file with this name, if there is one. It is not open yet.
-    pub fn named(rt: &'r R, name: Option<&'a str>) -> RefusedFile<'a, 'r, R> {
+    /// The file with this name, if there is one, for messages or lines. It is not open yet.
+    pub fn named(rt: &'r R, name: Option<&'a str>, is_of_lines: bool) -> RefusedFile<'a, 'r, R> {
         RefusedFile {
             rt,
             name,
+            is_of_lines,
             destination: None,
             output: Output::new(),
         }
@@ -90,10 +94,13 @@ impl<'a, 'r, R: Print + Eprint + Files + AllocGlobal + Host> RefusedFile<'a, 'r,
         }
         if tally.not_kept > 0 && !keep {
             let name = FileNameRef(name.as_bytes());
-            let count = Count(tally.not_kept, "refused message");
-            let _ = eprintln!(rt;
-                "illcanon: {name} is without {count}: too long, or of an unknown end"
-            );
+            let _ = if self.is_of_lines {
+                let count = Count(tally.not_kept, "refused line");
+                eprintln!(rt; "illcanon: {name} is without {count}: too long")
+            } else {
+                let count = Count(tally.not_kept, "refused message");
+                eprintln!(rt; "illcanon: {name} is without {count}: too long, or of an unknown end")
+            };
         }
         status
     }
@@ -150,13 +157,35 @@ impl<'o, P: Write + Drop, Q: Write + Drop> KeepRefused<'o, P, Q> {
 
     /// Writes the octets of a message if they are complete and its end is known, so that the next one begins after it.
     pub fn keep(&mut self, report: RefusalReport, octets: &[u8]) {
+        if report.octets == Some(octets.len() as u64) {
+            self.write(octets);
+        } else {
+            self.leave_out();
+        }
+    }
+
+    /// Writes a line and its end, unless it is too long, so that not all of it is here.
+    pub fn keep_line(&mut self, text: &[u8]) {
+        if text.len() <= LINE_LIMIT {
+            self.write(text);
+            self.write(b"\n");
+        } else {
+            self.leave_out();
+        }
+    }
+
+    /// Counts what is not written, if there is a file.
+    fn leave_out(&mut self) {
+        if self.output.is_some() {
+            self.not_kept = self.not_kept.saturating_add(1);
+        }
+    }
+
+    /// Writes octets, if there is a file.
+    fn write(&mut self, octets: &[u8]) {
         let Some(output) = self.output else {
             return;
         };
-        if report.octets != Some(octets.len() as u64) {
-            self.not_kept = self.not_kept.saturating_add(1);
-            return;
-        }
         let mut sink = ToWrite::new(ToOutput {
             output,
             is_direct: false,

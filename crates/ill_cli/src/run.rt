@@ -4,6 +4,7 @@ ghost use Rattle.ill_normal.specs.Calls.{Taking, taking};
 ghost use Rattle.ill_cli.specs.Counts.{with_file};
 ghost use Rattle.ill_cli.specs.code.Puts.{AreResultsPut, IsPut, after_first};
 
+use crate::build::{BuildCounts, BuildLines, put_lines_built};
 use crate::input::{put_elements, put_lines, put_messages};
 use crate::limit::RefusalLimit;
 use crate::plan::{Action, InputAction};
@@ -42,7 +43,7 @@ impl<'a, 'r, 'p, R: Print + Eprint + Files + AllocGlobal> Run<'a, 'r, 'p, R> {
             rt,
             action,
             tally,
-            refused: RefusedFile::named(rt, refused),
+            refused: RefusedFile::named(rt, refused, action.counts_lines()),
         }
     }
 
@@ -108,6 +109,17 @@ impl<'a, 'r, 'p, R: Print + Eprint + Files + AllocGlobal> Run<'a, 'r, 'p, R> {
                     is_direct: true,
                 });
                 put_lines(self.rt.alloc(), work, source, &mut sink)
+            }
+            InputAction::Build(work) => {
+                let lines = BuildLines {
+                    rt: self.rt,
+                    work,
+                    progress: self.tally.progress,
+                    kept: self.refused.keeper(),
+                    limit: self.tally.limit,
+                    counts: BuildCounts::NONE,
+                };
+                put_lines_built(lines, source, &mut sink_to(output), &mut self.tally)
             }
         }
     }

@@ -1,7 +1,8 @@
 //! The line of numbers at the end of a command.
 ghost use Rattle.std.specs.Prelude.{◌≡◌};
-ghost use Rattle.ill_cli.specs.Counts.{left_after, messages_of, place_of_report, with_counts, with_file, with_left, with_not_read, with_report, with_unopened, without_file};
+ghost use Rattle.ill_cli.specs.Counts.{left_after, messages_of, place_of_report, with_counts, with_file, with_left, with_lines, with_not_read, with_report, with_unopened, without_file};
 
+use crate::build::BuildCounts;
 use ill_files::Count;
 use ill_inputs::RunFault;
 use ill_normal::{Counts, RefusalReport};
@@ -90,6 +91,15 @@ impl Summary {
         self.octets = self.octets.saturating_add(report.octets.unwrap_or(0));
     }
 
+    /// Counts the lines of an input that were built: a message is in normal form.
+    pub fn add_lines(&mut self, counts: BuildCounts)
+        ensures { self.new ≡ with_lines self.old counts }
+    {
+        self.normal = self.normal.saturating_add(counts.built);
+        self.refused = self.refused.saturating_add(counts.refused);
+        self.octets = self.octets.saturating_add(counts.octets);
+    }
+
     /// Counts refused messages that are only not read.
     pub fn add_not_read(&mut self, count: u32)
         ensures { self.new ≡ with_not_read self.old count }
@@ -117,8 +127,7 @@ impl fmt::Display for Summary {
             refused,
             not_read: _,
             octets,
-            unopened,
-            left,
+            ..
         } = *self;
         let files = Count(files, "file");
         let messages = Count(messages, "message");
@@ -127,14 +136,43 @@ impl fmt::Display for Summary {
             f,
             "{files}, {messages}, {normal} normal, {not_normal} not normal, {refused} refused, {octets}"
         )?;
-        if unopened > 0 {
-            write!(f, ", {unopened} not opened")?;
-        }
-        if left > 0 {
-            write!(f, ", {left} left before the end")?;
-        }
-        Ok(())
+        fmt_unread(*self, f)
     }
+}
+
+/// The numbers of files of which each line counts.
+#[derive(Clone, Copy)]
+pub struct LineSummary(pub Summary);
+
+impl fmt::Display for LineSummary {
+    fn fmt<W: fmt::Write>(&self, f: &mut fmt::Formatter<W>) -> fmt::Result {
+        let LineSummary(summary) = *self;
+        let files = Count(summary.files, "file");
+        let lines = Count(summary.messages(), "line");
+        let Summary {
+            normal,
+            refused,
+            ..
+        } = summary;
+        let octets = Count(summary.octets, "octet");
+        write!(
+            f,
+            "{files}, {lines}, {normal} built, {refused} refused, {octets}"
+        )?;
+        fmt_unread(summary, f)
+    }
+}
+
+/// Writes how many files were not opened, or left before the end, if there are any.
+fn fmt_unread<W: fmt::Write>(summary: Summary, f: &mut fmt::Formatter<W>) -> fmt::Result {
+    let Summary { unopened, left, .. } = summary;
+    if unopened > 0 {
+        write!(f, ", {unopened} not opened")?;
+    }
+    if left > 0 {
+        write!(f, ", {left} left before the end")?;
+    }
+    Ok(())
 }
 
 /// The numbers as a line of JSON.

@@ -1,6 +1,7 @@
 //! Results of one input, written to a file.
 ghost use Rattle.ill_cli.specs.Ends.{IsStatusOfOne};
 
+use crate::build::BuildForm;
 use crate::plan::{Action, InputAction};
 use crate::refused::OtherFiles;
 use crate::run::Run;
@@ -56,7 +57,7 @@ impl<'r, R: Print + Eprint + Input + Files + AllocGlobal + Host> Run<'_, 'r, '_,
         let done = self.put(task, &mut source, &output);
         let keep = keeps_output(whole, &done);
         let done = close_output(rt, &output, destination, keep, done);
-        if keep && matches!(self.action, Action::Lines(_)) && matches!(done, Ok(Verdict::NotGood)) {
+        if keep && is_by_lines(self.action) && matches!(done, Ok(Verdict::NotGood)) {
             // A line that can't be written changes nothing of the work.
             let _ = eprintln!(rt;
                 "illcanon: {} stays as it was: not every line is a message",
@@ -65,6 +66,14 @@ impl<'r, R: Print + Eprint + Input + Files + AllocGlobal + Host> Run<'_, 'r, '_,
         }
         done
     }
+}
+
+/// Tells whether each line of the input has its result, so that no line is reported.
+fn is_by_lines(action: Action) -> bool {
+    matches!(
+        action,
+        Action::Lines(_) | Action::Build(BuildForm::Lines | BuildForm::Json, _)
+    )
 }
 
 /// Tells whether an output may be the file that standard input is read from, where the system doesn't say which that is.

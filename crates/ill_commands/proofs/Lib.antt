@@ -5,4 +5,5 @@ pub mod JobAnswers
 pub mod TextAnswers
 pub mod PairAnswers
 pub mod LineEnds
+pub mod HexLineEnds
 pub mod MadeResults

@@ -22,7 +22,9 @@ pub use ill_normal::{
     read_at_most, read_hex, text_octets,
 };
 pub use job::{Job, JobOptions, verdict_of};
-pub use lines::{LineJob, LineOptions, run_lines, run_lines_as};
+pub use lines::{
+    AnswerLines, LineJob, LineOptions, LineVerdict, answer_lines, run_lines, run_lines_as,
+};
 pub use messages::{run, run_as, run_job, run_with};
 pub use refused::{RefusedLine, refused_json};
 pub use same::{run_same, run_same_as};

@@ -4,11 +4,13 @@
 //! ```
 //! let all_good = run_lines(alloc, LineJob::Check, &mut source, &mut sink)?;
 //! ```
+mod answer;
 mod job;
 mod reader;
 mod result;
 mod run;
 mod words;
 
+pub use answer::{AnswerLines, LineVerdict};
 pub use job::{LineJob, LineOptions};
-pub use run::{run_lines, run_lines_as};
+pub use run::{answer_lines, run_lines, run_lines_as};

@@ -1,3 +1,4 @@
 pub mod Json
 pub mod Results
+pub mod Built
 pub mod code

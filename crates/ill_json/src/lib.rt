@@ -8,6 +8,7 @@
 #![tactic(auto)]
 
 mod ascii;
+mod built;
 mod leaf;
 mod line;
 mod module_leaf;
@@ -16,6 +17,7 @@ mod result;
 mod value;
 mod writing;
 
+pub use built::{LinePlace, Unbuilt, built_line, unbuilt_line};
 pub use ill_inputs::RefusalPlace;
 pub use line::{LineHead, json_line};
 pub use result::{RefusalKind, RefusedHead, refused_line, result_line};

@@ -3,7 +3,7 @@ ghost use Rattle.std.specs.Prelude.{◌≡◌, ◌++◌, codes, IfOk, option_map
 ghost use Rattle.json.specs.Tree.{json_tokens};
 ghost use Rattle.ill_schema.specs.Names.{cause_part_name_of, dotted_name};
 ghost use Rattle.ill_json.specs.Results.{kind_name, refused_json, refused_line_of, result_json, result_line_of, why_json};
-ghost use Rattle.ill_json.specs.code.Adding.{Adds, count_tokens, digest_tokens, text_tokens};
+ghost use Rattle.ill_json.specs.code.Adding.{Adds, digest_tokens, text_tokens};
 
 use crate::line::{LineHead, put_file, put_normal, put_start};
 use crate::place::put_place;
@@ -165,38 +165,11 @@ fn put_refused(
     out.count(head.number as u64);
     out.put(Token::Key("offset"));
     out.count(head.offset);
-    put_octets(head.octets, out);
-    put_apdu(apdu, out);
+    out.count_if("octets", head.octets);
+    out.text_if("apdu", apdu);
     out.put(Token::Key("refused"));
     put_why(head.refusal, head.kind, place, out);
     out.put(Token::EndObject);
-}
-
-/// Puts the member of a number of octets, if it is known.
-fn put_octets(octets: Option<u64>, out: &mut LineWriter)
-    ensures { Adds (count_tokens (codes "octets") octets) out.old out.new }
-{
-    match octets {
-        Some(count) => {
-            out.put(Token::Key("octets"));
-            out.count(count);
-        }
-        None => {}
-    }
-}
-
-/// Puts the member of an APDU's name, if it is given.
-fn put_apdu(apdu: Option<&str>, out: &mut LineWriter)
-    ensures { Adds (text_tokens (codes "apdu") (option_map (λ name. name.now) apdu.entry)) out.old
-        out.new }
-{
-    match apdu {
-        Some(name) => {
-            out.put(Token::Key("apdu"));
-            out.put(Token::String(name));
-        }
-        None => {}
-    }
 }
 
 /// Puts the object that says why a message is refused.

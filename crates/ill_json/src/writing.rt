@@ -1,5 +1,5 @@
 //! The text that is made, a token at a time.
-ghost use Rattle.std.specs.Prelude.{◌≡◌, ◌++◌, ℕ, List, [], ◌∷◌, false, codes, decimal, flat_map, IfOk, OnOk, string_bytes, vec_capacity};
+ghost use Rattle.std.specs.Prelude.{◌≡◌, ◌++◌, ℕ, List, [], ◌∷◌, false, codes, decimal, flat_map, IfOk, OnOk, option_map, string_bytes, vec_capacity};
 ghost use Rattle.std.specs.Fmt.{signed_decimal};
 ghost use Rattle.std.specs.Str.{chars};
 ghost use Rattle.json.specs.Print.{IsPrintable, print};
@@ -28,7 +28,7 @@ pub struct LineWriter {
 }
 
 impl LineWriter {
-    ghost use Rattle.ill_json.specs.code.Adding.{Adds};
+    ghost use Rattle.ill_json.specs.code.Adding.{Adds, count_tokens, text_tokens};
 
     /// No text yet, in the memory of `buffer`, whose octets are forgotten.
     pub fn new(alloc: Global, buffer: Vec<u8>) -> LineWriter
@@ -81,6 +81,33 @@ impl LineWriter {
     {
         if self.writer.u64(count).is_err() {
             self.failed = true;
+        }
+    }
+
+    /// Puts the member of a count, if there is one.
+    pub fn count_if(&mut self, name: &str, count: Option<u64>)
+        ensures { Adds (count_tokens name.now count) self.old self.new }
+    {
+        match count {
+            Some(count) => {
+                self.put(Token::Key(name));
+                self.count(count);
+            }
+            None => {}
+        }
+    }
+
+    /// Puts the member of a text, if there is one.
+    pub fn text_if(&mut self, name: &str, text: Option<&str>)
+        ensures { Adds (text_tokens name.now (option_map (λ text. text.now) text.entry)) self.old
+            self.new }
+    {
+        match text {
+            Some(text) => {
+                self.put(Token::Key(name));
+                self.put(Token::String(text));
+            }
+            None => {}
         }
     }
 

@@ -1,14 +1,17 @@
 -- What was found is one command, with one list of rows; so is each part of its order.
-use Rattle.std.proofs.Common.{◌≡◌, ℕ, Bool, true, IfOk, List, [], ◌∷◌, Option, Some, None, is_some, Result, Ok, unwrap_or, option_map, codes, length, arith, refl, sym, ap, ap₂, subst, ◌∙◌}
+use Rattle.std.proofs.Common.{◌≡◌, ℕ, Bool, true, false, IfOk, List, [], ◌∷◌, Option, Some, None, is_some, Result, Ok, unwrap_or, option_map, codes, length, arith, refl, sym, ap, ap₂, subst, ◌∙◌}
 use Rattle.std.specs.Prelude.{find, if◌then◌else◌}
 use Rattle.std.specs.Str.{bytes_eq}
 use Rattle.clap.specs.Walk.{Row, Text, first_of}
 use Rattle.ill_args.specs.CommandLine.{all_verbs, profile_name, verb_name}
-use Rattle.ill_args.specs.Orders.{is_set, target_name, verb, verb_of_results, verb_of_work, AreElements, AreMessages, HasInputs, HasResults, HasWords, HasWork, IsByMessage, IsKeepGoing, IsLimit, IsOptionNumber, IsOrderOf, IsReading, IsTarget, NamesProfile}
+use Rattle.ill_args.specs.Orders.{form_verb, is_set, target_name, verb, verb_of_results, verb_of_work, AreElements, AreMessages, HasBuildResults, HasFormJob, HasInputs, HasResults, HasWords, HasWork, IsByMessage, IsKeepGoing, IsLimit, IsOptionNumber, IsOrderOf, IsReading, IsTarget, NamesProfile}
 use Rattle.ill_tables.specs.declared.profile.Profile.{Profile}
 use Rattle.ill_args.specs.declared.fault.LineFault.{LineFault}
 use Rattle.ill_args.specs.declared.orders.Elements.{Elements}
+use Rattle.ill_args.specs.declared.orders.BuildResults.{BuildResults}
 use Rattle.ill_args.specs.declared.orders.FileJob.{FileJob}
+use Rattle.ill_args.specs.declared.orders.FormJob.{FormJob}
+use Rattle.ill_args.specs.declared.orders.FormVerb.{FormVerb}
 use Rattle.ill_args.specs.declared.orders.Inputs.{Inputs}
 use Rattle.ill_args.specs.declared.orders.KeepGoing.{KeepGoing}
 use Rattle.ill_args.specs.declared.orders.Limit.{Limit}
@@ -30,6 +33,8 @@ verb_again : (v : Verb) → verb_of (verb_name v) ≡ v
 verb_again (Verb.Print (FileJob.Report Report.Check)) = refl
 verb_again (Verb.Print (FileJob.Report _)) = refl
 verb_again (Verb.Print _) = refl
+verb_again (Verb.Write FormVerb.Build) = refl
+verb_again (Verb.Write _) = refl
 verb_again _ = refl
 
 pub verb_is : (v w : Verb) → verb_name v ≡ verb_name w → v ≡ w
@@ -90,8 +95,8 @@ one_target rows (Target.File name whole) (Target.File name' whole') e h k = (e, 
 abbrev form_of_work : Work → ℕ
 form_of_work (Work.Print job json with_filename messages inputs) = 0
 form_of_work (Work.Dump elements with_filename inputs) = 1
-form_of_work (Work.Write messages input output) = 2
-form_of_work (Work.Collect messages inputs output) = 3
+form_of_work (Work.Write job messages input output) = 2
+form_of_work (Work.Collect job messages inputs output) = 3
 form_of_work (Work.Lines profile input results) = 4
 
 abbrev form_of : Order → ℕ
@@ -103,7 +108,8 @@ form_in (Verb.Print (FileJob.Report report)) lines collects = if lines then 4 el
 form_in (Verb.Print _) lines collects = 0
 form_in Verb.Dump lines collects = 1
 form_in Verb.Same lines collects = 5
-form_in Verb.Canonicalise lines collects = if lines then 4 else if collects then 3 else 2
+form_in (Verb.Write FormVerb.Canonicalise) lines collects = if lines then 4 else if collects then 3 else 2
+form_in (Verb.Write FormVerb.Build) lines collects = if collects then 3 else 2
 
 form_of_job : (rows : List Row) (job : FileJob) (collects : Bool) → IsByMessage rows job → 0 ≡ form_in (Verb.Print job) (is_set (codes "lines") rows) collects
 form_of_job rows (FileJob.Report report) collects h = rw h refl
@@ -113,11 +119,16 @@ form_of_results : (results : LineResults) (collects : Bool) → 4 ≡ form_in (v
 form_of_results (LineResults.Report report) collects = refl
 form_of_results _ collects = refl
 
+-- of normal forms, by the two files or by `-o`
+form_of_forms : (rows : List Row) (job : FormJob) (collects : Bool) → HasFormJob rows job → (if collects then 3 else 2) ≡ form_in (Verb.Write (form_verb job)) (is_set (codes "lines") rows) collects
+form_of_forms rows FormJob.Canonicalise collects h = rw h refl
+form_of_forms rows (FormJob.Build building) collects h = refl
+
 form_is : (rows : List Row) (order : Order) → HasWords rows order → form_of order ≡ form_in (verb order) (is_set (codes "lines") rows) (is_some (first_of (codes "output") rows))
 form_is rows (Order.Each (Work.Print job json with_filename messages inputs)) h = form_of_job rows job _ h.0
 form_is rows (Order.Each (Work.Dump elements with_filename inputs)) h = refl
-form_is rows (Order.Each (Work.Write messages input output)) h = rw (h.0, h.2.words.2) refl
-form_is rows (Order.Each (Work.Collect messages inputs output)) h = rw (h.0, h.3.word) refl
+form_is rows (Order.Each (Work.Write job messages input output)) h = rw h.2.words.2 (form_of_forms rows job false h.0)
+form_is rows (Order.Each (Work.Collect job messages inputs output)) h = rw h.3.word (form_of_forms rows job true h.0)
 form_is rows (Order.Each (Work.Lines profile input results)) h = rw h.1.lines (form_of_results results _)
 form_is rows (Order.Compare reading first second) h = refl
 
@@ -157,6 +168,28 @@ one_elements rows a b h k =
     elements_are a.reading b.reading a.keep_going b.keep_going a.message b.message a.html b.html (one_reading rows a.reading b.reading h.reading k.reading)
     (one_limit rows a.keep_going b.keep_going h.keep_going k.keep_going) (one_number _ a.message b.message h.message k.message) (h.html ∙ sym k.html)
 
+-- what is built, and from what, is given by the words
+one_built : (rows : List Row) (r s : BuildResults) → HasBuildResults rows r → HasBuildResults rows s → r ≡ s
+one_built rows BuildResults.Messages BuildResults.Messages h k = refl
+one_built rows BuildResults.Messages BuildResults.Lines h k = absurd (let e = sym h.0 ∙ k.lines in cc)
+one_built rows BuildResults.Messages BuildResults.Json h k = absurd (let e = sym h.1 ∙ k.1 in cc)
+one_built rows BuildResults.Lines BuildResults.Messages h k = absurd (let e = sym k.0 ∙ h.lines in cc)
+one_built rows BuildResults.Lines BuildResults.Lines h k = refl
+one_built rows BuildResults.Lines BuildResults.Json h k = absurd (let e = sym k.0 ∙ h.lines in cc)
+one_built rows BuildResults.Json BuildResults.Messages h k = absurd (let e = sym k.1 ∙ h.1 in cc)
+one_built rows BuildResults.Json BuildResults.Lines h k = absurd (let e = sym h.0 ∙ k.lines in cc)
+one_built rows BuildResults.Json BuildResults.Json h k = refl
+
+one_form : (rows : List Row) (job job' : FormJob) → form_verb job ≡ form_verb job' → HasFormJob rows job → HasFormJob rows job' → job ≡ job'
+one_form rows FormJob.Canonicalise FormJob.Canonicalise e h k = refl
+one_form rows FormJob.Canonicalise (FormJob.Build building) e h k = absurd cc
+one_form rows (FormJob.Build building) FormJob.Canonicalise e h k = absurd cc
+one_form rows (FormJob.Build building) (FormJob.Build other) e h k =
+    ap₂ (λ (r : BuildResults) (x : Bool). FormJob.Build (record { results = r; with_filename = x })) (one_built rows building.results other.results h.results k.results) (h.names ∙ sym k.names)
+
+write_is : {f g : FormVerb} → Verb.Write f ≡ Verb.Write g → f ≡ g
+write_is e = cc
+
 one_work : (rows : List Row) (one other : Work) → form_of_work one ≡ form_of_work other → verb_of_work one ≡ verb_of_work other → HasWork rows one → HasWork rows other → IsSameWork one other
 one_work rows (Work.Print job json named messages inputs) (Work.Print job' json' named' messages' inputs') f e h k = (
   cc,
@@ -167,10 +200,11 @@ one_work rows (Work.Print job json named messages inputs) (Work.Print job' json'
 )
 one_work rows (Work.Dump elements named inputs) (Work.Dump elements' named' inputs') f e h k =
     (one_elements rows elements elements' h.0 k.0, h.1 ∙ sym k.1, one_inputs rows inputs inputs' h.2.files k.2.files)
-one_work rows (Work.Write messages input output) (Work.Write messages' input' output') f e h k =
+one_work rows (Work.Write job messages input output) (Work.Write job' messages' input' output') f e h k =
     let two = two_files _ input.now (target_name output) input'.now (target_name output') h.2.words.0 k.2.words.0 in
-    (one_messages rows messages messages' h.1 k.1, two.0, one_target rows output output' two.1 h.2.target k.2.target)
-one_work rows (Work.Collect messages inputs output) (Work.Collect messages' inputs' output') f e h k = (
+    (one_form rows job job' (write_is e) h.0 k.0, one_messages rows messages messages' h.1 k.1, two.0, one_target rows output output' two.1 h.2.target k.2.target)
+one_work rows (Work.Collect job messages inputs output) (Work.Collect job' messages' inputs' output') f e h k = (
+  one_form rows job job' (write_is e) h.0 k.0,
   one_messages rows messages messages' h.1 k.1,
   one_inputs rows inputs inputs' h.2.files k.2.files,
   one_target rows output output' (some_is _ _ (sym h.3.word ∙ k.3.word)) h.3.target k.3.target,
@@ -213,8 +247,8 @@ given found r one e h = subst (λ x. IfOk x (IsOrderOf found)) e h
 names_profile : (rows : List Row) (order : Order) → HasWords rows order → NamesProfile rows (profile_of order)
 names_profile rows (Order.Each (Work.Print job json named messages inputs)) h = h.3.reading.profile
 names_profile rows (Order.Each (Work.Dump elements named inputs)) h = h.0.reading.profile
-names_profile rows (Order.Each (Work.Write messages input output)) h = h.1.reading.profile
-names_profile rows (Order.Each (Work.Collect messages inputs output)) h = h.1.reading.profile
+names_profile rows (Order.Each (Work.Write job messages input output)) h = h.1.reading.profile
+names_profile rows (Order.Each (Work.Collect job messages inputs output)) h = h.1.reading.profile
 names_profile rows (Order.Each (Work.Lines profile input results)) h = h.0
 names_profile rows (Order.Compare reading first second) h = h.0.profile
 

@@ -16,8 +16,8 @@ use Rattle.ill_args.specs.declared.orders.Work.{Work}
 abbrev pub profile_of_work : Work → Profile
 profile_of_work (Work.Print job json with_filename messages inputs) = messages.reading.profile
 profile_of_work (Work.Dump elements with_filename inputs) = elements.reading.profile
-profile_of_work (Work.Write messages input output) = messages.reading.profile
-profile_of_work (Work.Collect messages inputs output) = messages.reading.profile
+profile_of_work (Work.Write job messages input output) = messages.reading.profile
+profile_of_work (Work.Collect job messages inputs output) = messages.reading.profile
 profile_of_work (Work.Lines profile input results) = profile
 
 abbrev pub profile_of : Order → Profile
@@ -47,8 +47,8 @@ abbrev pub IsSameWork : Work → Work → Type 0
 IsSameWork (Work.Print job json named messages inputs) (Work.Print job' json' named' messages' inputs') =
     (job ≡ job') × (json ≡ json') × (named ≡ named') × IsSameMessages messages messages' × IsSameInputs inputs inputs'
 IsSameWork (Work.Dump elements named inputs) (Work.Dump elements' named' inputs') = (elements ≡ elements') × (named ≡ named') × IsSameInputs inputs inputs'
-IsSameWork (Work.Write messages input output) (Work.Write messages' input' output') = IsSameMessages messages messages' × (input.now ≡ input'.now) × IsSameTarget output output'
-IsSameWork (Work.Collect messages inputs output) (Work.Collect messages' inputs' output') = IsSameMessages messages messages' × IsSameInputs inputs inputs' × IsSameTarget output output'
+IsSameWork (Work.Write job messages input output) (Work.Write job' messages' input' output') = (job ≡ job') × IsSameMessages messages messages' × (input.now ≡ input'.now) × IsSameTarget output output'
+IsSameWork (Work.Collect job messages inputs output) (Work.Collect job' messages' inputs' output') = (job ≡ job') × IsSameMessages messages messages' × IsSameInputs inputs inputs' × IsSameTarget output output'
 IsSameWork (Work.Lines profile input results) (Work.Lines profile' input' results') = (profile ≡ profile') × (input.now ≡ input'.now) × IsSameResults results results'
 IsSameWork _ _ = ⊥
 

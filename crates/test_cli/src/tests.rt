@@ -1,4 +1,5 @@
 //! The whole program over a runtime of ours, with files of the host; and what it prints where it fails.
+mod builds;
 mod commands;
 mod contracts;
 mod files;

@@ -1,5 +1,6 @@
 -- What comes of the work on an input, by the action on it. What an output holds is not known, so that some output is meant.
 use Rattle.std.specs.Prelude.{◌≡◌, ◌==◌, ℕ, Bool, true, false, Option, None, Some, Result, Ok, Err, IfOk, IfErr, if◌then◌else◌, nat_lt}
+use Rattle.ill_commands.specs.HexLines.{HexAnswers}
 use Rattle.ill_commands.specs.Lines.{LinesDone, LinesFail}
 use Rattle.ill_commands.specs.Output.{verdict_of_counts}
 use Rattle.ill_commands.specs.Runs.{RunsJob}
@@ -17,10 +18,14 @@ use Rattle.ill_normal.specs.Reading.{reporting}
 use Rattle.ill_normal.specs.declared.counts.Counts.{Counts}
 use Rattle.ill_normal.specs.declared.messages.OnRefusal.{OnRefusal}
 use Rattle.ill_normal.specs.declared.messages.StreamEnd.{StreamEnd}
+use Rattle.ill_cli.specs.Builds.{BuildAnswers}
 use Rattle.ill_cli.specs.Counts.{with_not_read}
+use Rattle.ill_cli.specs.Limit.{error_at}
 use Rattle.ill_cli.specs.Plans.{is_json_result}
 use Rattle.ill_cli.specs.code.Results.{RunsResults}
 use Rattle.ill_cli.specs.code.Tallied.{Tallies}
+use Rattle.ill_cli.specs.declared.build.BuildOptions.{BuildOptions}
+use Rattle.ill_cli.specs.declared.limit.RefusalLimit.{RefusalLimit}
 use Rattle.ill_cli.specs.declared.plan.InputAction.{InputAction}
 use Rattle.ill_cli.specs.declared.summary.Summary.{Summary}
 use Rattle.ill_cli.specs.declared.tally.Tally.{Tally}
@@ -92,14 +97,28 @@ AreElementsPut dump source summary new done =
 -- the lines of an input were done, or the work on them failed
 abbrev pub LinesAnswer : LineOptions → Taking → Result Bool RunFault → Type 0
 LinesAnswer work source answer = (output : Putting)
-    × IfOk answer (λ good. LinesDone work source.left source.left' output.held output.held' good)
-    × IfErr answer (λ fault. LinesFail work source output fault)
+    × IfOk answer (λ good. LinesDone (HexAnswers work) source.left source.left' output.held output.held' good)
+    × IfErr answer (λ fault. LinesFail (HexAnswers work) source output fault)
 
 abbrev pub AreResultLinesPut : LineOptions → Taking → Result Verdict ProgramError → Type 0
 AreResultLinesPut work source done = (answer : Result Bool RunFault) × LinesAnswer work source answer × (done ≡ lines_verdict answer)
+
+-- the verdict of work on lines that are built: where it goes on after lines that are refused, it ends with one only if no more are asked for
+abbrev pub built_verdict : Bool → RefusalLimit → Result Bool RunFault → Result Verdict ProgramError
+built_verdict goes_on limit (Ok good) = Ok (verdict_if good)
+built_verdict goes_on limit (Err RunFault.NotReported) = if goes_on then Err (error_at limit) else Ok Verdict.NotGood
+built_verdict goes_on limit (Err fault) = Err (ProgramError.Run (record { 0 = fault }))
+
+-- the lines of an input were built, or the work on them ended early
+abbrev pub AreLinesBuilt : BuildOptions → Taking → Result Verdict ProgramError → Type 0
+AreLinesBuilt work source done = (answer : Result Bool RunFault) × (output : Putting) × (limit : RefusalLimit)
+    × IfOk answer (λ good. LinesDone (BuildAnswers work) source.left source.left' output.held output.held' good)
+    × IfErr answer (λ fault. LinesFail (BuildAnswers work) source output fault)
+    × (done ≡ built_verdict work.goes_on limit answer)
 
 -- what was asked for was done with an input, and its counts were added to these
 abbrev pub IsPut : InputAction → Taking → Summary → Tally → Result Verdict ProgramError → Type 0
 IsPut (InputAction.Messages work) source summary new done = AreMessagesPut (is_json_result work.job) work source summary new done
 IsPut (InputAction.Elements dump) source summary new done = AreElementsPut dump source summary new done
 IsPut (InputAction.Lines work) source summary new done = AreResultLinesPut work source done × (new.summary ≡ summary)
+IsPut (InputAction.Build work) source summary new done = AreLinesBuilt work source done

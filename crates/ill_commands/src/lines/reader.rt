@@ -1,24 +1,21 @@
 //! The line that is being read, and the results that wait to be written.
-ghost use Rattle.std.specs.Prelude.{◌≡◌, ◌++◌, ◌<◌, ◌≤◌, ℕ, List, [], length, take, slice_index, true, false, IfOk, OnOk, OnErr};
+ghost use Rattle.std.specs.Prelude.{◌≡◌, ◌++◌, ◌<◌, ◌≤◌, ℕ, List, [], length, take, slice_index, true, false, IfErr, IfOk, OnOk, OnErr};
 ghost use Rattle.ill_commands.specs.Lines.{has_line_end};
-ghost use Rattle.ill_commands.specs.code.After.{Answers, IsSame, StandsAfter};
+ghost use Rattle.ill_commands.specs.code.After.{IsAnswered, IsSame, StandsAfter, StopsAfter};
 
-use crate::lines::job::LineOptions;
-use crate::lines::result::result_of;
-use ill_normal::{MAX_HEX_TEXT, NormalReader};
+use crate::lines::answer::{AnswerLines, LineVerdict};
+use ill_normal::RunFault;
 use std::alloc::{AllocError, Global};
 
 /// The octets of the line that has not ended, and the results that were not written.
 #[derive(Drop)]
 pub struct LineReader {
-    /// The octets of the line, up to the one that makes them too many.
+    /// The octets of the line that are kept.
     pub part: Vec<u8>,
-    /// The results of the lines before, a line for each.
+    /// The results of the lines before.
     pub ready: Vec<u8>,
-    /// True if all results are good.
+    /// True if all lines before are good.
     pub is_good: bool,
-    /// The reader of the message of each line.
-    reader: NormalReader,
 }
 
 impl LineReader {
@@ -32,7 +29,6 @@ impl LineReader {
             part: Vec::new(alloc),
             ready: Vec::new(alloc),
             is_good: true,
-            reader: NormalReader::new(alloc),
         }
     }
 
@@ -40,59 +36,71 @@ impl LineReader {
     ///
     /// # Errors
     ///
-    /// Out of memory: some of the octets were not read, and the results of the lines before are there.
-    pub fn feed(
-        &mut self,
-        alloc: Global,
-        work: LineOptions,
-        octets: &[u8],
-    ) -> Result<(), AllocError>
-        ensures all { (s put : List ℕ) → StandsAfter work s put self.old
-            → OnOk result (StandsAfter work (s ++ octets.now) put self.new) }
-        ensures some { (s put : List ℕ) → StandsAfter work s put self.old
-            → OnErr result ((n : ℕ) × StandsAfter work (s ++ take n octets.now) put self.new) }
+    /// `OutOfMemory`: some of the octets were not read, and the results of the lines before are there. `NotReported`: the work ended with a
+    /// line, whose result is there, too.
+    pub fn feed<A: AnswerLines>(&mut self, answerer: &mut A, octets: &[u8]) -> Result<(), RunFault>
+        ensures same { A.options answerer.new ≡ A.options answerer.old }
+        ensures all { (s put : List ℕ)
+            → StandsAfter (A.answers (A.options answerer.old))
+            (A.kept_len (A.options answerer.old)) false s put self.old
+            → OnOk result (StandsAfter (A.answers (A.options answerer.old))
+            (A.kept_len (A.options answerer.old)) false (s ++ octets.now) put self.new) }
+        ensures some { (s put : List ℕ)
+            → StandsAfter (A.answers (A.options answerer.old))
+            (A.kept_len (A.options answerer.old)) false s put self.old
+            → IfErr result (StopsAfter (A.answers (A.options answerer.old))
+            (A.kept_len (A.options answerer.old)) s octets.now put self.new) }
     {
         let mut at = 0;
         'lines: while at < octets.len() {
-            at += self.feed_line(alloc, work, &octets[at..])?;
+            at += self.feed_line(answerer, &octets[at..])?;
         }
         Ok(())
     }
 
     /// Reads the octets up to the first line feed, and returns how many it read.
     #[inline(always)]
-    fn feed_line(
+    fn feed_line<A: AnswerLines>(
         &mut self,
-        alloc: Global,
-        work: LineOptions,
+        answerer: &mut A,
         octets: &[u8],
-    ) -> Result<usize, AllocError>
+    ) -> Result<usize, RunFault>
+        ensures same { A.options answerer.new ≡ A.options answerer.old }
         ensures bound { IfOk result (λ n. n ≤ length octets.now) }
         ensures more { 0 < length octets.now → IfOk result (λ n. 0 < n) }
-        ensures done { (s put : List ℕ) → StandsAfter work s put self.old
-            → IfOk result (λ n. StandsAfter work (s ++ take n octets.now) put self.new) }
-        ensures some { (s put : List ℕ) → StandsAfter work s put self.old
-            → OnErr result ((n : ℕ) × StandsAfter work (s ++ take n octets.now) put self.new) }
+        ensures done { (s put : List ℕ)
+            → StandsAfter (A.answers (A.options answerer.old))
+            (A.kept_len (A.options answerer.old)) false s put self.old
+            → IfOk result (λ n. StandsAfter (A.answers (A.options answerer.old))
+            (A.kept_len (A.options answerer.old)) false (s ++ take n octets.now) put self.new) }
+        ensures some { (s put : List ℕ)
+            → StandsAfter (A.answers (A.options answerer.old))
+            (A.kept_len (A.options answerer.old)) false s put self.old
+            → IfErr result (StopsAfter (A.answers (A.options answerer.old))
+            (A.kept_len (A.options answerer.old)) s octets.now put self.new) }
     {
         let size = line_size(octets);
-        self.keep(&octets[..size])?;
+        self.keep(answerer.kept_len(), &octets[..size])?;
         if size == octets.len() {
             return Ok(size);
         }
-        self.end_line(alloc, work)?;
+        let verdict = self.end_line(answerer)?;
+        if verdict.is_last() {
+            return Err(RunFault::NotReported);
+        }
         Ok(size + 1)
     }
 
-    /// Keeps octets of the line, unless more are there than it may have.
+    /// Keeps octets of the line, unless as many are there as are kept of one.
     #[inline(always)]
-    fn keep(&mut self, octets: &[u8]) -> Result<(), AllocError>
-        ensures kept { (rest : List ℕ) → self.old.part.items ≡ take 4_194_305 rest
-            → OnOk result (self.new.part.items ≡ take 4_194_305 (rest ++ octets.now)) }
+    fn keep(&mut self, most: usize, octets: &[u8]) -> Result<(), AllocError>
+        ensures kept { (rest : List ℕ) → self.old.part.items ≡ take most rest
+            → OnOk result (self.new.part.items ≡ take most (rest ++ octets.now)) }
         ensures same { OnErr result (self.new.part.items ≡ self.old.part.items) }
         ensures ready { self.new.ready.items ≡ self.old.ready.items }
         ensures good { self.new.is_good ≡ self.old.is_good }
     {
-        let room = (MAX_HEX_TEXT + 1).saturating_sub(self.part.len());
+        let room = most.saturating_sub(self.part.len());
         if octets.len() <= room {
             self.part.extend_from_slice(octets)
         } else {
@@ -105,20 +113,17 @@ impl LineReader {
     /// # Errors
     ///
     /// Out of memory. Nothing has changed.
-    pub fn end_line(&mut self, alloc: Global, work: LineOptions) -> Result<(), AllocError>
-        ensures answers { OnOk result (Answers work self.old.part.items self.old self.new) }
+    pub fn end_line<A: AnswerLines>(&mut self, answerer: &mut A) -> Result<LineVerdict, AllocError>
+        ensures options { A.options answerer.new ≡ A.options answerer.old }
+        ensures answers { IfOk result (λ verdict.
+            IsAnswered (A.answers (A.options answerer.old)) (A.kept_len (A.options answerer.old))
+            self.old.part.items verdict self.old self.new) }
         ensures same { OnErr result (IsSame self.old self.new) }
     {
-        let found = result_of(alloc, &mut self.reader, work, &self.part)?;
-        let before = self.ready.len();
-        self.ready.extend_from_slice(&found.words)?;
-        if self.ready.push(b'\n').is_err() {
-            self.ready.truncate(before);
-            return Err(AllocError);
-        }
-        self.is_good = self.is_good && found.is_good;
+        let verdict = answerer.answer(&self.part, &mut self.ready)?;
+        self.is_good = self.is_good && verdict.is_good();
         self.part.clear();
-        Ok(())
+        Ok(verdict)
     }
 }
 

@@ -1,18 +1,21 @@
 //! The lines of an input, from a source to a sink.
-ghost use Rattle.std.specs.Prelude.{◌≡◌, ◌+◌, ◌^◌, ◌<◌, ◌≤◌, ℕ, Bool, List, [], Option, take, length, IfOk, IfErr, OnOk, IsTrue};
+ghost use Rattle.std.specs.Prelude.{◌≡◌, ◌+◌, ◌^◌, ◌<◌, ◌≤◌, ℕ, Bool, false, List, [], Option, take, length, IfOk, IfErr, OnOk, IsTrue};
 ghost use Rattle.std.specs.Io.KnownBytes.{Appends, Consumes, IsAtEnd};
 ghost use Rattle.ill_inputs.specs.declared.run_fault.RunFault.{RunFault};
 ghost use Rattle.ill_normal.specs.Calls.{putting, taking};
 ghost use Rattle.ill_tables.specs.declared.profile.Profile.{Profile as Named};
-ghost use Rattle.ill_commands.specs.Lines.{EndsWithin, LinesDone, LinesFail, line_options};
+ghost use Rattle.ill_commands.specs.HexLines.{HexAnswers, line_options};
+ghost use Rattle.ill_commands.specs.Lines.{EndsWithin, LinesDone, LinesFail};
 ghost use Rattle.ill_commands.specs.code.After.{HasWritten};
 
+use crate::lines::answer::AnswerLines;
 use crate::lines::job::{LineJob, LineOptions};
 use crate::lines::reader::LineReader;
+use crate::lines::result::HexLines;
 use ber_core::{Broken, Sink, Source, put_all};
 use ill_normal::RunFault;
 use ill_schema::Profile;
-use std::alloc::{AllocError, Global};
+use std::alloc::Global;
 
 /// The number of octets that are asked of the source at once.
 const READ_LEN: usize = 16_384;
@@ -37,9 +40,9 @@ pub fn run_lines<R: Source, W: Sink>(
     source: &mut R,
     sink: &mut W,
 ) -> Result<bool, RunFault>
-    ensures done { IfOk result (LinesDone (line_options Named.Two job) (R.left source.old)
+    ensures done { IfOk result (LinesDone (HexAnswers (line_options Named.Two job)) (R.left source.old)
         (R.left source.new) (W.contents sink.old) (W.contents sink.new)) }
-    ensures fails { IfErr result (LinesFail (line_options Named.Two job)
+    ensures fails { IfErr result (LinesFail (HexAnswers (line_options Named.Two job))
         (taking (R.left source.old) (R.left source.new) (R.is_broken source.new))
         (putting (W.contents sink.old) (W.contents sink.new) (W.is_broken sink.new))) }
     ensures source_stays { IsTrue (R.is_broken source.old) → IsTrue (R.is_broken source.new) }
@@ -66,28 +69,36 @@ pub fn run_lines_as<R: Source, W: Sink>(
     source: &mut R,
     sink: &mut W,
 ) -> Result<bool, RunFault>
-    ensures done { IfOk result (LinesDone (line_options profile job) (R.left source.old)
+    ensures done { IfOk result (LinesDone (HexAnswers (line_options profile job)) (R.left source.old)
         (R.left source.new) (W.contents sink.old) (W.contents sink.new)) }
-    ensures fails { IfErr result (LinesFail (line_options profile job)
+    ensures fails { IfErr result (LinesFail (HexAnswers (line_options profile job))
         (taking (R.left source.old) (R.left source.new) (R.is_broken source.new))
         (putting (W.contents sink.old) (W.contents sink.new) (W.is_broken sink.new))) }
     ensures source_stays { IsTrue (R.is_broken source.old) → IsTrue (R.is_broken source.new) }
     ensures sink_stays { IsTrue (W.is_broken sink.old) → IsTrue (W.is_broken sink.new) }
 {
-    run_with(alloc, LineOptions { profile, job }, source, sink)
+    let mut answerer = HexLines::new(alloc, LineOptions { profile, job });
+    answer_lines(alloc, &mut answerer, source, sink)
 }
 
-/// Does the work with each line.
-fn run_with<R: Source, W: Sink>(
+/// Answers each line of an input, and writes the results. Before more input is asked for, the results of all lines that ended are put into
+/// the sink. Memory doesn't grow with the number of lines. Returns whether all lines are good.
+///
+/// # Errors
+///
+/// `OutOfMemory`: the results of the lines before were written. `NotReported`: the work ended with the last line that was answered, whose
+/// result was written, too. `ReadFault`: the results of all lines that the source gave whole were written. `WriteFault(n)`: exactly the
+/// first n octets of the results were written. There is no other.
+pub fn answer_lines<A: AnswerLines, R: Source, W: Sink>(
     alloc: Global,
-    work: LineOptions,
+    answerer: &mut A,
     source: &mut R,
     sink: &mut W,
 ) -> Result<bool, RunFault>
-    ensures done { IfOk result (LinesDone work (R.left source.old) (R.left source.new)
-        (W.contents sink.old) (W.contents sink.new)) }
-    ensures fails { IfErr result
-        (LinesFail work (taking (R.left source.old) (R.left source.new) (R.is_broken source.new))
+    ensures done { IfOk result (LinesDone (A.answers (A.options answerer.old))
+        (R.left source.old) (R.left source.new) (W.contents sink.old) (W.contents sink.new)) }
+    ensures fails { IfErr result (LinesFail (A.answers (A.options answerer.old))
+        (taking (R.left source.old) (R.left source.new) (R.is_broken source.new))
         (putting (W.contents sink.old) (W.contents sink.new) (W.is_broken sink.new))) }
     ensures source_stays { IsTrue (R.is_broken source.old) → IsTrue (R.is_broken source.new) }
     ensures sink_stays { IsTrue (W.is_broken sink.old) → IsTrue (W.is_broken sink.new) }
@@ -97,11 +108,11 @@ fn run_with<R: Source, W: Sink>(
     let mut written = 0;
     for turn in 0..u64::MAX {
         let count = match source.take(&mut buffer) {
-            Ok(0) => return finish(alloc, work, &mut lines, written, sink),
+            Ok(0) => return finish(answerer, &mut lines, written, sink),
             Ok(count) => count,
             Err(Broken) => return Err(RunFault::ReadFault),
         };
-        let fed = lines.feed(alloc, work, &buffer[..count]);
+        let fed = lines.feed(answerer, &buffer[..count]);
         written = put_ready(&mut lines, written, sink)?;
         fed?;
     }
@@ -110,28 +121,34 @@ fn run_with<R: Source, W: Sink>(
 }
 
 /// Answers the last line, where it has no end, and writes its result, after `written` octets of others.
-fn finish<W: Sink>(
-    alloc: Global,
-    work: LineOptions,
+fn finish<A: AnswerLines, W: Sink>(
+    answerer: &mut A,
     lines: &mut LineReader,
     written: u128,
     sink: &mut W,
 ) -> Result<bool, RunFault>
     requires fits { written + 2 ^ 64 < 2 ^ 128 }
     ensures done { (s : List ℕ) (first left left' : Option (List ℕ)) → Consumes left left' s
-        → IsAtEnd left' → HasWritten work s first (W.contents sink.old) lines.old
-        → IfOk result (LinesDone work left left' first (W.contents sink.new)) }
+        → IsAtEnd left' → HasWritten (A.answers (A.options answerer.old))
+        (A.kept_len (A.options answerer.old)) false s first (W.contents sink.old) lines.old
+        → IfOk result (LinesDone (A.answers (A.options answerer.old)) left left' first
+        (W.contents sink.new)) }
     ensures fails { (s : List ℕ) (first : Option (List ℕ)) (x : Bool)
-        → (h : HasWritten work s first (W.contents sink.old) lines.old) → written ≡ length h.0
-        → IfErr result (EndsWithin work s x (putting first (W.contents sink.new)
-        (W.is_broken sink.new))) }
+        → (h : HasWritten (A.answers (A.options answerer.old))
+        (A.kept_len (A.options answerer.old)) false s first (W.contents sink.old) lines.old)
+        → written ≡ length h.0
+        → IfErr result (EndsWithin (A.answers (A.options answerer.old)) s x (putting first
+        (W.contents sink.new) (W.is_broken sink.new))) }
     ensures stays { IsTrue (W.is_broken sink.old) → IsTrue (W.is_broken sink.new) }
 {
     if lines.part.is_empty() {
         return Ok(lines.is_good);
     }
-    lines.end_line(alloc, work)?;
+    let verdict = lines.end_line(answerer)?;
     put_ready(lines, written, sink)?;
+    if verdict.is_last() {
+        return Err(RunFault::NotReported);
+    }
     Ok(lines.is_good)
 }
 

@@ -4,7 +4,7 @@ ghost use Rattle.std.specs.Prelude.{◌≡◌};
 ghost use Rattle.ill_cli.specs.Plans.{read_options_of};
 
 use ber_core::{Pieces, Source};
-use ill_args::{FileJob, Inputs, LineResults, Messages, Reading, Report, Target, Work};
+use ill_args::{FileJob, FormJob, Inputs, LineResults, Messages, Reading, Report, Target, Work};
 use ill_cli::{Action, InputAction, ReadOptions};
 use ill_commands::{Job, LineJob, LineOptions, OnRefusal, Verdict};
 use ill_files::{Opened, ProgramError, is_output_lost, keeps_output, status_of};
@@ -46,6 +46,7 @@ fn options_of(messages: Messages<'_>, names_inputs: bool) -> ReadOptions
 /// `canonicalise` makes normal forms, of hexadecimal text where that is asked for.
 fn canonicalise_makes_normal_forms<'a>(messages: Messages<'a>, input: &'a str, output: Target<'a>) {
     let work = Work::Write {
+        job: FormJob::Canonicalise,
         messages,
         input,
         output,

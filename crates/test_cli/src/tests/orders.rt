@@ -2,7 +2,7 @@
 mod contracts;
 
 use clap::error::ErrorKind;
-use ill_args::{LineFault, LineResults, Order, Work, order};
+use ill_args::{BuildResults, FormJob, LineFault, LineResults, Order, Work, order};
 use ill_tables::Profile;
 use std::alloc::{AllocError, Global};
 use std::test::Fail;
@@ -11,7 +11,7 @@ use std::test::Fail;
 type Flags = [bool; 7];
 
 /// Words after the program's name, and the flags that they set.
-static ROWS: [(&str, Flags); 11] = [
+static ROWS: [(&str, Flags); 18] = [
     ("check A", [false, false, false, false, false, false, false]),
     (
         "check --hex A",
@@ -53,10 +53,38 @@ static ROWS: [(&str, Flags); 11] = [
         "canonicalise --whole A B",
         [false, false, false, false, false, true, false],
     ),
+    (
+        "build --hex A B",
+        [true, false, false, false, false, false, false],
+    ),
+    (
+        "build --lines A B",
+        [false, true, false, false, false, false, false],
+    ),
+    (
+        "build --lines -o C A B",
+        [false, true, false, false, false, false, false],
+    ),
+    (
+        "build --keep-going A B",
+        [false, false, true, false, false, false, false],
+    ),
+    (
+        "build --json A B",
+        [false, false, false, true, false, false, false],
+    ),
+    (
+        "build --summary --whole A B",
+        [false, false, false, false, true, true, false],
+    ),
+    (
+        "build -H -o C A B",
+        [false, false, false, false, false, false, true],
+    ),
 ];
 
 /// Each command, and words for its files.
-static COMMANDS: [(&str, &str); 7] = [
+static COMMANDS: [(&str, &str); 9] = [
     ("show", "A"),
     ("check", "A"),
     ("digest", "A"),
@@ -64,6 +92,8 @@ static COMMANDS: [(&str, &str); 7] = [
     ("same", "A B"),
     ("canonicalise", "A B"),
     ("canonicalise", "-o B A"),
+    ("build", "A B"),
+    ("build", "-o B A"),
 ];
 
 /// The program's name, and words that are parted by blanks.
@@ -113,22 +143,24 @@ fn flags_of_work(work: &Work<'_>) -> Flags {
             *with_filename,
         ],
         Work::Write {
+            job,
             messages,
             output,
             ..
         }
         | Work::Collect {
+            job,
             messages,
             output,
             ..
         } => [
             messages.reading.hex,
-            false,
+            has_results(*job, BuildResults::Lines),
             messages.keep_going.is_some(),
-            false,
+            has_results(*job, BuildResults::Json),
             messages.summary,
             output.is_whole(),
-            false,
+            matches!(job, FormJob::Build(building) if building.with_filename),
         ],
         Work::Lines { results, .. } => [
             false,
@@ -140,6 +172,11 @@ fn flags_of_work(work: &Work<'_>) -> Flags {
             false,
         ],
     }
+}
+
+/// Tells whether lines of JSON are built with these results.
+fn has_results(job: FormJob, results: BuildResults) -> bool {
+    matches!(job, FormJob::Build(building) if building.results == results)
 }
 
 /// Tells whether an output of lines is replaced only if every line was good.
@@ -285,9 +322,10 @@ fn is_same_word(alloc: Global, words: &str) -> Result<bool, AllocError> {
 }
 
 #[test]
-fn only_two_commands_have_the_same_word(rt: HostRuntime) -> Result<(), Fail> {
+fn only_some_commands_have_the_same_word(rt: HostRuntime) -> Result<(), Fail> {
     assert!(rt; is_same_word(rt.alloc(), "same - -")?);
     assert!(rt; is_same_word(rt.alloc(), "canonicalise A A")?);
+    assert!(rt; is_same_word(rt.alloc(), "build A A")?);
     for words in ["show - -", "canonicalise - -", "canonicalise -o A A"] {
         assert!(rt; !is_same_word(rt.alloc(), words)?, "{words}");
     }
@@ -296,7 +334,12 @@ fn only_two_commands_have_the_same_word(rt: HostRuntime) -> Result<(), Fail> {
 
 #[test]
 fn only_files_are_replaced_as_a_whole(rt: HostRuntime) -> Result<(), Fail> {
-    for words in ["canonicalise --whole A -", "canonicalise --whole -o - A"] {
+    for words in [
+        "canonicalise --whole A -",
+        "canonicalise --whole -o - A",
+        "build --whole A -",
+        "build --whole -o - A",
+    ] {
         let words = words_of(rt.alloc(), words)?;
         let is_refused = matches!(order(rt.alloc(), &words), Err(LineFault::WholeNeedsFile));
         assert!(rt; is_refused, "{words:?}");

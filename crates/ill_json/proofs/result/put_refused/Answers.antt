@@ -7,6 +7,6 @@ pub returns : goal.returns
 returns c =
     adds_then _ _ _ _ _ c.put.ensures (adds_as _ _ _ _ (file_member _ _) (adds_then _ _ _ _ _ c.put_file.ensures
     (adds_then _ _ _ _ _ c.put-2.ensures (adds_then _ _ _ _ _ c.count.ensures (adds_then _ _ _ _ _ c.put-3.ensures (adds_then _ _ _ _ _ c.count-2.ensures
-    (adds_as _ _ _ _ (count_member (codes "octets") _ _) (adds_then _ _ _ _ _ c.put_octets.ensures
-    (adds_as _ _ _ _ (text_member (codes "apdu") _ _) (adds_then _ _ _ _ _ c.put_apdu.ensures
+    (adds_as _ _ _ _ (count_member (codes "octets") _ _) (adds_then _ _ _ _ _ c.count_if.ensures
+    (adds_as _ _ _ _ (text_member (codes "apdu") _ _) (adds_then _ _ _ _ _ c.text_if.ensures
     (adds_then _ _ _ _ _ c.put-4.ensures (adds_then _ _ _ _ _ c.put_why.ensures c.put-5.ensures))))))))))))

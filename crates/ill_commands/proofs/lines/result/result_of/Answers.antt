@@ -1,5 +1,5 @@
 use Rattle.std.proofs.Common.{IfOk, Ok, sym, subst}
-use Rattle.ill_commands.specs.Lines.{IsResult}
+use Rattle.ill_commands.specs.HexLines.{IsResult}
 use Rattle.ill_commands.proofs.lines.result.result_of.Goals as goal
 
 pub returns-in-Ok : goal.returns-in-Ok

@@ -1,0 +1,10 @@
+use Rattle.std.proofs.Common.{codes}
+use Rattle.ill_json.proofs.Added.{adds_as, adds_then}
+use Rattle.ill_json.proofs.Results.{count_member, text_member}
+use Rattle.ill_json.proofs.built.put_why.Goals as goal
+
+pub returns : goal.returns
+returns c =
+    adds_then _ _ _ _ _ c.put.ensures (adds_then _ _ _ _ _ c.put-2.ensures (adds_then _ _ _ _ _ c.put-3.ensures
+    (adds_as _ _ _ _ (text_member (codes "pointer") _ _) (adds_then _ _ _ _ _ c.text_if.ensures
+    (adds_as _ _ _ _ (count_member (codes "column") _ _) (adds_then _ _ _ _ _ c.count_if.ensures c.put-4.ensures))))))
