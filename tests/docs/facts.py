@@ -88,6 +88,20 @@ OPTIONS = {
     "help": r"^Prints? help",
     "version": r"^Prints? (the )?version",
 }
+# What the help of `build` says, which reads lines.
+BUILD_OPTIONS = {
+    **OPTIONS,
+    "hex": r"Writes each message as a line of hexadecimal digits",
+    "keep-going": r"Reports a line that is refused, and goes on with the next one",
+    "refused": r"Writes the lines that are refused to FILE",
+    "max-refused": r"Stops after N refused lines of all files",
+    "lines": r"Writes a line for each line: the message in hexadecimal, or why the line is refused",
+    "json": r"Writes a line of JSON for each line: the message in hexadecimal, or why the line is refused",
+    "whole": r"Replaces OUT only if every line of every input was good, and otherwise leaves it as it was",
+}
+# A line in which the help of `build` changes a member to show a cause.
+BUILT = """{"apdu":"ILL-Request","value":{"protocol-version-num":2,"transaction-id":{"transaction-group-qualifier":{"general":"G"},\
+"transaction-qualifier":{"general":"Q"}},"service-date-time":{"date-time-of-this-service":{"date":"20240229"}},"transaction-type":1}}"""
 # Words in a list of statuses, each with what has this status in the code: a function of error.rt and the arm of its `match`.
 MEANINGS = [
     (r"\bdone\b|\b(?<!not )in normal form|\ball are normal\b|\bsame\b(?! file)", "status_of", "Ok(Verdict::Good)"),
@@ -269,14 +283,15 @@ def ends_of_help():
     _, _, named = read(COMMANDS).partition("pub fn name")
     words, _, more = named.partition("pub fn about")
     word_of = dict(re.findall(r'(Verb::\S+) => "(\w+)",', words))
-    ends = re.findall(r"(Verb::\S+) => (\w+),", more.partition("pub fn after_help")[2].partition("pub fn arguments")[0])
+    ends = re.findall(r"(Verb::\S+) => ([\w:]+),", more.partition("pub fn after_help")[2].partition("pub fn arguments")[0])
     return {end: word_of[verb] for verb, end in ends}
 
 
 def help_texts():
     """The end of the help of the program, and of each command."""
     ends = ends_of_help()
-    return {"PROGRAM": constants(HELP)["PROGRAM"], **{name: text for name, text in constants(COMMANDS).items() if name in ends}}
+    texts = {**constants(COMMANDS), "build_help::HELP": constants(BUILD_HELP)["HELP"]}
+    return {"PROGRAM": constants(HELP)["PROGRAM"], **{name: text for name, text in texts.items() if name in ends}}
 
 
 def constants(path):
@@ -359,7 +374,7 @@ def check_examples():
 def check_wiring():
     """Each command has its own end of the help, and each topic its own text, by the source alone."""
     for name, word in ends_of_help().items():
-        if name != word.upper():
+        if name not in (word.upper(), f"{word}_help::HELP"):
             fault(COMMANDS, f"the help of {word} has the end {name}")
     topics = dict(re.findall(r'topic\(alloc, "(\w+)", topics::(\w+)\)', read(LINE)))
     if topics != {word: word.upper() for word in BEGINNINGS}:
@@ -380,10 +395,10 @@ def man_options():
     return found
 
 
-def check_option(place, name, text):
+def check_option(place, name, text, options=OPTIONS):
     """The text of an option has the words of this option, and of no other."""
     text = " ".join(text.split()).replace(" ,", ",")
-    found = {other for other, pattern in OPTIONS.items() if re.search(pattern, text)}
+    found = {other for other, pattern in options.items() if re.search(pattern, text)}
     if found != {name}:
         fault(place, f"--{name} has the words of {sorted(found)}: {text!r}")
 
@@ -417,7 +432,7 @@ def check_options(help_of, commands):
         part = help_of(command, "--help").partition("\nOptions:\n")[2].partition("\n\n")[0]
         options = re.findall(r"^ +(?:-\w, )? *--([\w-]+)(?: <\w+>)? +(.*)$", part, re.M)
         for name, text in options:
-            check_option(f"the help of {command}", name, text)
+            check_option(f"the help of {command}", name, text, BUILD_OPTIONS if command == "build" else OPTIONS)
         if len(options) < 3:
             fault(HELP, f"the help of {command} has the options {options}")
 
@@ -439,6 +454,25 @@ def check_program(program):
         if help_of("help", word).strip() != topics[word.upper()].strip():
             fault(TOPICS, f"`illcanon help {word}` prints something else than {word.upper()}: is the program older than the sources?")
     check_options(help_of, ends.values())
+    check_build_causes(program, texts["build_help::HELP"])
+
+
+def check_build_causes(program, text):
+    """The help of `build` has each cause of a refused line once, and its example has this cause. Those of the module profile are parts of a value."""
+    causes = re.findall(r'BuildCause::(\w+) => "\1"', read("crates/ill_build/src/cause.rt"))
+    said = re.findall(r"^([A-Z]\w+) {2,}\S.*(?:\n {16}.*)*(?:\n {4}(\S.*))?$", text, re.M)
+    if sorted(name for name, _ in said) != sorted(causes) or not causes:
+        fault(BUILD_HELP, f"the causes {sorted(name for name, _ in said)} aren't {sorted(causes)}")
+    for cause, example in said:
+        member = re.match(r'("[\w-]+":)', example)
+        if member:
+            example, count = re.subn(member[1] + r"(\{[^{}]*\}|\w+)", example.replace("\\", "\\\\"), BUILT)
+            if count != 1:
+                fault(BUILD_HELP, f"{cause}: the line has {count} members {member[1]}")
+        if member or example.startswith('{"') and "bits" not in example:
+            done = subprocess.run([program, "build", "--lines", "-", "-"], input=example + "\n", capture_output=True, text=True)
+            if not done.stdout.endswith(f": {cause}\n"):
+                fault(BUILD_HELP, f"the example of {cause} is {done.stdout.strip()!r}")
 
 
 def objects_in(schema, at):
