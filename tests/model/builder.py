@@ -2,24 +2,18 @@
 import json
 import re
 
+from .encoder import Writer
+from .tables import NUMBER_NAMES, ROOTS
+
 LIMIT = 1048576          # octets of a normal form
 LINE_LIMIT = 16777216    # octets of a line
 NESTING = 128            # levels of objects and lists
 LEVELS = 20              # levels of a foreign tree
 HEAD = {"profile", "file", "number", "offset", "octets", "normal"}       # all but the profile say where a message stood, and may hold anything
-CLASSES = {"universal": 0x00, "application": 0x40, "context": 0x80, "private": 0xC0}
 UNIVERSAL = {"Boolean": 1, "Integer": 2, "BitString": 3, "OctetString": 4, "Null": 5, "ObjectIdentifier": 6, "ObjectDescriptor": 7,
              "Enumerated": 10, "PrintableString": 19, "IsoDate": 26, "IsoTime": 26}
 STRINGS = {"general": 27, "visible": 26}
-NUMBER_NAMES = {
-    "transaction-type": ["simple", "chained", "partitioned"],
-    "ill-service-type": ["loan", "copy-non-returnable", "locations", "estimate", "responder-specific"],
-    "place-on-hold": ["yes", "no", "according-to-responder-policy"],
-    "item-type": ["monograph", "serial", "other"],
-    "transaction-results": ["conditional", "retry", "unfilled", "locations-provided", "will-supply", "hold-placed", "estimate"],
-}
 PRINTABLE = set(b"ABCDEFGHIJKLMNOPQRSTUVWXYZabcdefghijklmnopqrstuvwxyz0123456789 '()+,-./:=?")
-ROOTS = {"2": "IllApdu", "module": "ModuleIllApdu"}
 NUMBER = re.compile("0|-?[1-9][0-9]*")
 
 
@@ -76,24 +70,7 @@ def repr_strings(value):
 
 # ---- DER
 
-def length(size):
-    octets = size.to_bytes((size.bit_length() + 7) // 8, "big")
-    return bytes([size]) if size < 128 else bytes([0x80 | len(octets)]) + octets
-
-
-def identifier(tag, constructed):
-    first = CLASSES[tag[0]] | (0x20 if constructed else 0)
-    if tag[1] < 31:
-        return bytes([first | tag[1]])
-    digits, number = [tag[1] & 0x7F], tag[1] >> 7
-    while number:
-        digits.insert(0, 0x80 | number & 0x7F)
-        number >>= 7
-    return bytes([first | 31] + digits)
-
-
-def element(tag, constructed, contents):
-    return identifier(tag, constructed) + length(len(contents)) + contents
+length, element = Writer().length, Writer().element
 
 
 def whole(number):
