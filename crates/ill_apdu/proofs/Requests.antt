@@ -8,7 +8,7 @@ use Rattle.ill_parts.specs.Views.{client_id, cost_info, delivery_address, delive
 use Rattle.ill_apdu.specs.declared.request.IllRequest.{IllRequest}
 use Rattle.ill_apdu.specs.Views.{ill_request}
 
-row_is : (o u : Option Content) (os us : List (Option Content)) → o ≡ u → os ≡ us → (o ∷ os) ≡ (u ∷ us)
+pub row_is : (o u : Option Content) (os us : List (Option Content)) → o ≡ u → os ≡ us → (o ∷ os) ≡ (u ∷ us)
 row_is o u os us e f = cc
 
 -- the rows of a request that are left out

@@ -3,7 +3,7 @@ use crate::results::Results;
 use ber_leaf::IllString;
 use ill_parts::{
     Head, Node, Part, ResponderOptionalMessages, SendTo, SystemId, Typed, entries, headed,
-    optional, optional_value, read_head, required, required_value,
+    optional, optional_value, part_of, read_head, required, required_value,
 };
 use ill_schema::{NodeId, Value};
 use std::alloc::{AllocError, Global};
@@ -69,14 +69,14 @@ impl Part for IllAnswer {
 
     fn read(alloc: Global, value: &Value) -> Result<Self, AllocError> {
         let entries = entries::<Self>(value);
-        Ok(IllAnswer {
-            transaction_results: required(alloc, entries, 5)?,
-            send_to_list: optional(alloc, entries, 9)?,
-            already_tried_list: optional(alloc, entries, 10)?,
-            responder_optional_messages: optional(alloc, entries, 11)?,
-            responder_note: optional(alloc, entries, 12)?,
-            results_explanation: optional(alloc, entries, 6)?,
-            head: read_head(alloc, entries)?,
+        part_of!(IllAnswer {
+            head: read_head(alloc, entries),
+            transaction_results: required(alloc, entries, 5),
+            results_explanation: optional(alloc, entries, 6),
+            send_to_list: optional(alloc, entries, 9),
+            already_tried_list: optional(alloc, entries, 10),
+            responder_optional_messages: optional(alloc, entries, 11),
+            responder_note: optional(alloc, entries, 12),
         })
     }
 }

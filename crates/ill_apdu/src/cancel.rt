@@ -1,8 +1,8 @@
 //! CANCEL and CANCEL-REPLY.
 use ber_leaf::IllString;
 use ill_parts::{
-    Head, Node, Part, Typed, entries, headed, optional, optional_value, read_head, required,
-    required_value,
+    Head, Node, Part, Typed, entries, headed, optional, optional_value, part_of, read_head,
+    required, required_value,
 };
 use ill_schema::{NodeId, Value};
 use std::alloc::{AllocError, Global};
@@ -46,9 +46,9 @@ impl Part for Cancel {
 
     fn read(alloc: Global, value: &Value) -> Result<Self, AllocError> {
         let entries = entries::<Self>(value);
-        Ok(Cancel {
-            requester_note: optional(alloc, entries, 5)?,
-            head: read_head(alloc, entries)?,
+        part_of!(Cancel {
+            head: read_head(alloc, entries),
+            requester_note: optional(alloc, entries, 5),
         })
     }
 }
@@ -106,10 +106,10 @@ impl Part for CancelReply {
 
     fn read(alloc: Global, value: &Value) -> Result<Self, AllocError> {
         let entries = entries::<Self>(value);
-        Ok(CancelReply {
-            answer: required(alloc, entries, 5)?,
-            responder_note: optional(alloc, entries, 6)?,
-            head: read_head(alloc, entries)?,
+        part_of!(CancelReply {
+            head: read_head(alloc, entries),
+            answer: required(alloc, entries, 5),
+            responder_note: optional(alloc, entries, 6),
         })
     }
 }

@@ -1,8 +1,8 @@
 //! CONDITIONAL-REPLY.
 use ber_leaf::IllString;
 use ill_parts::{
-    Head, Node, Part, Typed, entries, headed, optional, optional_value, read_head, required,
-    required_value,
+    Head, Node, Part, Typed, entries, headed, optional, optional_value, part_of, read_head,
+    required, required_value,
 };
 use ill_schema::{NodeId, Value};
 use std::alloc::{AllocError, Global};
@@ -52,10 +52,10 @@ impl Part for ConditionalReply {
 
     fn read(alloc: Global, value: &Value) -> Result<Self, AllocError> {
         let entries = entries::<Self>(value);
-        Ok(ConditionalReply {
-            answer: required(alloc, entries, 5)?,
-            requester_note: optional(alloc, entries, 6)?,
-            head: read_head(alloc, entries)?,
+        part_of!(ConditionalReply {
+            head: read_head(alloc, entries),
+            answer: required(alloc, entries, 5),
+            requester_note: optional(alloc, entries, 6),
         })
     }
 }

@@ -1,8 +1,8 @@
 //! Places where an item may be had.
 use ber_leaf::IllString;
 use ill_parts::{
-    Node, Part, SystemAddress, SystemId, Typed, entries, optional, optional_value, required,
-    required_value, sequence,
+    Node, Part, SystemAddress, SystemId, Typed, entries, optional, optional_value, part_of,
+    required, required_value, sequence,
 };
 use ill_schema::{NodeId, Value};
 use std::alloc::{AllocError, Global};
@@ -50,10 +50,10 @@ impl Part for LocationInfo {
 
     fn read(alloc: Global, value: &Value) -> Result<Self, AllocError> {
         let entries = entries::<Self>(value);
-        Ok(LocationInfo {
-            location_note: optional(alloc, entries, 2)?,
-            location_address: optional(alloc, entries, 1)?,
-            location_id: required(alloc, entries, 0)?,
+        part_of!(LocationInfo {
+            location_id: required(alloc, entries, 0),
+            location_address: optional(alloc, entries, 1),
+            location_note: optional(alloc, entries, 2),
         })
     }
 }
@@ -106,9 +106,9 @@ impl Part for Locations {
 
     fn read(alloc: Global, value: &Value) -> Result<Self, AllocError> {
         let entries = entries::<Self>(value);
-        Ok(Locations {
-            reason_locs_provided: optional(alloc, entries, 0)?,
-            location_list: required(alloc, entries, 1)?,
+        part_of!(Locations {
+            reason_locs_provided: optional(alloc, entries, 0),
+            location_list: required(alloc, entries, 1),
         })
     }
 }

@@ -1,6 +1,8 @@
 //! LOST and DAMAGED.
 use ber_leaf::IllString;
-use ill_parts::{Head, Node, Part, Typed, entries, headed, optional, optional_value, read_head};
+use ill_parts::{
+    Head, Node, Part, Typed, entries, headed, optional, optional_value, part_of, read_head,
+};
 use ill_schema::{NodeId, Value};
 use std::alloc::{AllocError, Global};
 
@@ -43,9 +45,9 @@ impl Part for Lost {
 
     fn read(alloc: Global, value: &Value) -> Result<Self, AllocError> {
         let entries = entries::<Self>(value);
-        Ok(Lost {
-            note: optional(alloc, entries, 5)?,
-            head: read_head(alloc, entries)?,
+        part_of!(Lost {
+            head: read_head(alloc, entries),
+            note: optional(alloc, entries, 5),
         })
     }
 }
@@ -97,9 +99,9 @@ impl Part for Damaged {
 
     fn read(alloc: Global, value: &Value) -> Result<Self, AllocError> {
         let entries = entries::<Self>(value);
-        Ok(Damaged {
-            note: optional(alloc, entries, 6)?,
-            head: read_head(alloc, entries)?,
+        part_of!(Damaged {
+            head: read_head(alloc, entries),
+            note: optional(alloc, entries, 6),
         })
     }
 }

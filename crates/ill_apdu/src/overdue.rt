@@ -1,8 +1,8 @@
 //! OVERDUE.
 use ber_leaf::IllString;
 use ill_parts::{
-    DateDue, Head, Node, Part, Typed, entries, headed, optional, optional_value, read_head,
-    required, required_value,
+    DateDue, Head, Node, Part, Typed, entries, headed, optional, optional_value, part_of,
+    read_head, required, required_value,
 };
 use ill_schema::{NodeId, Value};
 use std::alloc::{AllocError, Global};
@@ -52,10 +52,10 @@ impl Part for Overdue {
 
     fn read(alloc: Global, value: &Value) -> Result<Self, AllocError> {
         let entries = entries::<Self>(value);
-        Ok(Overdue {
-            date_due: required(alloc, entries, 5)?,
-            responder_note: optional(alloc, entries, 6)?,
-            head: read_head(alloc, entries)?,
+        part_of!(Overdue {
+            head: read_head(alloc, entries),
+            date_due: required(alloc, entries, 5),
+            responder_note: optional(alloc, entries, 6),
         })
     }
 }

@@ -1,6 +1,8 @@
 //! RECALL.
 use ber_leaf::IllString;
-use ill_parts::{Head, Node, Part, Typed, entries, headed, optional, optional_value, read_head};
+use ill_parts::{
+    Head, Node, Part, Typed, entries, headed, optional, optional_value, part_of, read_head,
+};
 use ill_schema::{NodeId, Value};
 use std::alloc::{AllocError, Global};
 
@@ -43,9 +45,9 @@ impl Part for Recall {
 
     fn read(alloc: Global, value: &Value) -> Result<Self, AllocError> {
         let entries = entries::<Self>(value);
-        Ok(Recall {
-            responder_note: optional(alloc, entries, 5)?,
-            head: read_head(alloc, entries)?,
+        part_of!(Recall {
+            head: read_head(alloc, entries),
+            responder_note: optional(alloc, entries, 5),
         })
     }
 }

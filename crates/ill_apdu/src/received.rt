@@ -1,8 +1,8 @@
 //! RECEIVED.
 use ber_leaf::{DateText, IllString};
 use ill_parts::{
-    Head, Node, Part, SystemId, Typed, entries, headed, optional, optional_value, read_head,
-    required, required_value,
+    Head, Node, Part, SystemId, Typed, entries, headed, optional, optional_value, part_of,
+    read_head, required, required_value,
 };
 use ill_schema::{NodeId, Value};
 use std::alloc::{AllocError, Global};
@@ -59,12 +59,12 @@ impl Part for Received {
 
     fn read(alloc: Global, value: &Value) -> Result<Self, AllocError> {
         let entries = entries::<Self>(value);
-        Ok(Received {
-            shipped_service_type: required(alloc, entries, 8)?,
-            date_received: required(alloc, entries, 7)?,
-            requester_note: optional(alloc, entries, 9)?,
-            supplier_id: optional(alloc, entries, 5)?,
-            head: read_head(alloc, entries)?,
+        part_of!(Received {
+            head: read_head(alloc, entries),
+            supplier_id: optional(alloc, entries, 5),
+            date_received: required(alloc, entries, 7),
+            shipped_service_type: required(alloc, entries, 8),
+            requester_note: optional(alloc, entries, 9),
         })
     }
 }

@@ -1,8 +1,8 @@
 //! RENEW and RENEW-ANSWER.
 use ber_leaf::{DateText, IllString};
 use ill_parts::{
-    DateDue, Head, Node, Part, Typed, entries, headed, optional, optional_value, read_head,
-    required, required_value,
+    DateDue, Head, Node, Part, Typed, entries, headed, optional, optional_value, part_of,
+    read_head, required, required_value,
 };
 use ill_schema::{NodeId, Value};
 use std::alloc::{AllocError, Global};
@@ -52,10 +52,10 @@ impl Part for Renew {
 
     fn read(alloc: Global, value: &Value) -> Result<Self, AllocError> {
         let entries = entries::<Self>(value);
-        Ok(Renew {
-            desired_due_date: optional(alloc, entries, 5)?,
-            requester_note: optional(alloc, entries, 6)?,
-            head: read_head(alloc, entries)?,
+        part_of!(Renew {
+            head: read_head(alloc, entries),
+            desired_due_date: optional(alloc, entries, 5),
+            requester_note: optional(alloc, entries, 6),
         })
     }
 }
@@ -116,11 +116,11 @@ impl Part for RenewAnswer {
 
     fn read(alloc: Global, value: &Value) -> Result<Self, AllocError> {
         let entries = entries::<Self>(value);
-        Ok(RenewAnswer {
-            answer: required(alloc, entries, 5)?,
-            date_due: optional(alloc, entries, 6)?,
-            responder_note: optional(alloc, entries, 7)?,
-            head: read_head(alloc, entries)?,
+        part_of!(RenewAnswer {
+            head: read_head(alloc, entries),
+            answer: required(alloc, entries, 5),
+            date_due: optional(alloc, entries, 6),
+            responder_note: optional(alloc, entries, 7),
         })
     }
 }

@@ -3,7 +3,7 @@ use ber_leaf::IllString;
 use ill_parts::{
     ClientId, CostInfo, DeliveryAddress, DeliveryService, Head, ItemId, Node, Part,
     RequesterOptionalMessages, SearchType, SupplyMediumInfo, ThirdPartyInfo, Typed, entries,
-    headed, optional, optional_value, read_head, required, required_value,
+    headed, optional, optional_value, part_of, read_head, required, required_value,
 };
 use ill_schema::{NodeId, Value};
 use std::alloc::{AllocError, Global};
@@ -106,26 +106,26 @@ impl Part for IllRequest {
 
     fn read(alloc: Global, value: &Value) -> Result<Self, AllocError> {
         let entries = entries::<Self>(value);
-        Ok(IllRequest {
-            transaction_type: required(alloc, entries, 5)?,
-            delivery_address: optional(alloc, entries, 6)?,
-            delivery_service: optional(alloc, entries, 7)?,
-            billing_address: optional(alloc, entries, 8)?,
-            ill_service_type: required(alloc, entries, 9)?,
-            requester_optional_messages: required(alloc, entries, 11)?,
-            search_type: optional(alloc, entries, 12)?,
-            supply_medium_info_type: optional(alloc, entries, 13)?,
-            place_on_hold: required(alloc, entries, 14)?,
-            client_id: optional(alloc, entries, 15)?,
-            item_id: required(alloc, entries, 16)?,
-            cost_info_type: optional(alloc, entries, 18)?,
-            copyright_compliance: optional(alloc, entries, 19)?,
-            third_party_info_type: optional(alloc, entries, 20)?,
-            retry_flag: required(alloc, entries, 21)?,
-            forward_flag: required(alloc, entries, 22)?,
-            requester_note: optional(alloc, entries, 23)?,
-            forward_note: optional(alloc, entries, 24)?,
-            head: read_head(alloc, entries)?,
+        part_of!(IllRequest {
+            head: read_head(alloc, entries),
+            transaction_type: required(alloc, entries, 5),
+            delivery_address: optional(alloc, entries, 6),
+            delivery_service: optional(alloc, entries, 7),
+            billing_address: optional(alloc, entries, 8),
+            ill_service_type: required(alloc, entries, 9),
+            requester_optional_messages: required(alloc, entries, 11);
+            search_type: optional(alloc, entries, 12),
+            supply_medium_info_type: optional(alloc, entries, 13),
+            place_on_hold: required(alloc, entries, 14),
+            client_id: optional(alloc, entries, 15),
+            item_id: required(alloc, entries, 16),
+            cost_info_type: optional(alloc, entries, 18),
+            copyright_compliance: optional(alloc, entries, 19);
+            third_party_info_type: optional(alloc, entries, 20),
+            retry_flag: required(alloc, entries, 21),
+            forward_flag: required(alloc, entries, 22),
+            requester_note: optional(alloc, entries, 23),
+            forward_note: optional(alloc, entries, 24),
         })
     }
 }

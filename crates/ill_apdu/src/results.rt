@@ -3,7 +3,7 @@ use crate::location::{LocationInfo, Locations};
 use ber_leaf::{DateText, IllString};
 use ill_parts::{
     Node, Part, PostalAddress, Typed, alternative, chosen, entries, optional, optional_value,
-    required, required_value, sequence,
+    part_of, required, required_value, sequence,
 };
 use ill_schema::{NodeId, Value};
 use std::alloc::{AllocError, Global};
@@ -51,10 +51,10 @@ impl Part for Conditional {
 
     fn read(alloc: Global, value: &Value) -> Result<Self, AllocError> {
         let entries = entries::<Self>(value);
-        Ok(Conditional {
-            conditions: required(alloc, entries, 0)?,
-            date_for_reply: optional(alloc, entries, 1)?,
-            location_list: optional(alloc, entries, 2)?,
+        part_of!(Conditional {
+            conditions: required(alloc, entries, 0),
+            date_for_reply: optional(alloc, entries, 1),
+            location_list: optional(alloc, entries, 2),
         })
     }
 }
@@ -110,10 +110,10 @@ impl Part for Retry {
 
     fn read(alloc: Global, value: &Value) -> Result<Self, AllocError> {
         let entries = entries::<Self>(value);
-        Ok(Retry {
-            reason_not_available: optional(alloc, entries, 0)?,
-            retry_date: optional(alloc, entries, 1)?,
-            location_list: optional(alloc, entries, 2)?,
+        part_of!(Retry {
+            reason_not_available: optional(alloc, entries, 0),
+            retry_date: optional(alloc, entries, 1),
+            location_list: optional(alloc, entries, 2),
         })
     }
 }
@@ -166,9 +166,9 @@ impl Part for Unfilled {
 
     fn read(alloc: Global, value: &Value) -> Result<Self, AllocError> {
         let entries = entries::<Self>(value);
-        Ok(Unfilled {
-            reason_unfilled: required(alloc, entries, 0)?,
-            location_list: optional(alloc, entries, 1)?,
+        part_of!(Unfilled {
+            reason_unfilled: required(alloc, entries, 0),
+            location_list: optional(alloc, entries, 1),
         })
     }
 }
@@ -230,11 +230,11 @@ impl Part for WillSupply {
 
     fn read(alloc: Global, value: &Value) -> Result<Self, AllocError> {
         let entries = entries::<Self>(value);
-        Ok(WillSupply {
-            reason_will_supply: required(alloc, entries, 0)?,
-            supply_date: optional(alloc, entries, 1)?,
-            location_list: optional(alloc, entries, 3)?,
-            return_to_address: optional(alloc, entries, 2)?,
+        part_of!(WillSupply {
+            reason_will_supply: required(alloc, entries, 0),
+            supply_date: optional(alloc, entries, 1),
+            return_to_address: optional(alloc, entries, 2),
+            location_list: optional(alloc, entries, 3),
         })
     }
 }
@@ -291,10 +291,10 @@ impl Part for HoldPlaced {
 
     fn read(alloc: Global, value: &Value) -> Result<Self, AllocError> {
         let entries = entries::<Self>(value);
-        Ok(HoldPlaced {
-            estimated_date_available: required(alloc, entries, 0)?,
-            hold_placed_medium_type: optional(alloc, entries, 1)?,
-            location_list: optional(alloc, entries, 2)?,
+        part_of!(HoldPlaced {
+            estimated_date_available: required(alloc, entries, 0),
+            hold_placed_medium_type: optional(alloc, entries, 1),
+            location_list: optional(alloc, entries, 2),
         })
     }
 }
@@ -347,9 +347,9 @@ impl Part for Estimate {
 
     fn read(alloc: Global, value: &Value) -> Result<Self, AllocError> {
         let entries = entries::<Self>(value);
-        Ok(Estimate {
-            cost_estimate: required(alloc, entries, 0)?,
-            location_list: optional(alloc, entries, 1)?,
+        part_of!(Estimate {
+            cost_estimate: required(alloc, entries, 0),
+            location_list: optional(alloc, entries, 1),
         })
     }
 }

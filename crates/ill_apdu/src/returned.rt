@@ -1,7 +1,7 @@
 //! RETURNED and CHECKED-IN.
 use ber_leaf::{DateText, IllString};
 use ill_parts::{
-    Amount, Head, Node, Part, Typed, entries, headed, optional, optional_value, read_head,
+    Amount, Head, Node, Part, Typed, entries, headed, optional, optional_value, part_of, read_head,
     required, required_value,
 };
 use ill_schema::{NodeId, Value};
@@ -59,12 +59,12 @@ impl Part for Returned {
 
     fn read(alloc: Global, value: &Value) -> Result<Self, AllocError> {
         let entries = entries::<Self>(value);
-        Ok(Returned {
-            date_returned: required(alloc, entries, 6)?,
-            requester_note: optional(alloc, entries, 9)?,
-            returned_via: optional(alloc, entries, 7)?,
-            insured_for: optional(alloc, entries, 8)?,
-            head: read_head(alloc, entries)?,
+        part_of!(Returned {
+            head: read_head(alloc, entries),
+            date_returned: required(alloc, entries, 6),
+            returned_via: optional(alloc, entries, 7),
+            insured_for: optional(alloc, entries, 8),
+            requester_note: optional(alloc, entries, 9),
         })
     }
 }
@@ -122,10 +122,10 @@ impl Part for CheckedIn {
 
     fn read(alloc: Global, value: &Value) -> Result<Self, AllocError> {
         let entries = entries::<Self>(value);
-        Ok(CheckedIn {
-            date_checked_in: required(alloc, entries, 5)?,
-            responder_note: optional(alloc, entries, 6)?,
-            head: read_head(alloc, entries)?,
+        part_of!(CheckedIn {
+            head: read_head(alloc, entries),
+            date_checked_in: required(alloc, entries, 5),
+            responder_note: optional(alloc, entries, 6),
         })
     }
 }

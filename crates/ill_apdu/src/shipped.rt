@@ -2,8 +2,8 @@
 use ber_leaf::IllString;
 use ill_parts::{
     ClientId, Head, Node, Part, PostalAddress, ResponderOptionalMessages, SupplyDetails,
-    SystemAddress, SystemId, Typed, entries, headed, optional, optional_value, read_head, required,
-    required_value,
+    SystemAddress, SystemId, Typed, entries, headed, optional, optional_value, part_of, read_head,
+    required, required_value,
 };
 use ill_schema::{NodeId, Value};
 use std::alloc::{AllocError, Global};
@@ -78,18 +78,18 @@ impl Part for Shipped {
 
     fn read(alloc: Global, value: &Value) -> Result<Self, AllocError> {
         let entries = entries::<Self>(value);
-        Ok(Shipped {
-            responder_address: optional(alloc, entries, 5)?,
-            intermediary_id: optional(alloc, entries, 6)?,
-            supplier_id: optional(alloc, entries, 7)?,
-            client_id: optional(alloc, entries, 8)?,
-            transaction_type: required(alloc, entries, 9)?,
-            shipped_service_type: required(alloc, entries, 11)?,
-            responder_optional_messages: optional(alloc, entries, 12)?,
-            supply_details: required(alloc, entries, 13)?,
-            return_to_address: optional(alloc, entries, 14)?,
-            responder_note: optional(alloc, entries, 15)?,
-            head: read_head(alloc, entries)?,
+        part_of!(Shipped {
+            head: read_head(alloc, entries),
+            responder_address: optional(alloc, entries, 5),
+            intermediary_id: optional(alloc, entries, 6),
+            supplier_id: optional(alloc, entries, 7),
+            client_id: optional(alloc, entries, 8),
+            transaction_type: required(alloc, entries, 9);
+            shipped_service_type: required(alloc, entries, 11),
+            responder_optional_messages: optional(alloc, entries, 12),
+            supply_details: required(alloc, entries, 13),
+            return_to_address: optional(alloc, entries, 14),
+            responder_note: optional(alloc, entries, 15),
         })
     }
 }

@@ -1,6 +1,8 @@
 //! STATUS-QUERY.
 use ber_leaf::IllString;
-use ill_parts::{Head, Node, Part, Typed, entries, headed, optional, optional_value, read_head};
+use ill_parts::{
+    Head, Node, Part, Typed, entries, headed, optional, optional_value, part_of, read_head,
+};
 use ill_schema::{NodeId, Value};
 use std::alloc::{AllocError, Global};
 
@@ -43,9 +45,9 @@ impl Part for StatusQuery {
 
     fn read(alloc: Global, value: &Value) -> Result<Self, AllocError> {
         let entries = entries::<Self>(value);
-        Ok(StatusQuery {
-            note: optional(alloc, entries, 5)?,
-            head: read_head(alloc, entries)?,
+        part_of!(StatusQuery {
+            head: read_head(alloc, entries),
+            note: optional(alloc, entries, 5),
         })
     }
 }

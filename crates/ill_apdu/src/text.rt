@@ -1,6 +1,8 @@
 //! MESSAGE.
 use ber_leaf::IllString;
-use ill_parts::{Head, Node, Part, Typed, entries, headed, read_head, required, required_value};
+use ill_parts::{
+    Head, Node, Part, Typed, entries, headed, part_of, read_head, required, required_value,
+};
 use ill_schema::{NodeId, Value};
 use std::alloc::{AllocError, Global};
 
@@ -43,9 +45,9 @@ impl Part for MessageApdu {
 
     fn read(alloc: Global, value: &Value) -> Result<Self, AllocError> {
         let entries = entries::<Self>(value);
-        Ok(MessageApdu {
-            note: required(alloc, entries, 5)?,
-            head: read_head(alloc, entries)?,
+        part_of!(MessageApdu {
+            head: read_head(alloc, entries),
+            note: required(alloc, entries, 5),
         })
     }
 }

@@ -1,5 +1,6 @@
 //! Addresses.
 use crate::part::{Node, Part, Typed, entries, optional, optional_value, sequence};
+use crate::part_of;
 use crate::party::Name;
 use ber_leaf::IllString;
 use ill_schema::{NodeId, Value};
@@ -63,15 +64,15 @@ impl Part for PostalAddress {
 
     fn read(alloc: Global, value: &Value) -> Result<Self, AllocError> {
         let entries = entries::<Self>(value);
-        Ok(PostalAddress {
-            extended_postal_delivery_address: optional(alloc, entries, 1)?,
-            street_and_number: optional(alloc, entries, 2)?,
-            post_office_box: optional(alloc, entries, 3)?,
-            city: optional(alloc, entries, 4)?,
-            region: optional(alloc, entries, 5)?,
-            country: optional(alloc, entries, 6)?,
-            postal_code: optional(alloc, entries, 7)?,
-            name_of_person_or_institution: optional(alloc, entries, 0)?,
+        part_of!(PostalAddress {
+            name_of_person_or_institution: optional(alloc, entries, 0),
+            extended_postal_delivery_address: optional(alloc, entries, 1),
+            street_and_number: optional(alloc, entries, 2),
+            post_office_box: optional(alloc, entries, 3),
+            city: optional(alloc, entries, 4),
+            region: optional(alloc, entries, 5),
+            country: optional(alloc, entries, 6),
+            postal_code: optional(alloc, entries, 7),
         })
     }
 }
@@ -124,9 +125,9 @@ impl Part for SystemAddress {
 
     fn read(alloc: Global, value: &Value) -> Result<Self, AllocError> {
         let entries = entries::<Self>(value);
-        Ok(SystemAddress {
-            telecom_service_identifier: optional(alloc, entries, 0)?,
-            telecom_service_address: optional(alloc, entries, 1)?,
+        part_of!(SystemAddress {
+            telecom_service_identifier: optional(alloc, entries, 0),
+            telecom_service_address: optional(alloc, entries, 1),
         })
     }
 }
@@ -180,9 +181,9 @@ impl Part for DeliveryAddress {
 
     fn read(alloc: Global, value: &Value) -> Result<Self, AllocError> {
         let entries = entries::<Self>(value);
-        Ok(DeliveryAddress {
-            electronic_address: optional(alloc, entries, 1)?,
-            postal_address: optional(alloc, entries, 0)?,
+        part_of!(DeliveryAddress {
+            postal_address: optional(alloc, entries, 0),
+            electronic_address: optional(alloc, entries, 1),
         })
     }
 }

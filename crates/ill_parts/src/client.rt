@@ -1,5 +1,6 @@
 //! Clients of the requester.
 use crate::part::{Node, Part, Typed, entries, optional, optional_value, sequence};
+use crate::part_of;
 use ber_leaf::IllString;
 use ill_schema::{NodeId, Value};
 use std::alloc::{AllocError, Global};
@@ -47,10 +48,10 @@ impl Part for ClientId {
 
     fn read(alloc: Global, value: &Value) -> Result<Self, AllocError> {
         let entries = entries::<Self>(value);
-        Ok(ClientId {
-            client_name: optional(alloc, entries, 0)?,
-            client_status: optional(alloc, entries, 1)?,
-            client_identifier: optional(alloc, entries, 2)?,
+        part_of!(ClientId {
+            client_name: optional(alloc, entries, 0),
+            client_status: optional(alloc, entries, 1),
+            client_identifier: optional(alloc, entries, 2),
         })
     }
 }

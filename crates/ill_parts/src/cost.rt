@@ -2,6 +2,7 @@
 use crate::part::{
     Node, Part, Typed, entries, optional, optional_value, required, required_value, sequence,
 };
+use crate::part_of;
 use ber_leaf::{IllString, PrintableText};
 use ill_schema::{NodeId, Value};
 use std::alloc::{AllocError, Global};
@@ -46,9 +47,9 @@ impl Part for Amount {
 
     fn read(alloc: Global, value: &Value) -> Result<Self, AllocError> {
         let entries = entries::<Self>(value);
-        Ok(Amount {
-            currency_code: optional(alloc, entries, 0)?,
-            monetary_value: required(alloc, entries, 1)?,
+        part_of!(Amount {
+            currency_code: optional(alloc, entries, 0),
+            monetary_value: required(alloc, entries, 1),
         })
     }
 }
@@ -110,12 +111,12 @@ impl Part for CostInfo {
 
     fn read(alloc: Global, value: &Value) -> Result<Self, AllocError> {
         let entries = entries::<Self>(value);
-        Ok(CostInfo {
-            reciprocal_agreement: required(alloc, entries, 2)?,
-            will_pay_fee: required(alloc, entries, 3)?,
-            payment_provided: required(alloc, entries, 4)?,
-            account_number: optional(alloc, entries, 0)?,
-            maximum_cost: optional(alloc, entries, 1)?,
+        part_of!(CostInfo {
+            account_number: optional(alloc, entries, 0),
+            maximum_cost: optional(alloc, entries, 1),
+            reciprocal_agreement: required(alloc, entries, 2),
+            will_pay_fee: required(alloc, entries, 3),
+            payment_provided: required(alloc, entries, 4),
         })
     }
 }

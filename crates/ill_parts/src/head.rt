@@ -8,6 +8,7 @@ ghost use Rattle.ill_parts.specs.Shape.{Is, Must, May, AreBuilt, AreReady, RowsH
 ghost use Rattle.ill_parts.specs.Views.{headed, transaction_id, service_date_time, system_id};
 
 use crate::part::{Node, optional, optional_value, push_all, required, required_value};
+use crate::part_of;
 use crate::party::SystemId;
 use crate::transaction::{ServiceDateTime, TransactionId};
 use ill_schema::Value;
@@ -48,12 +49,12 @@ pub fn read_head(alloc: Global, entries: &[Option<Value>]) -> Result<Head, Alloc
     ensures responder { IfOk result (λ h. option_map system_id h.responder_id ≡ entry_at entries.now
         4) }
 {
-    Ok(Head {
-        protocol_version_num: required(alloc, entries, 0)?,
-        service_date_time: required(alloc, entries, 2)?,
-        requester_id: optional(alloc, entries, 3)?,
-        responder_id: optional(alloc, entries, 4)?,
-        transaction_id: required(alloc, entries, 1)?,
+    part_of!(Head {
+        protocol_version_num: required(alloc, entries, 0),
+        transaction_id: required(alloc, entries, 1),
+        service_date_time: required(alloc, entries, 2),
+        requester_id: optional(alloc, entries, 3),
+        responder_id: optional(alloc, entries, 4),
     })
 }
 

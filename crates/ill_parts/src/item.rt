@@ -1,5 +1,6 @@
 //! Items.
 use crate::part::{Node, Part, Typed, entries, optional, optional_value, sequence};
+use crate::part_of;
 use ber_leaf::IllString;
 use ill_schema::{NodeId, Value};
 use std::alloc::{AllocError, Global};
@@ -106,28 +107,28 @@ impl Part for ItemId {
 
     fn read(alloc: Global, value: &Value) -> Result<Self, AllocError> {
         let entries = entries::<Self>(value);
-        Ok(ItemId {
-            item_type: optional(alloc, entries, 0)?,
-            held_medium_type: optional(alloc, entries, 1)?,
-            call_number: optional(alloc, entries, 2)?,
-            author: optional(alloc, entries, 3)?,
-            title: optional(alloc, entries, 4)?,
-            sub_title: optional(alloc, entries, 5)?,
-            sponsoring_body: optional(alloc, entries, 6)?,
-            place_of_publication: optional(alloc, entries, 7)?,
-            publisher: optional(alloc, entries, 8)?,
-            series_title_number: optional(alloc, entries, 9)?,
-            volume_issue: optional(alloc, entries, 10)?,
-            edition: optional(alloc, entries, 11)?,
-            publication_date: optional(alloc, entries, 12)?,
-            publication_date_of_component: optional(alloc, entries, 13)?,
-            author_of_article: optional(alloc, entries, 14)?,
-            title_of_article: optional(alloc, entries, 15)?,
-            pagination: optional(alloc, entries, 16)?,
-            isbn: optional(alloc, entries, 18)?,
-            issn: optional(alloc, entries, 19)?,
-            additional_no_letters: optional(alloc, entries, 21)?,
-            verification_reference_source: optional(alloc, entries, 22)?,
+        part_of!(ItemId {
+            item_type: optional(alloc, entries, 0),
+            held_medium_type: optional(alloc, entries, 1),
+            call_number: optional(alloc, entries, 2),
+            author: optional(alloc, entries, 3),
+            title: optional(alloc, entries, 4),
+            sub_title: optional(alloc, entries, 5),
+            sponsoring_body: optional(alloc, entries, 6);
+            place_of_publication: optional(alloc, entries, 7),
+            publisher: optional(alloc, entries, 8),
+            series_title_number: optional(alloc, entries, 9),
+            volume_issue: optional(alloc, entries, 10),
+            edition: optional(alloc, entries, 11),
+            publication_date: optional(alloc, entries, 12),
+            publication_date_of_component: optional(alloc, entries, 13);
+            author_of_article: optional(alloc, entries, 14),
+            title_of_article: optional(alloc, entries, 15),
+            pagination: optional(alloc, entries, 16),
+            isbn: optional(alloc, entries, 18),
+            issn: optional(alloc, entries, 19),
+            additional_no_letters: optional(alloc, entries, 21),
+            verification_reference_source: optional(alloc, entries, 22),
         })
     }
 }

@@ -22,6 +22,7 @@ mod medium;
 mod optional_messages;
 mod part;
 mod party;
+mod reading;
 mod search_type;
 mod supply;
 mod third_party;

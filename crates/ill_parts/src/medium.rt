@@ -2,6 +2,7 @@
 use crate::part::{
     Node, Part, Typed, entries, optional, optional_value, required, required_value, sequence,
 };
+use crate::part_of;
 use ber_leaf::IllString;
 use ill_schema::{NodeId, Value};
 use std::alloc::{AllocError, Global};
@@ -47,9 +48,9 @@ impl Part for SupplyMediumInfo {
 
     fn read(alloc: Global, value: &Value) -> Result<Self, AllocError> {
         let entries = entries::<Self>(value);
-        Ok(SupplyMediumInfo {
-            supply_medium_type: required(alloc, entries, 0)?,
-            medium_characteristics: optional(alloc, entries, 1)?,
+        part_of!(SupplyMediumInfo {
+            supply_medium_type: required(alloc, entries, 0),
+            medium_characteristics: optional(alloc, entries, 1),
         })
     }
 }
@@ -103,9 +104,9 @@ impl Part for UnitsPerMedium {
 
     fn read(alloc: Global, value: &Value) -> Result<Self, AllocError> {
         let entries = entries::<Self>(value);
-        Ok(UnitsPerMedium {
-            medium: required(alloc, entries, 0)?,
-            no_of_units: required(alloc, entries, 1)?,
+        part_of!(UnitsPerMedium {
+            medium: required(alloc, entries, 0),
+            no_of_units: required(alloc, entries, 1),
         })
     }
 }

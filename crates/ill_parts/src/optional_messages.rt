@@ -1,5 +1,6 @@
 //! The optional messages that the parties can send and want.
 use crate::part::{Node, Part, Typed, entries, required, required_value, sequence};
+use crate::part_of;
 use ill_schema::{NodeId, Value};
 use std::alloc::{AllocError, Global};
 
@@ -50,11 +51,11 @@ impl Part for RequesterOptionalMessages {
 
     fn read(alloc: Global, value: &Value) -> Result<Self, AllocError> {
         let entries = entries::<Self>(value);
-        Ok(RequesterOptionalMessages {
-            can_send_received: required(alloc, entries, 0)?,
-            can_send_returned: required(alloc, entries, 1)?,
-            requester_shipped: required(alloc, entries, 2)?,
-            requester_checked_in: required(alloc, entries, 3)?,
+        part_of!(RequesterOptionalMessages {
+            can_send_received: required(alloc, entries, 0),
+            can_send_returned: required(alloc, entries, 1),
+            requester_shipped: required(alloc, entries, 2),
+            requester_checked_in: required(alloc, entries, 3),
         })
     }
 }
@@ -114,11 +115,11 @@ impl Part for ResponderOptionalMessages {
 
     fn read(alloc: Global, value: &Value) -> Result<Self, AllocError> {
         let entries = entries::<Self>(value);
-        Ok(ResponderOptionalMessages {
-            can_send_shipped: required(alloc, entries, 0)?,
-            can_send_checked_in: required(alloc, entries, 1)?,
-            responder_received: required(alloc, entries, 2)?,
-            responder_returned: required(alloc, entries, 3)?,
+        part_of!(ResponderOptionalMessages {
+            can_send_shipped: required(alloc, entries, 0),
+            can_send_checked_in: required(alloc, entries, 1),
+            responder_received: required(alloc, entries, 2),
+            responder_returned: required(alloc, entries, 3),
         })
     }
 }

@@ -2,6 +2,7 @@
 use crate::part::{
     Node, Part, Typed, alternative, chosen, entries, optional, optional_value, sequence,
 };
+use crate::part_of;
 use ber_leaf::IllString;
 use ill_schema::{NodeId, Value};
 use std::alloc::{AllocError, Global};
@@ -149,9 +150,9 @@ impl Part for SystemId {
 
     fn read(alloc: Global, value: &Value) -> Result<Self, AllocError> {
         let entries = entries::<Self>(value);
-        Ok(SystemId {
-            person_or_institution_symbol: optional(alloc, entries, 0)?,
-            name_of_person_or_institution: optional(alloc, entries, 1)?,
+        part_of!(SystemId {
+            person_or_institution_symbol: optional(alloc, entries, 0),
+            name_of_person_or_institution: optional(alloc, entries, 1),
         })
     }
 }

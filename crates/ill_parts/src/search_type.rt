@@ -2,6 +2,7 @@
 use crate::part::{
     Node, Part, Typed, entries, optional, optional_value, required, required_value, sequence,
 };
+use crate::part_of;
 use ber_leaf::{DateText, IllString};
 use ill_schema::{NodeId, Value};
 use std::alloc::{AllocError, Global};
@@ -53,11 +54,11 @@ impl Part for SearchType {
 
     fn read(alloc: Global, value: &Value) -> Result<Self, AllocError> {
         let entries = entries::<Self>(value);
-        Ok(SearchType {
-            expiry_flag: required(alloc, entries, 2)?,
-            need_before_date: optional(alloc, entries, 1)?,
-            expiry_date: optional(alloc, entries, 3)?,
-            level_of_service: optional(alloc, entries, 0)?,
+        part_of!(SearchType {
+            level_of_service: optional(alloc, entries, 0),
+            need_before_date: optional(alloc, entries, 1),
+            expiry_flag: required(alloc, entries, 2),
+            expiry_date: optional(alloc, entries, 3),
         })
     }
 }

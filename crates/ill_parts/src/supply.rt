@@ -5,6 +5,7 @@ use crate::medium::UnitsPerMedium;
 use crate::part::{
     Node, Part, Typed, entries, optional, optional_value, required, required_value, sequence,
 };
+use crate::part_of;
 use ber_leaf::DateText;
 use ill_schema::{NodeId, Value};
 use std::alloc::{AllocError, Global};
@@ -49,9 +50,9 @@ impl Part for DateDue {
 
     fn read(alloc: Global, value: &Value) -> Result<Self, AllocError> {
         let entries = entries::<Self>(value);
-        Ok(DateDue {
-            date_due_field: required(alloc, entries, 0)?,
-            renewable: required(alloc, entries, 1)?,
+        part_of!(DateDue {
+            date_due_field: required(alloc, entries, 0),
+            renewable: required(alloc, entries, 1),
         })
     }
 }
@@ -125,16 +126,16 @@ impl Part for SupplyDetails {
 
     fn read(alloc: Global, value: &Value) -> Result<Self, AllocError> {
         let entries = entries::<Self>(value);
-        Ok(SupplyDetails {
-            chargeable_units: optional(alloc, entries, 2)?,
-            shipped_conditions: optional(alloc, entries, 4)?,
-            date_shipped: optional(alloc, entries, 0)?,
-            date_due: optional(alloc, entries, 1)?,
-            no_of_units_per_medium: optional(alloc, entries, 8)?,
-            shipped_via: optional(alloc, entries, 5)?,
-            cost: optional(alloc, entries, 3)?,
-            insured_for: optional(alloc, entries, 6)?,
-            return_insurance_require: optional(alloc, entries, 7)?,
+        part_of!(SupplyDetails {
+            date_shipped: optional(alloc, entries, 0),
+            date_due: optional(alloc, entries, 1),
+            chargeable_units: optional(alloc, entries, 2),
+            cost: optional(alloc, entries, 3),
+            shipped_conditions: optional(alloc, entries, 4),
+            shipped_via: optional(alloc, entries, 5),
+            insured_for: optional(alloc, entries, 6),
+            return_insurance_require: optional(alloc, entries, 7),
+            no_of_units_per_medium: optional(alloc, entries, 8),
         })
     }
 }

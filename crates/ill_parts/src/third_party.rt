@@ -3,6 +3,7 @@ use crate::address::SystemAddress;
 use crate::part::{
     Node, Part, Typed, entries, optional, optional_value, required, required_value, sequence,
 };
+use crate::part_of;
 use crate::party::SystemId;
 use ber_leaf::IllString;
 use ill_schema::{NodeId, Value};
@@ -51,10 +52,10 @@ impl Part for SendTo {
 
     fn read(alloc: Global, value: &Value) -> Result<Self, AllocError> {
         let entries = entries::<Self>(value);
-        Ok(SendTo {
-            account_number: optional(alloc, entries, 1)?,
-            system_address: optional(alloc, entries, 2)?,
-            system_id: required(alloc, entries, 0)?,
+        part_of!(SendTo {
+            system_id: required(alloc, entries, 0),
+            account_number: optional(alloc, entries, 1),
+            system_address: optional(alloc, entries, 2),
         })
     }
 }
@@ -125,15 +126,15 @@ impl Part for ThirdPartyInfo {
 
     fn read(alloc: Global, value: &Value) -> Result<Self, AllocError> {
         let entries = entries::<Self>(value);
-        Ok(ThirdPartyInfo {
-            permission_to_forward: required(alloc, entries, 0)?,
-            permission_to_chain: required(alloc, entries, 1)?,
-            permission_to_partition: required(alloc, entries, 2)?,
-            permission_to_change_send_to_list: required(alloc, entries, 3)?,
-            preference: required(alloc, entries, 5)?,
-            already_tried_list: optional(alloc, entries, 7)?,
-            send_to_list: optional(alloc, entries, 6)?,
-            initial_requester_address: optional(alloc, entries, 4)?,
+        part_of!(ThirdPartyInfo {
+            permission_to_forward: required(alloc, entries, 0),
+            permission_to_chain: required(alloc, entries, 1),
+            permission_to_partition: required(alloc, entries, 2),
+            permission_to_change_send_to_list: required(alloc, entries, 3),
+            initial_requester_address: optional(alloc, entries, 4),
+            preference: required(alloc, entries, 5),
+            send_to_list: optional(alloc, entries, 6),
+            already_tried_list: optional(alloc, entries, 7),
         })
     }
 }

@@ -2,6 +2,7 @@
 use crate::part::{
     Node, Part, Typed, entries, optional, optional_value, required, required_value, sequence,
 };
+use crate::part_of;
 use crate::party::SystemId;
 use ber_leaf::{DateText, IllString, TimeText};
 use ill_schema::{NodeId, Value};
@@ -53,11 +54,11 @@ impl Part for TransactionId {
 
     fn read(alloc: Global, value: &Value) -> Result<Self, AllocError> {
         let entries = entries::<Self>(value);
-        Ok(TransactionId {
-            transaction_group_qualifier: required(alloc, entries, 1)?,
-            transaction_qualifier: required(alloc, entries, 2)?,
-            sub_transaction_qualifier: optional(alloc, entries, 3)?,
-            initial_requester_id: optional(alloc, entries, 0)?,
+        part_of!(TransactionId {
+            initial_requester_id: optional(alloc, entries, 0),
+            transaction_group_qualifier: required(alloc, entries, 1),
+            transaction_qualifier: required(alloc, entries, 2),
+            sub_transaction_qualifier: optional(alloc, entries, 3),
         })
     }
 }
@@ -110,9 +111,9 @@ impl Part for DateTime {
 
     fn read(alloc: Global, value: &Value) -> Result<Self, AllocError> {
         let entries = entries::<Self>(value);
-        Ok(DateTime {
-            date: required(alloc, entries, 0)?,
-            time: optional(alloc, entries, 1)?,
+        part_of!(DateTime {
+            date: required(alloc, entries, 0),
+            time: optional(alloc, entries, 1),
         })
     }
 }
@@ -165,9 +166,9 @@ impl Part for ServiceDateTime {
 
     fn read(alloc: Global, value: &Value) -> Result<Self, AllocError> {
         let entries = entries::<Self>(value);
-        Ok(ServiceDateTime {
-            date_time_of_this_service: required(alloc, entries, 0)?,
-            date_time_of_original_service: optional(alloc, entries, 1)?,
+        part_of!(ServiceDateTime {
+            date_time_of_this_service: required(alloc, entries, 0),
+            date_time_of_original_service: optional(alloc, entries, 1),
         })
     }
 }

@@ -70,24 +70,24 @@ pub returns : goal.returns
 returns c =
     let entries = c.entries-entries.ensures in
     item_is _ _ (entry_at c.entries-entries.result.now) entries.value entries.rows
-    (search (rules, c.in_ok-optional.ensures))
-    (search (rules, c.in_ok-optional-2.ensures))
-    c.in_ok-optional-3.ensures
-    c.in_ok-optional-4.ensures
-    c.in_ok-optional-5.ensures
-    c.in_ok-optional-6.ensures
-    c.in_ok-optional-7.ensures
-    c.in_ok-optional-8.ensures
-    c.in_ok-optional-9.ensures
-    c.in_ok-optional-10.ensures
-    c.in_ok-optional-11.ensures
-    c.in_ok-optional-12.ensures
-    c.in_ok-optional-13.ensures
-    c.in_ok-optional-14.ensures
-    c.in_ok-optional-15.ensures
-    c.in_ok-optional-16.ensures
-    c.in_ok-optional-17.ensures
-    c.in_ok-optional-18.ensures
-    c.in_ok-optional-19.ensures
-    c.in_ok-optional-20.ensures
-    c.in_ok-optional-21.ensures
+    (search (rules, c.in-Ok-Ok-Ok-Ok-Ok-Ok-Ok.ensures))
+    (search (rules, c.in-Ok-Ok-Ok-Ok-Ok-Ok-Ok.ensures'))
+    c.in-Ok-Ok-Ok-Ok-Ok-Ok-Ok.ensures''
+    c.in-Ok-Ok-Ok-Ok-Ok-Ok-Ok.ensures'''
+    c.in-Ok-Ok-Ok-Ok-Ok-Ok-Ok.ensures''''
+    c.in-Ok-Ok-Ok-Ok-Ok-Ok-Ok.ensures'''''
+    c.in-Ok-Ok-Ok-Ok-Ok-Ok-Ok.ensures''''''
+    c.in-Ok-Ok-Ok-Ok-Ok-Ok-Ok-2.ensures
+    c.in-Ok-Ok-Ok-Ok-Ok-Ok-Ok-2.ensures'
+    c.in-Ok-Ok-Ok-Ok-Ok-Ok-Ok-2.ensures''
+    c.in-Ok-Ok-Ok-Ok-Ok-Ok-Ok-2.ensures'''
+    c.in-Ok-Ok-Ok-Ok-Ok-Ok-Ok-2.ensures''''
+    c.in-Ok-Ok-Ok-Ok-Ok-Ok-Ok-2.ensures'''''
+    c.in-Ok-Ok-Ok-Ok-Ok-Ok-Ok-2.ensures''''''
+    c.in-Ok-Ok-Ok-Ok-Ok-Ok-Ok-3.ensures
+    c.in-Ok-Ok-Ok-Ok-Ok-Ok-Ok-3.ensures'
+    c.in-Ok-Ok-Ok-Ok-Ok-Ok-Ok-3.ensures''
+    c.in-Ok-Ok-Ok-Ok-Ok-Ok-Ok-3.ensures'''
+    c.in-Ok-Ok-Ok-Ok-Ok-Ok-Ok-3.ensures''''
+    c.in-Ok-Ok-Ok-Ok-Ok-Ok-Ok-3.ensures'''''
+    c.in-Ok-Ok-Ok-Ok-Ok-Ok-Ok-3.ensures''''''

@@ -1,10 +1,10 @@
 use Rattle.ill_parts.proofs.third_party.SendToPart.read.Goals as goal
 
+pub required-requires : goal.required-requires
+required-requires c = c.entries-entries.ensures.rows.0
+
 pub optional-requires : goal.optional-requires
 optional-requires c = c.entries-entries.ensures.rows.1.0
 
 pub optional-requires-2 : goal.optional-requires-2
 optional-requires-2 c = c.entries-entries.ensures.rows.1.1.0
-
-pub required-requires : goal.required-requires
-required-requires c = c.entries-entries.ensures.rows.0

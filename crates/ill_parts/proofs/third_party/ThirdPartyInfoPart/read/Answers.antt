@@ -12,14 +12,14 @@ required-requires-3 c = c.entries-entries.ensures.rows.1.1.0
 pub required-requires-4 : goal.required-requires-4
 required-requires-4 c = c.entries-entries.ensures.rows.1.1.1.0
 
+pub optional-requires : goal.optional-requires
+optional-requires c = c.entries-entries.ensures.rows.1.1.1.1.0
+
 pub required-requires-5 : goal.required-requires-5
 required-requires-5 c = c.entries-entries.ensures.rows.1.1.1.1.1.0
-
-pub optional-requires : goal.optional-requires
-optional-requires c = c.entries-entries.ensures.rows.1.1.1.1.1.1.1.0
 
 pub optional-requires-2 : goal.optional-requires-2
 optional-requires-2 c = c.entries-entries.ensures.rows.1.1.1.1.1.1.0
 
 pub optional-requires-3 : goal.optional-requires-3
-optional-requires-3 c = c.entries-entries.ensures.rows.1.1.1.1.0
+optional-requires-3 c = c.entries-entries.ensures.rows.1.1.1.1.1.1.1.0
