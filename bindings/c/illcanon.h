@@ -304,6 +304,12 @@ uint32_t illcanon_json_as(uint32_t profile, const uint8_t *octets, size_t octets
 uint32_t illcanon_build_as(uint32_t profile, const uint8_t *line, size_t line_size, uint8_t *buffer, size_t buffer_size, size_t *size,
                            uint32_t *cause);
 
+/* Writes the message in the profile that a line of JSON says, as illcanon_build_as does, with an element for each part that has its default.
+ * Some systems refuse messages without their defaults. It is a message of the same APDU, but no normal form: illcanon_normalise_as makes the
+ * normal form of it. Where the defaults have no room within ILLCANON_LIMIT octets, it is the normal form. */
+uint32_t illcanon_build_with_defaults(uint32_t profile, const uint8_t *line, size_t line_size, uint8_t *buffer, size_t buffer_size,
+                                      size_t *size, uint32_t *cause);
+
 /* Writes the digest of the message in the profile that the octets are, as illcanon_digest does. */
 uint32_t illcanon_digest_as(uint32_t profile, const uint8_t *octets, size_t octets_size, uint8_t *buffer, size_t buffer_size,
                             size_t *size, struct illcanon_refusal *refusal);

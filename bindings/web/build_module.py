@@ -24,7 +24,7 @@ CRATE = ROOT / "crates/ill_c"
 BUILD = HERE / "build"
 
 SOURCES = "memory wide".split()
-CALLS = "normalise_as check_as same_as show_as json_as build_as digest_as normalise_next_as dump_as frame".split()
+CALLS = "normalise_as check_as same_as show_as json_as build_as build_with_defaults digest_as normalise_next_as dump_as frame".split()
 TRIPLE = "wasm64-unknown-unknown"
 LAYOUT = "e-m:e-p:64:64-p10:8:8-p20:8:8-i64:64-i128:128-n32:64-S128-ni:1:10:20"
 # What the back end writes for x86-64. Sizes and alignments are the same in both layouts.

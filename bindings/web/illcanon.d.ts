@@ -31,6 +31,11 @@ export interface Placing extends Writing {
   offset?: number;
 }
 
+/** How a message is built: also whether it has each default, and so is no normal form; it has none where that isn't said. */
+export interface Building extends Reading {
+  defaults?: boolean;
+}
+
 /** A value of JSON. Numbers are whole, and those past 53 bits are BigInt. */
 export type Json = null | boolean | number | bigint | string | readonly Json[] | { readonly [name: string]: Json };
 
@@ -118,8 +123,9 @@ export class Illcanon {
   /** The message that the octets are as an object. A number past 53 bits is a BigInt. Throws Refused. */
   parse(octets: Octets, options?: Placing): Message;
   /** The normal form of the message that a value says, as `parse` gives it, or a line of JSON as text or octets. Throws NotBuilt, and a
-   * RangeError at a number that is no safe integer. */
-  build(message: Message | Json | Octets, options?: Reading): Uint8Array;
+   * RangeError at a number that is no safe integer. With `defaults` each part that has its default is written, too: a message of the same APDU
+   * that is no normal form, for systems that refuse messages without their defaults. */
+  build(message: Message | Json | Octets, options?: Building): Uint8Array;
   /** SHA-256 of the normal form of the message that the octets are: the same for all spellings. Throws Refused. */
   digest(octets: Octets, options?: Reading): Uint8Array;
   /** The message as it is spelled, also where it is refused. */

@@ -160,6 +160,13 @@ function readingNumber(options) {
   return profileNumber(optionsOf(options, ["profile"]).profile);
 }
 
+/** The number of the profile that the options of `build` name, and whether they ask for defaults. */
+function buildingOf(options) {
+  const { profile, defaults = false } = optionsOf(options, ["profile", "defaults"]);
+  if (typeof defaults !== "boolean") throw new TypeError(`defaults ${String(defaults)}`);
+  return { profile: profileNumber(profile), defaults };
+}
+
 /** The number of the profile that the options of a call name, and that of the message. */
 function writingNumbers(options) {
   const { profile, number = 1 } = optionsOf(options, ["profile", "number"]);
@@ -177,7 +184,7 @@ function placeNumbers(options) {
 const ASCII = new TextDecoder("latin1"), UTF8 = new TextDecoder();
 
 /** The calls that also write to their buffer where they refuse. */
-const WRITING_REFUSED = ["illcanon_dump_as", "illcanon_build_as"];
+const BUILDING = ["illcanon_build_as", "illcanon_build_with_defaults"], WRITING_REFUSED = ["illcanon_dump_as", ...BUILDING];
 
 /** The calls. One made by `load` has a memory of its own. */
 export class Illcanon {
@@ -233,11 +240,11 @@ export class Illcanon {
     return readJson(this.json(octets, options));
   }
 
-  /** The normal form of the message that a value of JSON says, or a line of it as text or octets. */
+  /** The normal form of the message that a value of JSON says, or a line of it as text or octets. With `defaults` it has each default. */
   build(message, options) {
-    const profile = readingNumber(options), line = jsonOctetsOf(message);
+    const { profile, defaults } = buildingOf(options), line = jsonOctetsOf(message);
     try {
-      return this.#written("illcanon_build_as", line, profile, [], Math.min(line.length, LIMIT) + 4096);
+      return this.#written(BUILDING[Number(defaults)], line, profile, [], Math.min(line.length, LIMIT) + 4096);
     } finally {
       if (this.memorySize > MOST_KEPT) this.#restart();
     }
@@ -341,7 +348,7 @@ export class Illcanon {
       }
       const octets = status === DONE || WRITING_REFUSED.includes(name) ? this.#view(buffer, this.#size(size)).slice() : null;
       if (status !== REFUSED) return { octets, refusal: null };
-      return { octets, refusal: name === "illcanon_build_as" ? this.#notBuilt(why, octets) : this.#refusal(why) };
+      return { octets, refusal: BUILDING.includes(name) ? this.#notBuilt(why, octets) : this.#refusal(why) };
     });
   }
 

@@ -83,6 +83,7 @@ OPTIONS = {
     "files-from": r"[Nn]ames of files (are read )?from LIST, each ended by a NUL",
     "with-filename": r"Names the file in each line, .*even if there is one file",
     "json": r"Writes a line of JSON for each message",
+    "write-defaults": r"Writes each default, too|each member that has its default is in the message",
     "html": r"Writes one HTML document for all files",
     "message": r"Writes message N (of each file )?alone",
     "help": r"^Prints? help",

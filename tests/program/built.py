@@ -3,8 +3,9 @@
 
 The lines of the valid test vectors of vectors/ and of random APDUs give the octets that the vectors and the model's writer say. Lines that are
 changed in some places give the octets that the model's builder says, or its cause and its place. Each line that is built is as
-docs/build.schema.json says, which is made here. What the program shows of all test vectors with octets and all examples it builds into
-what `canonicalise` writes of them.
+docs/build.schema.json says, which is made here, and each result of --json as docs/built.schema.json says. What the program shows of all test vectors with octets and all examples it builds into
+what `canonicalise` writes of them. With --write-defaults the lines of random APDUs give the octets of a writer that writes each default, and
+what is built has the same normal form.
 Usage: built.py [SEED [COUNT [PROFILE]]], PROFILE being `2`, the default, or `module`; or built.py --write, which writes the schema. Prints
 the seed, with which a run is made again. Needs the programs of crates/example_build and crates/illcanon.
 """
@@ -65,12 +66,19 @@ def vector_lines():
                 yield line_of(vector["apdu"], of_vector(nodes[vector["apdu"]], "", vector["value"])), octets_of(vector, "normal", "normal_runs").hex()
 
 
-def random_lines(chance, count):
+class DefaultsWriter(Writer):
+    """The normal form, and each default besides."""
+
+    def writes_default(self):
+        return True
+
+
+def random_lines(chance, count, writer):
     root = ROOTS[PROFILE]
     for _ in range(count):
         apdu = random_value(chance, root)
         row, name = ALL_ROWS[root][apdu[0]], NAMES[root][1][apdu[0]]
-        yield line_of(name, of_random(row.node, "", apdu[1])), Writer().value(root, apdu, None).hex()
+        yield line_of(name, of_random(row.node, "", apdu[1])), writer.value(root, apdu, None).hex()
 
 
 # ---- changes
@@ -132,10 +140,10 @@ def escaped(pointer):
     return "".join(ESCAPES.get(octet, chr(octet)) for octet in pointer.encode())
 
 
-def answer(text):
-    """What the program says of a line, as the model has it."""
+def answer(text, builders=BUILDERS):
+    """What the program says of a line, as the model has it in the first of these profiles that the line doesn't exclude."""
     fault = None
-    for builder in BUILDERS:
+    for builder in builders:
         try:
             return builder.line(text).hex()
         except Fault as refused:
@@ -205,10 +213,39 @@ def build_what_is_shown():
         files = Path(folder, "list")
         files.write_bytes(b"".join(bytes(path) + b"\0" for path in paths))
         options = ["--keep-going", "--profile", PROFILE, "--files-from", files]
-        shown = illcanon("show", "--json", *options)
-        if illcanon("build", "--profile", PROFILE, "-", "-", given=shown) != illcanon("canonicalise", "-o", "-", *options):
-            sys.exit("built.py: what is shown is not built into the normal forms")
+        shown, normal = illcanon("show", "--json", *options), illcanon("canonicalise", "-o", "-", *options)
+    profile = ["--profile", PROFILE, "-", "-"]
+    if illcanon("build", *profile, given=shown) != normal:
+        sys.exit("built.py: what is shown is not built into the normal forms")
+    spelled = illcanon("build", "--write-defaults", *profile, given=shown)
+    if spelled == normal or illcanon("canonicalise", *profile, given=spelled) != normal:
+        sys.exit("built.py: with defaults, what is shown is not built into messages of these normal forms")
     return shown.count(b"\n")
+
+
+def build_results(lines):
+    """The results of --json are as docs/built.schema.json says, in turn, and have the octets and causes of the model."""
+    schema = Schema(json.loads((TOP / "docs/built.schema.json").read_text()))
+    own = [Builder(TABLES, PROFILE)]
+    given = "".join(text + "\n" for text in lines).encode()
+    found = illcanon("build", "--json", "--keep-going", "--profile", PROFILE, "-", "-", given=given).decode().split("\n")[:-1]
+    for i, (text, line) in enumerate(zip(lines, found, strict=True), 1):
+        result = json.loads(line)
+        fault = schema.fault(result)
+        if fault:
+            sys.exit(f"built.py: {line}\n is a result, and {fault}")
+        said = result["message"] if "message" in result else result["refused"]["cause"]
+        if (result["line"], said) != (i, answer(text, own).rsplit(" ", 1)[-1]) or "message" in result and 2 * result["octets"] != len(said):
+            sys.exit(f"built.py: {text}\n has the result {line}")
+
+
+def build_defaults(pairs):
+    """Lines are built with each default, as these octets say."""
+    given = "".join(text + "\n" for text, _ in pairs).encode()
+    found = illcanon("build", "--write-defaults", "--hex", "--profile", PROFILE, "-", "-", given=given).decode().split("\n")[:-1]
+    for (text, wanted), digits in zip(pairs, found, strict=True):
+        if digits != wanted:
+            sys.exit(f"built.py: with defaults {text}\n is {digits}\n not {wanted}")
 
 
 def main():
@@ -221,11 +258,13 @@ def main():
     seed, count = seed_and_count()
     chance = random.Random(seed)
     vectors = list(vector_lines())
-    known = list(random_lines(chance, count))
+    known = list(random_lines(chance, count, Writer()))
     lines = [text for text, _ in vectors + known if len(text) < 4096]
     changed = list(changed_lines(chance, lines, 10 * count))
     causes = sorted({said.rsplit(" ", 1)[1] for _, said in changed if said.startswith("refused")})
     counts = [compare(pairs) for pairs in (vectors, known, changed)]
+    build_results([text for text, _ in known + changed if "\n" not in text and len(text) < 4096][:4 * count])
+    build_defaults(list(random_lines(chance, count, DefaultsWriter())))
     fit(Schema(json.loads(made)), [pair for pair in vectors + known + changed if len(pair[0]) < 4096][:4 * count])
     print(f"seed {seed}, profile {PROFILE}: {counts[0]} test vectors, {counts[1]} random APDUs and {counts[2]} changed lines, all right; {len(causes)} causes; {build_what_is_shown()} lines of the program")
 

@@ -889,6 +889,16 @@ octets GOOD $EXPIRED
 row build 0 '' '' build LINES OUT
 cmp -s OUT GOOD || { failed=$((failed + 1)) && echo 'failed: build: OUT is not the message'; }
 row build-as-digits 0 "$EXPIRED\n" '' build --hex LINES -
+# Each default: transaction-type, expiry-flag, place-on-hold, three flags of the cost and five parts of the third party, retry-flag, forward-flag;
+# renewable, which is TRUE; and critical, of the module profile.
+HEAD=${LINE%??} && OPTIONAL='"requester-optional-messages":{"can-send-received":false,"can-send-returned":false,"requester-shipped":1,"requester-checked-in":1}'
+printf '%s,"ill-service-type":["loan"],%s,"search-type":{},"item-id":{},"cost-info-type":{},"third-party-info-type":{}}}\n' "${HEAD/Expired/ILL-Request}" "$OPTIONAL" >LINES
+printf '%s,"date-due":{"date-due-field":"20240301"}}}\n' "${HEAD/Expired/Overdue}" >>LINES
+START=800102a10aa1031b0147a2031b0151a20ca00a80083230323430323239
+row build-with-defaults 0 "6161305f${START}850101a9030a0101ab0c800100810100820101830101ac038201038e0103b000b209820100830100840100b40f800100810100820100830100850102950100960100\n\
+6c2f302d${START}bf290d800832303234303330318101ff\n" '' build --write-defaults --hex LINES -
+printf '%s,"expired-extensions":[{"identifier":1,"item":{"foreign":"0500"}}]}}\n' "$HEAD" >LINES
+row build-with-defaults-of-the-module 0 "742e302c${START}bf310c300a800101810100a2020500\n" '' build --write-defaults --profile module --hex LINES -
 printf '%s\n{"apdu":"Expire"}\n[\n%s' "$LINE" "$LINE" >LINES
 UNNAMED='refused at /apdu in line 2: UnknownName\n'
 NO_JSON='refused at column 2 in line 3: NotJson\n'
@@ -896,6 +906,7 @@ row build-up-to-a-fault 1 '' "illcanon: $UNNAMED" build LINES OUT
 cmp -s OUT GOOD || { failed=$((failed + 1)) && echo 'failed: build-up-to-a-fault: OUT is not the message'; }
 row build-going-on 1 "$EXPIRED\n$EXPIRED\n" "illcanon: $UNNAMED""illcanon: $NO_JSON" build --keep-going --hex --refused KEPT LINES -
 printf '{"apdu":"Expire"}\n[\n' | cmp -s - KEPT || { failed=$((failed + 1)) && echo 'failed: build-going-on: KEPT is not the refused lines'; }
+row build-up-to-refused-lines 1 "$EXPIRED\n" "illcanon: ${UNNAMED}illcanon: stopped after 1 refused line\n" build --keep-going --max-refused 1 --hex LINES -
 row build-of-two 1 "$EXPIRED\n$EXPIRED\n" "illcanon: LINES: $UNNAMED""illcanon: ./LINES: ${UNNAMED}illcanon: 2 files, 4 lines, 2 built, 2 refused, 66 octets, 2 left before the end\n" build --hex --summary -o - LINES ./LINES
 row build-by-lines 1 "$EXPIRED\nrefused at /apdu: UnknownName\nrefused at column 2: NotJson\n$EXPIRED\n" '' build --lines LINES -
 row build-as-json 1 '{"line":1,"apdu":"Expired","octets":33,"message":"'$EXPIRED'"}\n{"line":2,"refused":{"cause":"UnknownName","pointer":"/apdu"}}\n' '' build --json LINES -

@@ -32,6 +32,15 @@ static uint32_t build_first(const uint8_t *octets, size_t count, uint8_t *buffer
     return status;
 }
 
+static uint32_t build_defaults_first(const uint8_t *octets, size_t count, uint8_t *buffer, size_t room, size_t *size,
+                                     struct illcanon_refusal *refusal) {
+    uint32_t cause = 77;
+    uint32_t status = build_with_defaults(octets, count, buffer, room, size, &cause);
+    (void)refusal;
+    EXPECT(cause == 77);
+    return status;
+}
+
 static uint32_t dump_first(const uint8_t *octets, size_t count, uint8_t *buffer, size_t room, size_t *size, struct illcanon_refusal *refusal) {
     return dump(octets, count, 1, buffer, room, size, refusal);
 }
@@ -215,6 +224,10 @@ static void message_is(struct octets message, struct octets wanted) {
     written(show_first, message);
     struct octets line = written(json_first, message), built = written(build_first, line);
     EXPECT(are_equal(built, wanted));
+    struct octets spelled = written(build_defaults_first, line), again = written(normalise, spelled);
+    EXPECT(are_equal(again, wanted));
+    unfence(again.at, again.count);
+    unfence(spelled.at, spelled.count);
     unfence(built.at, built.count);
     unfence(line.at, line.count);
     written(dump_first, message);
@@ -275,6 +288,7 @@ static void no_profile_is(uint32_t number, struct octets good) {
     EXPECT(illcanon_show_as(number, good.at, good.count, 1, buffer, sizeof buffer, &size, &refusal) == ILLCANON_UNKNOWN_PROFILE);
     EXPECT(illcanon_json_as(number, good.at, good.count, 1, 0, buffer, sizeof buffer, &size, &refusal) == ILLCANON_UNKNOWN_PROFILE);
     EXPECT(illcanon_build_as(number, good.at, good.count, buffer, sizeof buffer, &size, &answer) == ILLCANON_UNKNOWN_PROFILE);
+    EXPECT(illcanon_build_with_defaults(number, good.at, good.count, buffer, sizeof buffer, &size, &answer) == ILLCANON_UNKNOWN_PROFILE);
     EXPECT(illcanon_dump_as(number, good.at, good.count, 1, buffer, sizeof buffer, &size, &refusal) == ILLCANON_UNKNOWN_PROFILE);
     EXPECT(illcanon_digest_as(number, good.at, good.count, buffer, sizeof buffer, &size, &refusal) == ILLCANON_UNKNOWN_PROFILE);
     EXPECT(illcanon_check_as(number, good.at, good.count, &answer, &refusal) == ILLCANON_UNKNOWN_PROFILE);

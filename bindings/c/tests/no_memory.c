@@ -61,6 +61,10 @@ static uint32_t make_build(void) {
     return build(line.at, line.count, buffer, ROOM, &size, &answer);
 }
 
+static uint32_t make_build_with_defaults(void) {
+    return build_with_defaults(line.at, line.count, buffer, ROOM, &size, &answer);
+}
+
 static uint32_t make_refused_build(void) {
     return build((const uint8_t *)refused_line, sizeof refused_line - 1, buffer, ROOM, &size, &answer);
 }
@@ -146,6 +150,7 @@ int main(int count, char **words) {
     refuse_each("show", make_show, ILLCANON_DONE);
     refuse_each("json", make_json, ILLCANON_DONE);
     refuse_each("build", make_build, ILLCANON_DONE);
+    refuse_each("build_with_defaults", make_build_with_defaults, ILLCANON_DONE);
     refuse_each("build of a refused line", make_refused_build, ILLCANON_REFUSED);
     EXPECT(answer == ILLCANON_BUILD_UNKNOWN_MEMBER);
     refuse_each("dump", make_dump, ILLCANON_DONE);

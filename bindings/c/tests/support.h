@@ -83,6 +83,10 @@ static inline uint32_t build(const uint8_t *line, size_t count, uint8_t *buffer,
                         : illcanon_build(line, count, buffer, room, size, cause);
 }
 
+static inline uint32_t build_with_defaults(const uint8_t *line, size_t count, uint8_t *buffer, size_t room, size_t *size, uint32_t *cause) {
+    return illcanon_build_with_defaults(profile != 0 ? profile : ILLCANON_PROFILE_2, line, count, buffer, room, size, cause);
+}
+
 static inline uint32_t digest(const uint8_t *octets, size_t count, uint8_t *buffer, size_t room, size_t *size,
                               struct illcanon_refusal *refusal) {
     return profile != 0 ? illcanon_digest_as(profile, octets, count, buffer, room, size, refusal)

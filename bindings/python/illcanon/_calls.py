@@ -247,18 +247,22 @@ def parse(octets: Octets, number: int = 1, offset: int = 0, *, profile: Profile 
     return found
 
 
-def build(message: Union[Dict[str, Any], str, Octets], *, profile: Profile = "2") -> bytes:
+def build(message: Union[Dict[str, Any], str, Octets], *, profile: Profile = "2", defaults: bool = False) -> bytes:
     """The normal form of the message in the profile that a dict or a line of JSON says: what `parse` gives, as text or not.
 
     `apdu` is the name of the APDU, and `value` its value. `profile` is the name of the profile where it is there. The other members of
     `parse` may be left out, and hold anything. Numbers are written in full.
+
+    With `defaults` each part that has its default is written, too, for systems that refuse messages without them. That is a message of the
+    same APDU, but no normal form; `normalise` makes the normal form of it.
 
     Raises `NotBuilt` where no message is said. What is no JSON in Python, such as octets in a dict, raises what `json.dumps` does.
     """
     profile_number, line = _number_of(profile), _line_of(message)
     cause = ctypes.c_uint32()
     room = min(len(line), LIMIT) + 256
-    status, octets = _put(lambda *memory: library.illcanon_build_as(profile_number, line, len(line), *memory), room, cause)
+    call = library.illcanon_build_with_defaults if defaults else library.illcanon_build_as
+    status, octets = _put(lambda *memory: call(profile_number, line, len(line), *memory), room, cause)
     if status == Status.REFUSED:
         raise _not_built(cause.value, octets)
     if status == Status.OUT_OF_MEMORY:

@@ -32,6 +32,7 @@ def _load() -> ctypes.CDLL:
         "illcanon_show_as": [*octets, ctypes.c_uint32, *written],
         "illcanon_json_as": [*octets, ctypes.c_uint32, ctypes.c_uint64, *written],
         "illcanon_build_as": [*octets, *text, ctypes.POINTER(ctypes.c_uint32)],
+        "illcanon_build_with_defaults": [*octets, *text, ctypes.POINTER(ctypes.c_uint32)],
         "illcanon_dump_as": [*octets, ctypes.c_uint32, *written],
         "illcanon_digest_as": [*octets, *written],
         "illcanon_check_as": [*octets, *answer],

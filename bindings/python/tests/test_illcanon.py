@@ -40,6 +40,10 @@ from refusals import misspelled
 
 EXPIRED = bytes.fromhex("741f301d800102a10aa1031b0147a2031b0151a20ca00a80083230323430323239")
 REQUEST = bytes.fromhex("61343032800102a10aa1031b0147a2031b0151a20ca00a80083230323430323239a9030a0101ab0c800100810100820101830101b000")
+# The same request with the elements 85, 8e, 95 and 96, which have their defaults.
+REQUEST_WITH_DEFAULTS = bytes.fromhex(
+    "6140303e800102a10aa1031b0147a2031b0151a20ca00a80083230323430323239850101a9030a0101ab0c8001008101008201018301018e0103b000950100960100"
+)
 
 
 # The greatest number of octets of a message.
@@ -787,9 +791,20 @@ class Built(unittest.TestCase):
         for kind in (1, "simple", {"number": 1, "name": "simple"}, {"name": "simple", "number": 1}):
             self.assertEqual(illcanon.build(requested(**{"transaction-type": kind, "retry-flag": False})), REQUEST)
 
+    def test_a_dict_is_built_with_defaults(self):
+        self.assertEqual(illcanon.build(requested(), defaults=True), REQUEST_WITH_DEFAULTS)
+        self.assertEqual(illcanon.build(requested(), profile="module", defaults=True), REQUEST_WITH_DEFAULTS)
+        self.assertEqual(illcanon.build(illcanon.parse(REQUEST), defaults=True), REQUEST_WITH_DEFAULTS)
+        self.assertEqual(illcanon.build(requested(**{"transaction-type": 2}), defaults=True), REQUEST_WITH_DEFAULTS.replace(b"\x85\1\1", b"\x85\1\2"))
+        self.assertEqual(illcanon.normalise(REQUEST_WITH_DEFAULTS), REQUEST)
+        self.assertEqual(illcanon.build(expired(), defaults=True), EXPIRED)
+        with self.assertRaises(illcanon.NotBuilt):
+            illcanon.build({}, defaults=True)
+
     def test_the_greatest_message_is_built(self):
         message = greatest_message()
         self.assertTrue(illcanon.build(illcanon.parse(message)) == message)
+        self.assertTrue(illcanon.build(illcanon.parse(message), defaults=True) == message)
 
     def test_numbers_are_written_in_full(self):
         for number in (2**63 - 1, -(2**63), 2**53 + 1, 0, -1):
@@ -864,6 +879,7 @@ uint32_t illcanon_frame(const uint8_t *octets, size_t count, size_t *size) {
 CALL(illcanon_show_as)
 CALL(illcanon_json_as)
 CALL(illcanon_build_as)
+CALL(illcanon_build_with_defaults)
 CALL(illcanon_dump_as)
 CALL(illcanon_digest_as)
 CALL(illcanon_check_as)

@@ -129,6 +129,22 @@ test("a message is built of an object, a text or octets", () => {
   assert.throws(() => calls.build(module), { name: "NotBuilt", cause: "OtherProfile", pointer: "/profile" });
 });
 
+test("a message is built with its defaults", () => {
+  const start = "800102a10aa1031b0147a2031b0151a20ca00a80083230323430323239", flags = "ab0c800100810100820101830101";
+  const optional = { "can-send-received": false, "can-send-returned": false, "requester-shipped": 1, "requester-checked-in": 1 };
+  const request = { apdu: "ILL-Request", value: { ...VALUE, "ill-service-type": ["loan"], "requester-optional-messages": optional, "item-id": {} } };
+  const normal = of(`61343032${start}a9030a0101${flags}b000`);
+  for (const profile of ["2", "module"]) {
+    assert.deepEqual(calls.build(request, { profile }), normal);
+    assert.deepEqual(calls.build(request, { profile, defaults: false }), normal);
+    const spelled = calls.build(request, { profile, defaults: true });
+    assert.deepEqual(spelled, of(`6140303e${start}850101a9030a0101${flags}8e0103b000950100960100`));
+    assert.deepEqual(calls.normalise(spelled, { profile }), normal);
+  }
+  assert.throws(() => calls.build({}, { defaults: true }), { message: "not built at /apdu: MissingMember", number: 7 });
+  for (const defaults of [1, "true", null]) assert.throws(() => calls.build(request, { defaults }), TypeError);
+});
+
 test("numbers past 53 bits are BigInt, and exact", () => {
   const rows = [
     [2 ** 53 - 1, "071fffffffffffff"], [-(2 ** 53 - 1), "07e0000000000001"], [2n ** 53n, "0720000000000000"], [-(2n ** 53n), "07e0000000000000"],

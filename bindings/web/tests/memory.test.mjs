@@ -5,7 +5,7 @@ import test from "node:test";
 import { load } from "../illcanon.js";
 
 const octets = readFileSync(new URL("../build/illcanon.wasm", import.meta.url)), module = await WebAssembly.compile(octets);
-const CALLS = "normalise_as check_as same_as show_as json_as build_as digest_as normalise_next_as dump_as frame".split(" ");
+const CALLS = "normalise_as check_as same_as show_as json_as build_as build_with_defaults digest_as normalise_next_as dump_as frame".split(" ");
 const EXPIRED = Buffer.from("741f301d800102a10aa1031b0147a2031b0151a20ca00a80083230323430323239", "hex");
 
 /** A generator of numbers that are the same in each run. */

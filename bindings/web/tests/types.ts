@@ -40,7 +40,7 @@ function useNotBuilt({ cause, number, pointer, path, message }: NotBuilt): void 
 const placing: Placing = { ...writing, offset: 9 }, json: string = calls.json(octets[0], placing), parsed: Message = calls.parse(octets[0], { offset: 9 });
 const value: Json = { apdu: "Expired", value: { "protocol-version-num": 2n ** 63n - 1n, list: [1, null, true, "x"] } };
 parsed.value["service-date-time"]["date-time-of-this-service"].date = "20270101";
-const built: Uint8Array[] = [calls.build(parsed, reading), calls.build(json), calls.build(value), calls.build({ ...parsed, octets: 7n }), calls.build(new Uint8Array(1))];
+const built: Uint8Array[] = [calls.build(parsed, reading), calls.build(json), calls.build(value), calls.build({ ...parsed, octets: 7n }), calls.build(new Uint8Array(1)), calls.build(json, { profile: "module", defaults: true })];
 const said: string = parsed.apdu, isOfModule: boolean = parsed.profile === "module", longest: 16777216 = LINE_LIMIT, last: string | undefined = BUILD_CAUSES[21];
 console.log(built, said, isOfModule, longest, last, useNotBuilt);
 

@@ -100,7 +100,8 @@ abbrev pub canonicalise_rules : List Rule
 canonicalise_rules = refusal_rules ++ flag_rule (codes "lines") ∷ flag_rule (codes "whole") ∷ output_rule ∷ inputs_rules
 
 abbrev pub build_rules : List Rule
-build_rules = refusal_rules ++ flag_rule (codes "lines") ∷ flag_rule (codes "json") ∷ flag_rule (codes "whole") ∷ output_rule ∷ inputs_rules ++ filename_rule ∷ []
+build_rules =
+    refusal_rules ++ flag_rule (codes "write-defaults") ∷ flag_rule (codes "lines") ∷ flag_rule (codes "json") ∷ flag_rule (codes "whole") ∷ output_rule ∷ inputs_rules ++ filename_rule ∷ []
 
 abbrev pub rules_of : Verb → List Rule
 rules_of (Verb.Print FileJob.Show) = show_rules

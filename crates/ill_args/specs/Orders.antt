@@ -231,6 +231,7 @@ HasBuildResults rows BuildResults.Messages = (is_set (codes "lines") rows ≡ fa
 
 pub record IsBuilding (rows : List Row) (building : Building) : Type 0 where
   pub results : HasBuildResults rows building.results
+  pub defaults : building.write_defaults ≡ is_set (codes "write-defaults") rows
   pub names : building.with_filename ≡ is_set (codes "with-filename") rows
 
 -- messages are read, and not lines in hexadecimal; or lines are built

@@ -12,6 +12,9 @@ pub const MAX_REFUSED: &str = "Stops after N refused lines of all files; needs -
 pub const SUMMARY: &str =
     "Writes a line to standard error at the end: how many files, lines and octets there were";
 
+pub const WRITE_DEFAULTS: &str =
+    "Writes each default, too, so that the messages are no normal forms";
+
 pub const LINES: &str =
     "Writes a line for each line: the message in hexadecimal, or why the line is refused";
 
@@ -55,6 +58,11 @@ With --summary a line on standard error at the end says how many files, lines an
 were read, how many lines are built and refused, and how many files could not be opened,
 or were left before their end. On a terminal, a line says how far the work is, where it
 takes more than two seconds.
+
+With --write-defaults a member that has its default is in the message, too, whether the
+line has the member or not. Some systems refuse messages without `transaction-type` and
+other defaults. The message is then no normal form: `canonicalise` makes the normal form
+of it. Where the defaults have no room within 1,048,576 octets, the normal form is written.
 
 With --lines each line of OUT is the result of the line in the input: the message in
 hexadecimal digits, or why the line is refused, as `refused at /apdu: UnknownName`.
@@ -111,12 +119,14 @@ BadForeign      it is not the DER of one element of at most 20 levels, with tag 
                 of at most four octets
     \"308000\"
 
-A sender may want --profile module: it has the tags of the module of ISO 10161-1.
+A sender may want --profile module, which has the tags of the module of ISO 10161-1, and
+--write-defaults.
 
 Example: illcanon build messages.json messages.der
          illcanon show --json messages.ber | illcanon build - - | illcanon check -
          illcanon build --keep-going --refused bad.json -o all.der ./*.json
          illcanon build --lines messages.json - | paste - messages.json
+         illcanon build --profile module --write-defaults request.json request.ber
 
 Status: 0 done; 1 a line is refused; 2 usage, or IN and OUT are the same file; 3 memory,
 files or pipes. Of several files: 3 if one gave 3, else 1 if one gave 1.";

@@ -179,11 +179,12 @@ static CANONICALISE_ARGUMENTS: [Argument; 9] = [
     Files("IN and OUT; or with `-o OUT` the messages; `-` is standard input or output"),
 ];
 
-static BUILD_ARGUMENTS: [Argument; 11] = [
+static BUILD_ARGUMENTS: [Argument; 12] = [
     Flag("keep-going", build_help::KEEP_GOING),
     Value("refused", "FILE", build_help::REFUSED),
     Number("max-refused", build_help::MAX_REFUSED),
     Flag("summary", build_help::SUMMARY),
+    Flag("write-defaults", build_help::WRITE_DEFAULTS),
     Flag("lines", build_help::LINES),
     Flag("json", build_help::JSON),
     Flag("whole", build_help::WHOLE),

@@ -292,6 +292,7 @@ fn building(words: &ArgMatches<'_>) -> Result<Building, LineFault>
 {
     Ok(Building {
         results: build_results(words)?,
+        write_defaults: is_set(words, "write-defaults"),
         with_filename: is_set(words, "with-filename"),
     })
 }

@@ -90,6 +90,8 @@ pub enum FormJob {
 #[derive(Clone, Copy, Debug, PartialEq, Eq)]
 pub struct Building {
     pub results: BuildResults,
+    /// True if each row that has its default has an element.
+    pub write_defaults: bool,
     /// True if each report on a line names its file, even if there is one file.
     pub with_filename: bool,
 }

@@ -73,6 +73,12 @@ pub sequence_identified : (r : Option (Class × ℕ)) (tag : Class × ℕ) → H
 sequence_identified (Some t) tag h e = subst (λ x. HasIdentifier (tag_at x) true) (sym e) (h true)
 sequence_identified None tag h e = subst (λ x. HasIdentifier (tag_at x) true) (sym e) (universal_id 16 true (lit≤ tt) (λ q. cc))
 
+-- a tag in place of a universal one
+pub own_identified : (r : Option (Class × ℕ)) (n : ℕ) (tag : Class × ℕ) → HasTag r → ((f : Bool) → HasIdentifier (tag_at (Class.Universal, n)) f)
+    → tag ≡ unwrap_or r (Class.Universal, n) → HasIdentifier (tag_at tag) false
+own_identified (Some t) n tag h own e = subst (λ x. HasIdentifier (tag_at x) false) (sym e) (h false)
+own_identified None n tag h own e = subst (λ x. HasIdentifier (tag_at x) false) (sym e) (own false)
+
 bare_at : (m : Mode) (o : Option (Class × ℕ)) (presence : Presence) (node : NodeId) (c : Content) → wrapper_at m o ≡ None
     → row_tree (record { tag = o; mode = m; presence = presence; node = node }) c ≡ element_tree (replacement_at m o) node c
 bare_at Mode.Implicit None presence node c e = refl

@@ -16,3 +16,4 @@ pub mod OneSaid
 pub mod WrittenLines
 pub mod OneLeafFault
 pub mod OneFault
+pub mod Spellings

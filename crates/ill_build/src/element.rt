@@ -11,7 +11,7 @@ use der_buffer::DerBuffer;
 use std::alloc::AllocError;
 
 /// The identifier of a tag and a form that have one.
-fn identifier_of(tag: (Class, u32), constructed: bool) -> Id
+pub fn identifier_of(tag: (Class, u32), constructed: bool) -> Id
     requires { HasIdentifier (tag_at tag) constructed }
     ensures { (tag_of_id result ≡ tag_at tag) × (form_of_id result ≡ constructed) }
 {

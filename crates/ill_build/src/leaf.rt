@@ -33,6 +33,7 @@ use ill_schema::{Kind, LeafKind, Profile};
 use ill_texts::{NumberFault, octets_of_characters, octets_of_hexadecimal, whole_number};
 use json::Value;
 use oid_text::octets_of_oid;
+use std::alloc::{AllocError, Global};
 
 /// The contents octets of a leaf, and the number of its universal tag.
 #[derive(Drop)]
@@ -189,12 +190,20 @@ fn read_whole<'a>(
     ensures refused { OnRefusal result (IsWholeFault name.now (value_view value.now)) }
 {
     let number = read_number(context, name, value)?;
-    let mut octets = vec![in context.alloc; 0; Whole::normal_size(&number)]?;
-    Whole::put_normal(&number, &mut octets);
+    let octets = whole_octets(context.alloc, number)?;
     Ok(LeafContents {
         number: tag,
         octets,
     })
+}
+
+/// The contents octets of a number.
+pub fn whole_octets(alloc: Global, number: i64) -> Result<Vec<u8>, AllocError>
+    ensures { IfOk result (λ octets. octets.items ≡ normal_content (whole number)) }
+{
+    let mut octets = vec![in alloc; 0; Whole::normal_size(&number)]?;
+    Whole::put_normal(&number, &mut octets);
+    Ok(octets)
 }
 
 /// Reads a string of a type.

@@ -12,6 +12,7 @@
 
 mod cause;
 mod column;
+mod defaults;
 mod element;
 mod fault_laws;
 mod laws;
@@ -24,6 +25,7 @@ mod stop;
 
 pub use cause::BuildCause;
 pub use column::column_of;
+pub use defaults::write_defaults;
 pub use fault_laws::{a_faulty_line_says_nothing, a_line_has_one_fault};
 pub use laws::{
     lines_are_one_to_one, one_apdu_is_said, one_value_is_said, shown_lines_are_said,

@@ -198,7 +198,7 @@ pub fn says_default(row: Row, name: &str, value: &Value<'_>) -> bool
 }
 
 /// Tells whether the type is BOOLEAN.
-fn is_boolean(node: NodeId) -> bool
+pub fn is_boolean(node: NodeId) -> bool
     ensures yes { result ≡ true → kind_of node ≡ KindOf.Leaf LeafKindOf.Boolean }
     ensures no { result ≡ false → kind_of node ≡ KindOf.Leaf LeafKindOf.Boolean → ⊥ }
 {
@@ -209,7 +209,7 @@ fn is_boolean(node: NodeId) -> bool
 }
 
 /// Tells whether the number of a default is TRUE's.
-fn is_one(number: i64) -> bool
+pub fn is_one(number: i64) -> bool
     ensures { result ≡ int_eq number (pos 1) }
 {
     number == 1

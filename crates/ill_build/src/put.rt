@@ -29,7 +29,7 @@ use json::Value;
 use std::alloc::Global;
 
 /// The tag of a SEQUENCE and of a SEQUENCE OF (X.680, 25 and 26).
-const SEQUENCE: (Class, u32) = (Class::Universal, universal::SEQUENCE);
+pub const SEQUENCE: (Class, u32) = (Class::Universal, universal::SEQUENCE);
 
 /// What each call of the builder is given.
 #[derive(Clone, Copy)]

@@ -1,5 +1,5 @@
 -- What calls leave that are given lines of JSON is one result in each profile.
-use Rattle.std.proofs.Common.{◌≡◌, ◌≢◌, ◌∙◌, ◌⊎◌, inl, inr, ℕ, ◌≤◌, List, length, refl, sym, ap, subst, arith}
+use Rattle.std.proofs.Common.{◌≡◌, ◌≢◌, ◌∙◌, ◌⊎◌, inl, inr, ℕ, false, ◌≤◌, List, length, refl, sym, ap, subst, arith}
 use Rattle.ber_leaf.specs.Profile.{Profile}
 use Rattle.ill_schema.specs.Apdu.{Apdu, SpellsApdu, normal_form_in}
 use Rattle.ill_schema.specs.Fits.{FitsApdu}
@@ -20,9 +20,9 @@ use Rattle.ill_c.proofs.BuildCauses.{one_cause}
 
 module _ (p : Profile) (line : List ℕ) (buffer : Change (List ℕ)) (size cause : Change ℕ) where
   -- what was built is the normal form of this APDU
-  one_built : (octets : List ℕ) (a : Apdu) → IsBuilt p line octets → IsBuildable p line a → octets ≡ normal_form_in p a
+  one_built : (octets : List ℕ) (a : Apdu) → IsBuilt false p line octets → IsBuildable p line a → octets ≡ normal_form_in p a
   one_built octets a (b, says, spells, e) can =
-      e ∙ ap (normal_form_in p) (apdu_said_once p line b a says can.says (means_apdu_fits p b spells.encodes.tree spells.encodes.means) can.fits)
+      e refl ∙ ap (normal_form_in p) (apdu_said_once p line b a says can.says (means_apdu_fits p b spells.encodes.tree spells.encodes.means) can.fits)
 
   -- a line of which an APDU can be built has no fault
   no_fault : (a : Apdu) (c : BuildCause) (path : List Step) → IsBuildable p line a → IsFaultyLine p line c path → ⊥
@@ -30,7 +30,7 @@ module _ (p : Profile) (line : List ℕ) (buffer : Change (List ℕ)) (size caus
       faulty_line_clean p line a c path can.line_short (record { fits = can.fits; short = can.normal_short }) can.says (λ j b t u g. line_once p j a b t u can.fits g) f
 
   -- a line of which an APDU was built has none
-  none_built : (octets : List ℕ) (c : BuildCause) (path : List Step) → IsBuilt p line octets → length line ≤ line_limit → IsFaultyLine p line c path → ⊥
+  none_built : (octets : List ℕ) (c : BuildCause) (path : List Step) → IsBuilt false p line octets → length line ≤ line_limit → IsFaultyLine p line c path → ⊥
   none_built octets c path (a, says, spells, e) short f =
       no_fault a c path (record { says = says; fits = means_apdu_fits p a spells.encodes.tree spells.encodes.means; line_short = short; normal_short = spells.normal_short }) f
 
@@ -38,7 +38,7 @@ module _ (p : Profile) (line : List ℕ) (buffer : Change (List ℕ)) (size caus
   one_place : (c d : BuildCause) (path place : List Step) (octets : List ℕ) → IsFaultyLine p line c path → octets ≡ pointer_of path → IsFaultyLine p line d place → octets ≡ pointer_of place
   one_place c d path place octets f e g = e ∙ ap pointer_of (one_line_fault p line c d path place f g).1
 
-  tried : (status : Status) → BuildsIn p line buffer size cause status → BuildsOnce p line buffer size cause (status_number status)
+  tried : (status : Status) → BuildsIn false p line buffer size cause status → BuildsOnce p line buffer size cause (status_number status)
   tried Status.Done ((octets, is, fills), stays) = record {
     room = λ a can le ne. (refl, subst (λ o. Fills o buffer size) (one_built octets a is can) fills);
     no_room = λ a can lt ne. let e = ap length (one_built octets a is can) in absurd (let fits = fills.fits in omega (arith, e, lt, fits));
@@ -95,7 +95,7 @@ module _ (p : Profile) (line : List ℕ) (buffer : Change (List ℕ)) (size caus
   tried Status.UnknownProfile h = absurd h
   tried Status.UnknownCause h = absurd h
 
-  pub builds_once : (n : ℕ) → ReturnsStatus n (BuildsIn p line buffer size cause) → BuildsOnce p line buffer size cause n
+  pub builds_once : (n : ℕ) → ReturnsStatus n (BuildsIn false p line buffer size cause) → BuildsOnce p line buffer size cause n
   builds_once n (status, e, h) = subst (BuildsOnce p line buffer size cause) (sym e) (tried status h)
 
 module _ (number : ℕ) (buffer : Change (List ℕ)) (size : Change ℕ) where

@@ -1,5 +1,5 @@
 //! Laws of the calls for C. Each is the contract of a function that does nothing.
-ghost use Rattle.std.specs.Prelude.{ℕ, ◌≤◌, List, length};
+ghost use Rattle.std.specs.Prelude.{ℕ, ◌≤◌, List, false, length};
 ghost use Rattle.ber_leaf.specs.Profile.{Profile};
 ghost use Rattle.ill_schema.specs.Apdu.{Apdu};
 ghost use Rattle.ill_schema.specs.Names.{cause_part_name_of};
@@ -43,7 +43,7 @@ pub fn calls_have_one_result()
     ensures puts { (octets : List ℕ) (buffer : Change (List ℕ)) (size : Change ℕ) (n : ℕ)
         → ReturnsStatus n (Puts octets buffer size) → PutsOnce octets buffer size n }
     ensures builds { (p : Profile) (line : List ℕ) (buffer : Change (List ℕ)) (size cause : Change ℕ)
-        (n : ℕ) → ReturnsStatus n (BuildsIn p line buffer size cause)
+        (n : ℕ) → ReturnsStatus n (BuildsIn false p line buffer size cause)
         → BuildsOnce p line buffer size cause n }
     ensures names_build_cause { (number : ℕ) (buffer : Change (List ℕ)) (size : Change ℕ) (n : ℕ)
         → ReturnsStatus n (NamesBuildCause number buffer size)

@@ -22,7 +22,7 @@ mod verdict;
 mod version;
 mod whole;
 
-pub use build::{illcanon_build, illcanon_build_as};
+pub use build::{illcanon_build, illcanon_build_as, illcanon_build_with_defaults};
 pub use build_cause::illcanon_build_cause_name;
 pub use cause::illcanon_cause_name;
 pub use dump::{illcanon_dump, illcanon_dump_as};

@@ -37,12 +37,14 @@ abbrev pub IsUnbuiltVerdict : Bool → LineVerdict → Type 0
 IsUnbuiltVerdict false verdict = verdict ≡ LineVerdict.Last
 IsUnbuiltVerdict true verdict = (verdict ≡ LineVerdict.NotGood) ⊎ (verdict ≡ LineVerdict.Last)
 
--- a line that says an APDU of the profile, whose normal form is built
+-- a line that says an APDU of the profile, of which a spelling is built: its normal form, but where defaults are written
 pub record IsBuilt (work : BuildOptions) (line result : List ℕ) (verdict : LineVerdict) : Type 0 where
   pub apdu : Apdu
+  pub octets : List ℕ
   pub says : SaysApdu (profile_of work.profile) line apdu
-  pub spells : SpellsApdu (profile_of work.profile) apdu (normal_form_in (profile_of work.profile) apdu)
-  pub is_result : IsBuiltResult work apdu (normal_form_in (profile_of work.profile) apdu) result
+  pub spells : SpellsApdu (profile_of work.profile) apdu octets
+  pub normal : work.writes_defaults ≡ false → octets ≡ normal_form_in (profile_of work.profile) apdu
+  pub is_result : IsBuiltResult work apdu octets result
   pub good : verdict ≡ LineVerdict.Good
 
 -- a line with a fault

@@ -58,7 +58,7 @@ build_form_of BuildResults.Json hex = BuildForm.Json
 abbrev pub form_action_of : FormJob → Messages → Action
 form_action_of FormJob.Canonicalise messages = Action.Messages Job.Canonicalise (read_options_of messages false)
 form_action_of (FormJob.Build building) messages =
-    Action.Build (build_form_of building.results messages.reading.hex) (read_options_of messages building.with_filename)
+    Action.Build (build_form_of building.results messages.reading.hex) building.write_defaults (read_options_of messages building.with_filename)
 
 -- what an order does with each of its inputs
 abbrev pub action_of : Work → Action
@@ -79,7 +79,7 @@ abbrev pub names_inputs : Action → Bool
 names_inputs (Action.Messages job reading) = reading.names_inputs
 names_inputs (Action.Elements elements with_filename) = with_filename || elements.html
 names_inputs (Action.Lines options) = false
-names_inputs (Action.Build form reading) = reading.names_inputs
+names_inputs (Action.Build form defaults reading) = reading.names_inputs
 
 -- what is written of all inputs is one HTML document
 abbrev pub is_document : Action → Bool
@@ -123,9 +123,10 @@ is_by_lines BuildForm.Lines = true
 is_by_lines _ = false
 
 -- the same for lines that are built
-abbrev pub building_of : BuildForm → ReadOptions → Bor (List ℕ) → ℕ → BuildOptions
-building_of form reading name count = record {
+abbrev pub building_of : BuildForm → Bool → ReadOptions → Bor (List ℕ) → ℕ → BuildOptions
+building_of form defaults reading name count = record {
   form = form;
+  writes_defaults = defaults;
   profile = reading.profile;
   name = name;
   names_input = reading.names_inputs || nat_lt 1 count;
@@ -137,4 +138,4 @@ abbrev pub input_action_of : Action → Bor (List ℕ) → ℕ → InputAction
 input_action_of (Action.Messages job reading) name count = InputAction.Messages (options_of job reading name count)
 input_action_of (Action.Elements elements with_filename) name count = InputAction.Elements (dump_of elements with_filename name count)
 input_action_of (Action.Lines work) name count = InputAction.Lines work
-input_action_of (Action.Build form reading) name count = InputAction.Build (building_of form reading name count)
+input_action_of (Action.Build form defaults reading) name count = InputAction.Build (building_of form defaults reading name count)

@@ -2,3 +2,4 @@ pub mod Puts
 pub mod Results
 pub mod Tallied
 pub mod Kept
+pub mod Messages

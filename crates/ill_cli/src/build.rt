@@ -1,10 +1,10 @@
 //! Lines of JSON that are built, and what is done with those that are refused.
 ghost use Rattle.std.specs.Prelude.{◌≡◌, ◌++◌, List, ℕ, codes, IfOk, OnErr, OnOk};
-ghost use Rattle.ill_schema.specs.Apdu.{Apdu, SpellsApdu, normal_form_in};
-ghost use Rattle.ill_schema.specs.Profiles.{profile_of};
+ghost use Rattle.ill_schema.specs.Apdu.{Apdu};
 ghost use Rattle.ill_normal.specs.Calls.{taking};
 ghost use Rattle.ill_commands.specs.declared.lines.answer.LineVerdict.{LineVerdict as VerdictOf};
 ghost use Rattle.ill_cli.specs.Builds.{IsBuiltResult, IsUnbuiltResult, IsUnbuiltVerdict};
+ghost use Rattle.ill_cli.specs.code.Messages.{IsNormalFormOf};
 ghost use Rattle.ill_cli.specs.code.Puts.{AreLinesBuilt, built_verdict};
 
 use crate::build_report::{BuildReport, WhyUnbuilt};
@@ -12,7 +12,7 @@ use crate::limit::RefusalLimit;
 use crate::refused::KeepRefused;
 use crate::tally::Tally;
 use ber_core::{Sink, Source};
-use ill_build::{BuildFailure, BuildRefusal, LINE_LIMIT, build_line};
+use ill_build::{BuildFailure, BuildRefusal, LINE_LIMIT, build_line, write_defaults};
 use ill_commands::{AnswerLines, LineVerdict, RunFault, Verdict, answer_lines};
 use ill_files::{ProgramError, ProgressLine};
 use ill_json::{LinePlace, built_line, unbuilt_line};
@@ -38,6 +38,8 @@ pub enum BuildForm {
 #[derive(Clone, Copy, PartialEq, Eq)]
 pub struct BuildOptions<'a> {
     pub form: BuildForm,
+    /// True if each row that has its default has an element, so that messages are no normal forms.
+    pub writes_defaults: bool,
     pub profile: Profile,
     /// The name of the input.
     pub name: &'a str,
@@ -115,20 +117,18 @@ impl<'a, R: Eprint + AllocGlobal, P: Write + Drop, Q: Write + Drop> BuildLines<'
     /// Answers a line of which this message was built.
     fn answer_built(
         &mut self,
-        octets: &[u8],
+        message: BuiltMessage<'_>,
         results: &mut Vec<u8>,
     ) -> Result<LineVerdict, AllocError>
-        ensures built { (a : Apdu)
-            → SpellsApdu (profile_of self.old.work.profile) a octets.now
-            → octets.now ≡ normal_form_in (profile_of self.old.work.profile) a
+        ensures built { (a : Apdu) → IsNormalFormOf self.old.work a message.entry.normal.now
             → OnOk result ((own : List ℕ) × (results.new.items ≡ results.old.items ++ own)
-            × IsBuiltResult self.old.work a octets.now own) }
+            × IsBuiltResult self.old.work a message.entry.octets.now own) }
         ensures good { IfOk result (λ verdict. verdict ≡ VerdictOf.Good) }
         ensures none { OnErr result (results.new.items ≡ results.old.items) }
         ensures same { self.new.work ≡ self.old.work }
     {
-        put_built(self.rt.alloc(), self.work, self.place(), octets, results)?;
-        self.counts.add_built(octets.len());
+        put_built(self.rt.alloc(), self.work, self.place(), message, results)?;
+        self.counts.add_built(message.octets.len());
         Ok(LineVerdict::Good)
     }
 
@@ -187,11 +187,36 @@ impl<'a, R: Eprint + AllocGlobal, P: Write + Drop, Q: Write + Drop> AnswerLines
 
     fn answer(&mut self, kept: &[u8], results: &mut Vec<u8>) -> Result<LineVerdict, AllocError> {
         match build_line(self.rt.alloc(), self.work.profile, kept) {
-            Ok(octets) => self.answer_built(&octets, results),
+            Ok(normal) if self.work.writes_defaults => {
+                let octets = write_defaults(self.rt.alloc(), self.work.profile, &normal)?;
+                self.answer_built(
+                    BuiltMessage {
+                        normal: &normal,
+                        octets: &octets,
+                    },
+                    results,
+                )
+            }
+            Ok(normal) => self.answer_built(
+                BuiltMessage {
+                    normal: &normal,
+                    octets: &normal,
+                },
+                results,
+            ),
             Err(BuildFailure::Refused(refusal)) => self.answer_refused(kept, &refusal, results),
             Err(BuildFailure::OutOfMemory) => Err(AllocError),
         }
     }
+}
+
+/// A message that was built of a line.
+#[derive(Clone, Copy)]
+struct BuiltMessage<'a> {
+    /// Its normal form.
+    normal: &'a [u8],
+    /// The spelling that is written.
+    octets: &'a [u8],
 }
 
 /// Tells whether a line that is refused is reported on standard error.
@@ -204,24 +229,23 @@ fn put_built(
     alloc: Global,
     work: BuildOptions<'_>,
     place: LinePlace<'_>,
-    octets: &[u8],
+    message: BuiltMessage<'_>,
     results: &mut Vec<u8>,
 ) -> Result<(), AllocError>
-    ensures built { (a : Apdu) → SpellsApdu (profile_of work.entry.profile) a octets.now
-        → octets.now ≡ normal_form_in (profile_of work.entry.profile) a
+    ensures built { (a : Apdu) → IsNormalFormOf work.entry a message.entry.normal.now
         → OnOk result ((own : List ℕ) × (results.new.items ≡ results.old.items ++ own)
-        × IsBuiltResult work.entry a octets.now own) }
+        × IsBuiltResult work.entry a message.entry.octets.now own) }
     ensures none { OnErr result (results.new.items ≡ results.old.items) }
 {
     match work.form {
-        BuildForm::Octets => results.extend_from_slice(octets),
+        BuildForm::Octets => results.extend_from_slice(message.octets),
         BuildForm::Digits | BuildForm::Lines => {
-            let digits = hex::encode(alloc, octets)?;
+            let digits = hex::encode(alloc, message.octets)?;
             put_line(results, digits.as_bytes())
         }
         BuildForm::Json => {
-            let name = apdu_name_or_empty(work.profile, apdu_number(octets));
-            let line = built_line(alloc, place, name, octets)?;
+            let name = apdu_name_or_empty(work.profile, apdu_number(message.normal));
+            let line = built_line(alloc, place, name, message.octets)?;
             results.extend_from_slice(&line)
         }
     }
@@ -305,7 +329,7 @@ fn built_verdict(
     match answer {
         Ok(true) => Ok(Verdict::Good),
         Ok(false) => Ok(Verdict::NotGood),
-        Err(RunFault::NotReported) if goes_on => Err(limit.error()),
+        Err(RunFault::NotReported) if goes_on => Err(limit.line_error()),
         Err(RunFault::NotReported) => Ok(Verdict::NotGood),
         Err(fault) => Err(ProgramError::from(fault)),
     }

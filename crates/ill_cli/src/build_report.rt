@@ -87,11 +87,30 @@ impl fmt::Display for WhyUnbuilt<'_> {
     }
 }
 
+/// What is said of a line without a value, as some commands write it.
+const NO_VALUE: &str = " (`check` and `digest` write no value; `show --json` does)";
+
 /// A line that is refused, with its number, and its file, if it is named: `refused at /apdu in line 3: UnknownName`.
 #[derive(Clone, Copy)]
 pub struct BuildReport<'a> {
     pub place: LinePlace<'a>,
     pub why: WhyUnbuilt<'a>,
+}
+
+impl BuildReport<'_> {
+    /// Tells whether the fault is one that lines of `check --json` and `digest --json` have.
+    fn lacks_value(&self) -> bool {
+        let FaultPlace::Value(pointer) = self.why.place else {
+            return false;
+        };
+        match self.why.cause {
+            BuildCause::MissingMember => pointer == b"/value".as_slice(),
+            BuildCause::UnknownMember => {
+                pointer == b"/digest".as_slice() || pointer == b"/refused".as_slice()
+            }
+            _ => false,
+        }
+    }
 }
 
 impl fmt::Display for BuildReport<'_> {
@@ -105,6 +124,10 @@ impl fmt::Display for BuildReport<'_> {
             " in line {}: {}",
             self.place.number,
             self.why.cause.name()
-        )
+        )?;
+        if self.lacks_value() {
+            f.write_str(NO_VALUE)?;
+        }
+        Ok(())
     }
 }

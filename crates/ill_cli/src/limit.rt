@@ -1,11 +1,11 @@
-//! The greatest number of refused messages that a command reports.
+//! The greatest number of refused messages or lines that a command reports.
 ghost use Rattle.std.specs.Prelude.{◌≡◌, ◌↔◌, IsTrue};
-ghost use Rattle.ill_cli.specs.Limit.{error_at, is_stopped, limit_at, with_one};
+ghost use Rattle.ill_cli.specs.Limit.{error_at, is_stopped, limit_at, line_error_at, with_one};
 
 use ill_files::{ProgramError, RefusedCount};
 use ill_inputs::Verdict;
 
-/// The number of refused messages that a command reports before its work ends.
+/// The number of refused messages, or of refused lines, that a command reports before its work ends.
 #[derive(Clone, Copy)]
 pub struct RefusalLimit {
     most: Option<u32>,
@@ -14,14 +14,14 @@ pub struct RefusalLimit {
 }
 
 impl RefusalLimit {
-    /// The work ends with the refused message of the number `most`, or is not limited.
+    /// The work ends with the refused message or line of the number `most`, or is not limited.
     pub fn new(most: Option<u32>) -> RefusalLimit
         ensures { result ≡ limit_at most }
     {
         RefusalLimit { most, count: 0 }
     }
 
-    /// Counts a refused message, and tells whether the work ends with it.
+    /// Counts one that is refused, and tells whether the work ends with it.
     pub fn ends_with_next(&mut self) -> bool
         ensures counts { self.new ≡ with_one self.old }
         ensures ends { IsTrue result ↔ self.old.most ≡ Some self.new.count }
@@ -30,11 +30,18 @@ impl RefusalLimit {
         self.most == Some(self.count)
     }
 
-    /// The error of work that ended so.
+    /// The error of work on messages that ended so.
     pub fn error(&self) -> ProgramError
         ensures { result ≡ error_at self.now }
     {
-        ProgramError::RefusedEnough(RefusedCount(self.count))
+        ProgramError::RefusedEnough(RefusedCount::Messages(self.count))
+    }
+
+    /// The error of work on lines that ended so.
+    pub fn line_error(&self) -> ProgramError
+        ensures { result ≡ line_error_at self.now }
+    {
+        ProgramError::RefusedEnough(RefusedCount::Lines(self.count))
     }
 }
 

@@ -41,7 +41,12 @@ pub enum Action {
     /// A result for each line.
     Lines(LineOptions),
     /// A message of each line of JSON.
-    Build(BuildForm, ReadOptions),
+    Build {
+        form: BuildForm,
+        /// True if each row that has its default has an element.
+        writes_defaults: bool,
+        reading: ReadOptions,
+    },
 }
 
 impl Action {
@@ -88,14 +93,14 @@ impl Action {
     pub fn escapes_names(&self) -> bool {
         match self {
             Action::Messages(job, _) => job.is_json(),
-            Action::Build(..) => true,
+            Action::Build { .. } => true,
             Action::Elements { .. } | Action::Lines(_) => false,
         }
     }
 
     /// Tells whether each line of an input counts, and not each message.
     pub fn counts_lines(&self) -> bool {
-        matches!(self, Action::Build(..))
+        matches!(self, Action::Build { .. })
     }
 
     /// Tells whether lines name their input, even if there is one input.
@@ -103,7 +108,7 @@ impl Action {
         ensures { result ≡ names_inputs self.now }
     {
         match self {
-            Action::Messages(_, reading) | Action::Build(_, reading) => reading.names_inputs,
+            Action::Messages(_, reading) | Action::Build { reading, .. } => reading.names_inputs,
             Action::Elements {
                 elements,
                 names_inputs,
@@ -118,7 +123,7 @@ impl Action {
     {
         match self {
             Action::Elements { elements, .. } => elements.html,
-            Action::Messages(..) | Action::Lines(_) | Action::Build(..) => false,
+            Action::Messages(..) | Action::Lines(_) | Action::Build { .. } => false,
         }
     }
 }
@@ -131,10 +136,11 @@ fn form_action(job: FormJob, messages: Messages<'_>) -> Action
         FormJob::Canonicalise => {
             Action::Messages(Job::Canonicalise, read_options(messages, false))
         }
-        FormJob::Build(building) => Action::Build(
-            build_form(building.results, messages.reading.hex),
-            read_options(messages, building.with_filename),
-        ),
+        FormJob::Build(building) => Action::Build {
+            form: build_form(building.results, messages.reading.hex),
+            writes_defaults: building.write_defaults,
+            reading: read_options(messages, building.with_filename),
+        },
     }
 }
 
@@ -278,8 +284,13 @@ impl<'a> InputAction<'a> {
                 on_refusal: on_refusal(elements.keep_going.is_some(), OnRefusal::EndWith),
             }),
             Action::Lines(work) => InputAction::Lines(work),
-            Action::Build(form, reading) => InputAction::Build(BuildOptions {
+            Action::Build {
                 form,
+                writes_defaults,
+                reading,
+            } => InputAction::Build(BuildOptions {
+                form,
+                writes_defaults,
                 profile: reading.profile,
                 name,
                 names_input: reading.names_inputs || count > 1,

@@ -72,7 +72,11 @@ impl<'r, R: Print + Eprint + Input + Files + AllocGlobal + Host> Run<'_, 'r, '_,
 fn is_by_lines(action: Action) -> bool {
     matches!(
         action,
-        Action::Lines(_) | Action::Build(BuildForm::Lines | BuildForm::Json, _)
+        Action::Lines(_)
+            | Action::Build {
+                form: BuildForm::Lines | BuildForm::Json,
+                ..
+            }
     )
 }
 

@@ -40,7 +40,7 @@ pub enum ProgramError {
     /// The list of names is empty, and the words name no file. Nothing was written.
     #[error("the list names no file")]
     EmptyList,
-    /// This number of messages is refused, and no more of them were asked for.
+    /// This number of messages or lines is refused, and no more of them were asked for.
     #[error("stopped after {0}")]
     RefusedEnough(RefusedCount),
     /// A file with this name can't be opened for reading or writing, since the system's call failed so.
@@ -143,13 +143,20 @@ impl fmt::Display for MissingMessage {
     }
 }
 
-/// A number of refused messages.
+/// The number of messages or lines that are refused.
 #[derive(Clone, Copy, Debug, PartialEq, Eq)]
-pub struct RefusedCount(pub u32);
+pub enum RefusedCount {
+    Messages(u32),
+    Lines(u32),
+}
 
 impl fmt::Display for RefusedCount {
     fn fmt<W: fmt::Write>(&self, f: &mut fmt::Formatter<W>) -> fmt::Result {
-        write!(f, "{}", Count(u64::from(self.0), "refused message"))
+        let count = match *self {
+            RefusedCount::Messages(count) => Count(u64::from(count), "refused message"),
+            RefusedCount::Lines(count) => Count(u64::from(count), "refused line"),
+        };
+        write!(f, "{count}")
     }
 }
 

@@ -185,7 +185,9 @@ one_form rows FormJob.Canonicalise FormJob.Canonicalise e h k = refl
 one_form rows FormJob.Canonicalise (FormJob.Build building) e h k = absurd cc
 one_form rows (FormJob.Build building) FormJob.Canonicalise e h k = absurd cc
 one_form rows (FormJob.Build building) (FormJob.Build other) e h k =
-    ap₂ (λ (r : BuildResults) (x : Bool). FormJob.Build (record { results = r; with_filename = x })) (one_built rows building.results other.results h.results k.results) (h.names ∙ sym k.names)
+    ap₂ (λ (r : BuildResults) (x : Bool). FormJob.Build (record { results = r; write_defaults = building.write_defaults; with_filename = x }))
+    (one_built rows building.results other.results h.results k.results) (h.names ∙ sym k.names)
+    ∙ ap (λ (x : Bool). FormJob.Build (record { results = other.results; write_defaults = x; with_filename = other.with_filename })) (h.defaults ∙ sym k.defaults)
 
 write_is : {f g : FormVerb} → Verb.Write f ≡ Verb.Write g → f ≡ g
 write_is e = cc

@@ -20,7 +20,7 @@ use Rattle.ill_normal.specs.declared.messages.OnRefusal.{OnRefusal}
 use Rattle.ill_normal.specs.declared.messages.StreamEnd.{StreamEnd}
 use Rattle.ill_cli.specs.Builds.{BuildAnswers}
 use Rattle.ill_cli.specs.Counts.{with_not_read}
-use Rattle.ill_cli.specs.Limit.{error_at}
+use Rattle.ill_cli.specs.Limit.{line_error_at}
 use Rattle.ill_cli.specs.Plans.{is_json_result}
 use Rattle.ill_cli.specs.code.Results.{RunsResults}
 use Rattle.ill_cli.specs.code.Tallied.{Tallies}
@@ -106,7 +106,7 @@ AreResultLinesPut work source done = (answer : Result Bool RunFault) × LinesAns
 -- the verdict of work on lines that are built: where it goes on after lines that are refused, it ends with one only if no more are asked for
 abbrev pub built_verdict : Bool → RefusalLimit → Result Bool RunFault → Result Verdict ProgramError
 built_verdict goes_on limit (Ok good) = Ok (verdict_if good)
-built_verdict goes_on limit (Err RunFault.NotReported) = if goes_on then Err (error_at limit) else Ok Verdict.NotGood
+built_verdict goes_on limit (Err RunFault.NotReported) = if goes_on then Err (line_error_at limit) else Ok Verdict.NotGood
 built_verdict goes_on limit (Err fault) = Err (ProgramError.Run (record { 0 = fault }))
 
 -- the lines of an input were built, or the work on them ended early

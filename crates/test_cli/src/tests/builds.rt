@@ -26,6 +26,15 @@ const REFUSED: &[u8] = br#"{"apdu":"Expired","value":{"protocol-version-num":2}}
 /// A message of [`LINE`] in digits.
 const DIGITS: &[u8] = b"741f301d800102a10aa1031b0147a2031b0151a20ca00a80083230323430323239\n";
 
+/// The line of an ILL-REQUEST without its defaults.
+const REQUEST: &[u8] =
+    br#"{"apdu":"ILL-Request","value":{"protocol-version-num":2,"transaction-id":{"transaction-group-qualifier":{"general":"G"},"transaction-qualifier":{"general":"Q"}},"service-date-time":{"date-time-of-this-service":{"date":"20240229"}},"ill-service-type":["loan"],"requester-optional-messages":{"can-send-received":false,"can-send-returned":false,"requester-shipped":1,"requester-checked-in":1},"item-id":{}}}
+"#;
+
+/// Its message with the defaults, which are the elements 85, 8e, 95 and 96, in digits.
+const WITH_DEFAULTS: &[u8] =
+    b"6140303e800102a10aa1031b0147a2031b0151a20ca00a80083230323430323239850101a9030a0101ab0c8001008101008201018301018e0103b000950100960100\n";
+
 /// The results of `--lines` for [`LINES`].
 const RESULTS: &[u8] = b"\
 741f301d800102a10aa1031b0147a2031b0151a20ca00a80083230323430323239\n\
@@ -56,7 +65,7 @@ const TWICE: &[u8] =
     b"\x74\x1f\x30\x1d\x80\x01\x02\xa1\x0a\xa1\x03\x1b\x01\x47\xa2\x03\x1b\x01\x51\xa2\x0c\xa0\x0a\x80\x0820240229\x74\x1f\x30\x1d\x80\x01\x02\xa1\x0a\xa1\x03\x1b\x01\x47\xa2\x03\x1b\x01\x51\xa2\x0c\xa0\x0a\x80\x0820240229";
 
 /// Runs of `build`.
-static ROWS: [Row; 20] = [
+static ROWS: [Row; 22] = [
     Row {
         words: "build - -",
         input: LINE,
@@ -126,7 +135,7 @@ static ROWS: [Row; 20] = [
         input: LINES,
         status: 1,
         output: Text(EXPIRED),
-        errors: "illcanon: refused at /value/transaction-id in line 2: MissingMember\nillcanon: refused at column 1 in line 3: NotJson\nillcanon: stopped after 2 refused messages\n",
+        errors: "illcanon: refused at /value/transaction-id in line 2: MissingMember\nillcanon: refused at column 1 in line 3: NotJson\nillcanon: stopped after 2 refused lines\n",
         ..QUIET
     },
     Row {
@@ -187,7 +196,22 @@ static ROWS: [Row; 20] = [
         words: "build --profile module - -",
         input: b"{\"profile\":\"module\",\"apdu\":\"Status-Or-Error-Report\"}\n",
         status: 1,
-        errors: "illcanon: refused at /value in line 1: MissingMember\n",
+        errors: "illcanon: refused at /value in line 1: MissingMember (`check` and `digest` write no value; `show --json` does)\n",
+        ..QUIET
+    },
+    // A line of another command.
+    Row {
+        words: "build - -",
+        input: b"{\"number\":1,\"offset\":0,\"octets\":33,\"apdu\":\"Expired\",\"normal\":true,\"digest\":\"00\"}\n",
+        status: 1,
+        errors: "illcanon: refused at /digest in line 1: UnknownMember (`check` and `digest` write no value; `show --json` does)\n",
+        ..QUIET
+    },
+    Row {
+        words: "build --lines - -",
+        input: b"{\"apdu\":\"Expired\"}\n",
+        status: 1,
+        output: Text(b"refused at /value: MissingMember\n"),
         ..QUIET
     },
     // Nothing is lost where something fails.
@@ -214,9 +238,55 @@ static ROWS: [Row; 20] = [
     },
 ];
 
+/// Runs without `--write-defaults`, and with it.
+static DEFAULTS: [Row; 5] = [
+    Row {
+        words: "build --hex - -",
+        input: REQUEST,
+        output: Text(
+            b"61343032800102a10aa1031b0147a2031b0151a20ca00a80083230323430323239a9030a0101ab0c800100810100820101830101b000\n",
+        ),
+        ..QUIET
+    },
+    Row {
+        words: "build --write-defaults --hex - -",
+        input: REQUEST,
+        output: Text(WITH_DEFAULTS),
+        ..QUIET
+    },
+    Row {
+        words: "build --write-defaults --profile module --lines - -",
+        input: REQUEST,
+        output: Text(WITH_DEFAULTS),
+        ..QUIET
+    },
+    Row {
+        words: "build --write-defaults --json --summary - -",
+        input: REQUEST,
+        output: Text(
+            b"{\"line\":1,\"apdu\":\"ILL-Request\",\"octets\":66,\"message\":\"6140303e800102a10aa1031b0147a2031b0151a20ca00a80083230323430323239850101a9030a0101ab0c8001008101008201018301018e0103b000950100960100\"}\n",
+        ),
+        errors: "illcanon: 1 file, 1 line, 1 built, 0 refused, 66 octets\n",
+        ..QUIET
+    },
+    Row {
+        words: "build --write-defaults --keep-going - OUT",
+        input: LINES,
+        status: 1,
+        errors: REPORTS,
+        out: Text(TWICE),
+        ..QUIET
+    },
+];
+
 #[test]
 fn lines_are_built(rt: HostRuntime) -> Result<(), Fail> {
     test_rows::<Illcanon>(&rt, &ROWS)
+}
+
+#[test]
+fn defaults_are_written_where_that_is_asked_for(rt: HostRuntime) -> Result<(), Fail> {
+    test_rows::<Illcanon>(&rt, &DEFAULTS)
 }
 
 #[test]

@@ -127,10 +127,12 @@ fn each_error_of_the_words_is_one_line(rt: HostRuntime) -> Result<(), Fail> {
     assert!(rt; is_printed(alloc, ProgramError::HiddenCharacters, hidden, 2)?);
     let empty = "the list names no file";
     assert!(rt; is_printed(alloc, ProgramError::EmptyList, empty, 2)?);
-    let one = ProgramError::RefusedEnough(RefusedCount(1));
+    let one = ProgramError::RefusedEnough(RefusedCount::Messages(1));
     assert!(rt; is_printed(alloc, one, "stopped after 1 refused message", 1)?);
-    let two = ProgramError::RefusedEnough(RefusedCount(2));
+    let two = ProgramError::RefusedEnough(RefusedCount::Messages(2));
     assert!(rt; is_printed(alloc, two, "stopped after 2 refused messages", 1)?);
+    let line = ProgramError::RefusedEnough(RefusedCount::Lines(1));
+    assert!(rt; is_printed(alloc, line, "stopped after 1 refused line", 1)?);
     Ok(())
 }
 

@@ -1,35 +1,33 @@
-use Rattle.std.proofs.Common.{◌≡◌, ◌∙◌, ◌++◌, List, ℕ, take, sym, subst, inl, inr}
-use Rattle.ill_schema.specs.Apdu.{SpellsApdu, normal_form_in}
+use Rattle.std.proofs.Common.{◌≡◌, ◌∙◌, ◌++◌, List, ℕ, take, sym, subst, inr}
+use Rattle.ill_schema.specs.Apdu.{SpellsApdu}
 use Rattle.ill_schema.specs.Profiles.{profile_of}
-use Rattle.ill_build.specs.Line.{IsFaultyLine, OnFailure, SaysApdu}
-use Rattle.ill_commands.specs.declared.lines.answer.LineVerdict.{LineVerdict}
-use Rattle.ill_cli.specs.Builds.{BuildAnswers, IsBuiltResult, IsUnbuiltResult, IsUnbuiltVerdict}
-use Rattle.ill_cli.proofs.Builds.{answered_by, faulty_line, kept_whole}
+use Rattle.ill_build.specs.Line.{IsFaultyLine, OnFailure}
+use Rattle.ill_cli.specs.Builds.{BuildAnswers, IsUnbuiltResult, IsUnbuiltVerdict}
+use Rattle.ill_cli.proofs.Builds.{answered_by, built_answer, faulty_line}
 use Rattle.ill_cli.proofs.build.BuildLinesAnswerLines.answer.Goals as goal
 
-pub returns-in-Ok-clause-answers : goal.returns-in-Ok-clause-answers
-returns-in-Ok-clause-answers g c =
+pub returns-in-Ok-2-clause-answers : goal.returns-in-Ok-2-clause-answers
+returns-in-Ok-2-clause-answers g c =
     let work = c.args.self.now.work in
     let p = profile_of work.profile in
     let built = c.in-Ok.ensures.built in
-    let a = built.0 in
-    let same = c.deref.ensures.value in
-    let form = same ∙ built.3 in
-    let spells = subst (SpellsApdu p a) (sym same) built.2 in
-    answered_by c.answer_built.result ((own : List ℕ) × (c.answer_built.new.results.items ≡ c.args.results.now.items ++ own) × IsBuiltResult work a c.deref.result.now own) (λ v. v ≡ LineVerdict.Good)
-    (λ verdict. (own : List ℕ) × (c.answer_built.new.results.items ≡ c.args.results.now.items ++ own) × ((line : List ℕ) → c.args.kept.now ≡ take 16_777_217 line → BuildAnswers work line own verdict))
-    (c.answer_built.ensures.built a spells form) c.answer_built.ensures.good
-    (λ verdict own good. (
-      own.0,
-      own.1,
-      λ line kept. inl (record {
-        apdu = a;
-        says = subst (λ l. SaysApdu p l a) (kept_whole c.args.kept.now line c.in-Ok.ensures.short kept) built.1;
-        spells = subst (SpellsApdu p a) form spells;
-        is_result = subst (λ o. IsBuiltResult work a o own.0) form own.2;
-        good = good;
-      }),
-    ))
+    let normal = c.deref-in-Ok-2-2.ensures.value in
+    let octets = c.deref-in-Ok-2-3.ensures.value in
+    built_answer work c.args.kept.now c.deref-in-Ok-2-3.result.now c.args.results.now.items c.answer_built-in-Ok-2.new.results.items built.0 c.answer_built-in-Ok-2.result
+    built.1 c.in-Ok.ensures.short (subst (SpellsApdu p built.0) (sym octets) built.2) (λ _. octets ∙ built.3)
+    (c.answer_built-in-Ok-2.ensures.built built.0 (subst (SpellsApdu p built.0) (sym normal) built.2, normal ∙ built.3)) c.answer_built-in-Ok-2.ensures.good
+
+pub returns-in_ok-octets-in-Ok-clause-answers : goal.returns-in_ok-octets-in-Ok-clause-answers
+returns-in_ok-octets-in-Ok-clause-answers g c =
+    let work = c.args.self.now.work in
+    let p = profile_of work.profile in
+    let built = c.in-Ok.ensures.built in
+    let given = c.deref.ensures.value in
+    let normal = c.deref-in-Ok.ensures.value in
+    let spells = c.in_ok-octets-in-Ok.ensures built.0 (subst (SpellsApdu p built.0) (sym given) built.2) (given ∙ built.3) in
+    built_answer work c.args.kept.now c.deref-in-Ok-2.result.now c.args.results.now.items c.answer_built.new.results.items built.0 c.answer_built.result
+    built.1 c.in-Ok.ensures.short (subst (SpellsApdu p built.0) (sym c.deref-in-Ok-2.ensures.value) spells) (λ none. let some = c.if-self.true in absurd cc)
+    (c.answer_built.ensures.built built.0 (subst (SpellsApdu p built.0) (sym normal) built.2, normal ∙ built.3)) c.answer_built.ensures.good
 
 pub returns-in-Err-Refused-clause-answers : goal.returns-in-Err-Refused-clause-answers
 returns-in-Err-Refused-clause-answers g c =
