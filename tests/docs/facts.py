@@ -67,6 +67,8 @@ NOT_COMPARED = {PERFORMANCE, "CHANGELOG.md", "vectors/README.md"}
 # What names the kit or the gate, too, and is not of the documents that docs.py names.
 OTHER_DOCUMENTS = ["bindings/web/README.md"]
 
+BUILT_RESULTS = "docs/built.schema.json"
+
 # How each help topic begins.
 BEGINNINGS = {"causes": "Why a message is refused.", "profile": "A profile is what is read of ISO 10161-1."}
 # What both the help and the man page say of an option, and of no other. A new option gets a line here.
@@ -89,7 +91,7 @@ OPTIONS = {
     "help": r"^Prints? help",
     "version": r"^Prints? (the )?version",
 }
-# What the help of `build` says, which reads lines.
+# The words of the help of `build`, which reads lines.
 BUILD_OPTIONS = {
     **OPTIONS,
     "hex": r"Writes each message as a line of hexadecimal digits",
@@ -538,6 +540,18 @@ def check_results_schema(known):
             fault(RESULTS, f"{place} has {found}, and not {wanted}")
 
 
+def check_built_schema():
+    """The schema of the results of `build --json` has the APDUs and the causes of the sources."""
+    definitions = json.loads(read(BUILT_RESULTS))["$defs"]
+    causes = re.findall(r"^    ([A-Z]\w+),$", read("crates/ill_build/src/cause.rt").partition("pub enum BuildCause {")[2].partition("\n}")[0], re.M)
+    for place, found, wanted in [
+        ("cause", definitions["refused"]["properties"]["refused"]["properties"]["cause"]["enum"], causes),
+        ("apdu", sorted(definitions["built"]["properties"]["apdu"]["enum"]), sorted(NAMES[ROOTS["module"]][1])),
+    ]:
+        if found != wanted:
+            fault(BUILT_RESULTS, f"{place} has {found}, and not {wanted}")
+
+
 def check_crates():
     """Compares the crates that ARCHITECTURE names with the directories in crates/."""
     named = set(re.findall(r"`((?:ber|der|example|ill|oid|test)_\w+)`", read("docs/ARCHITECTURE.md")))
@@ -562,6 +576,7 @@ def check(documents, program):
     check_max_refused()
     check_names_of_options()
     check_results_schema(known)
+    check_built_schema()
     if program.exists():
         check_program(program)
     return faults

@@ -228,14 +228,15 @@ def build_results(lines):
     schema = Schema(json.loads((TOP / "docs/built.schema.json").read_text()))
     own = [Builder(TABLES, PROFILE)]
     given = "".join(text + "\n" for text in lines).encode()
-    found = illcanon("build", "--json", "--keep-going", "--profile", PROFILE, "-", "-", given=given).decode().split("\n")[:-1]
+    named = ["-H"] if PROFILE == "module" else []
+    found = illcanon("build", "--json", "--keep-going", *named, "--profile", PROFILE, "-", "-", given=given).decode().split("\n")[:-1]
     for i, (text, line) in enumerate(zip(lines, found, strict=True), 1):
         result = json.loads(line)
         fault = schema.fault(result)
         if fault:
             sys.exit(f"built.py: {line}\n is a result, and {fault}")
         said = result["message"] if "message" in result else result["refused"]["cause"]
-        if (result["line"], said) != (i, answer(text, own).rsplit(" ", 1)[-1]) or "message" in result and 2 * result["octets"] != len(said):
+        if (result.get("file"), result["line"], said) != ("-" if named else None, i, answer(text, own).rsplit(" ", 1)[-1]) or "message" in result and 2 * result["octets"] != len(said):
             sys.exit(f"built.py: {text}\n has the result {line}")
 
 

@@ -906,6 +906,13 @@ row build-up-to-a-fault 1 '' "illcanon: $UNNAMED" build LINES OUT
 cmp -s OUT GOOD || { failed=$((failed + 1)) && echo 'failed: build-up-to-a-fault: OUT is not the message'; }
 row build-going-on 1 "$EXPIRED\n$EXPIRED\n" "illcanon: $UNNAMED""illcanon: $NO_JSON" build --keep-going --hex --refused KEPT LINES -
 printf '{"apdu":"Expire"}\n[\n' | cmp -s - KEPT || { failed=$((failed + 1)) && echo 'failed: build-going-on: KEPT is not the refused lines'; }
+# Of a line without a value the report says which command writes one; of others it doesn't.
+NO_VALUE=' (`check` and `digest` write no value; `show --json` does)\n'
+printf '%s\n' '{"apdu":"Expired"}' '{"number":1,"offset":0,"octets":33,"apdu":"Expired","normal":true,"digest":"00"}' \
+    '{"number":1,"offset":0,"octets":2,"apdu":"Expired","refused":{"cause":"Missing"}}' '{"adpu":"Expired"}' '{"apdu":"Expired","value":1}' '{"value":{}}' >OTHERS
+row build-of-other-lines 1 '' "illcanon: refused at /value in line 1: MissingMember${NO_VALUE}illcanon: refused at /digest in line 2: UnknownMember${NO_VALUE}\
+illcanon: refused at /refused in line 3: UnknownMember${NO_VALUE}illcanon: refused at /adpu in line 4: UnknownMember\n\
+illcanon: refused at /value in line 5: WrongType\nillcanon: refused at /apdu in line 6: MissingMember\n" build --keep-going OTHERS -
 row build-up-to-refused-lines 1 "$EXPIRED\n" "illcanon: ${UNNAMED}illcanon: stopped after 1 refused line\n" build --keep-going --max-refused 1 --hex LINES -
 row build-of-two 1 "$EXPIRED\n$EXPIRED\n" "illcanon: LINES: $UNNAMED""illcanon: ./LINES: ${UNNAMED}illcanon: 2 files, 4 lines, 2 built, 2 refused, 66 octets, 2 left before the end\n" build --hex --summary -o - LINES ./LINES
 row build-by-lines 1 "$EXPIRED\nrefused at /apdu: UnknownName\nrefused at column 2: NotJson\n$EXPIRED\n" '' build --lines LINES -

@@ -1,4 +1,4 @@
-//! What the help of `build` says.
+//! The words of the help of `build`.
 
 pub const HEX: &str = "Writes each message as a line of hexadecimal digits";
 

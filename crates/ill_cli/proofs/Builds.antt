@@ -1,4 +1,4 @@
--- What is answered to a line of which the first octets were kept.
+-- The answer to a line of which the first octets were kept.
 use Rattle.std.proofs.Common.{◌≡◌, ◌∙◌, ◌++◌, ◌<◌, ◌≤◌, ℕ, false, List, length, take, Result, Ok, Err, OnOk, IfOk, ap, subst, arith, length-take, inl, inr}
 use Rattle.std.specs.Prelude.{if◌then◌else◌, is_ok}
 use Rattle.std.proofs.lemmas.Bool.{cases_lt}

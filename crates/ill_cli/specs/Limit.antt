@@ -1,4 +1,4 @@
--- How many refused messages or lines a command reports before its work ends.
+-- The number of refused messages or lines that a command reports before its work ends.
 use Rattle.std.specs.Prelude.{ℕ, ◌+◌, Bool, true, false, Option, Result, Err}
 use Rattle.ill_inputs.specs.declared.verdict.Verdict.{Verdict}
 use Rattle.ill_files.specs.declared.error.ProgramError.{ProgramError}

@@ -87,7 +87,7 @@ impl fmt::Display for WhyUnbuilt<'_> {
     }
 }
 
-/// What is said of a line without a value, as some commands write it.
+/// The hint at a line without a value, as some commands write it.
 const NO_VALUE: &str = " (`check` and `digest` write no value; `show --json` does)";
 
 /// A line that is refused, with its number, and its file, if it is named: `refused at /apdu in line 3: UnknownName`.

@@ -1,4 +1,4 @@
--- What is kept of a line that is a message in hexadecimal.
+-- The octets that are kept of a line that is a message in hexadecimal.
 use Rattle.std.proofs.Common.{◌≡◌, ◌≤◌, ℕ, List, length, take, drop, sym, arith, length-take, Some}
 use Rattle.std.proofs.lemmas.List.{take-append-drop}
 use Rattle.std.proofs.Math.ListN.{drop_of_length-le}

@@ -1,4 +1,4 @@
--- What is kept of a line of JSON.
+-- The octets that are kept of a line of JSON.
 use Rattle.std.specs.Prelude.{◌<◌}
 use Rattle.std.proofs.Common.{lit≤}
 

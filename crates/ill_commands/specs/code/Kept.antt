@@ -1,4 +1,4 @@
--- What is kept of a line that is a message in hexadecimal.
+-- The octets that are kept of a line that is a message in hexadecimal.
 use Rattle.std.specs.Prelude.{◌<◌}
 use Rattle.std.proofs.Common.{lit≤}
 

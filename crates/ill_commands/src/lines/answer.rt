@@ -4,7 +4,7 @@ ghost use Rattle.ill_commands.specs.declared.lines.answer.LineVerdict.{LineVerdi
 
 use std::alloc::AllocError;
 
-/// What is said of a line.
+/// The verdict on a line.
 #[derive(Clone, Copy, Debug, PartialEq, Eq)]
 pub enum LineVerdict {
     Good,
@@ -43,7 +43,7 @@ pub trait AnswerLines {
     // A line of this text may have this result and this verdict.
     ghost answers: { Self.Options → List ℕ → List ℕ → VerdictOf → Type 0 };
 
-    // How many octets of a line are kept. They are enough to answer it.
+    // The number of octets of a line that are kept. They are enough to answer it.
     ghost kept_len: { Self.Options → ℕ };
 
     // There is one at least.
