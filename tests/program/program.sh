@@ -340,7 +340,9 @@ status=$?
 compare closed-standard-output 3
 i=0
 while [ $i -lt 400 ]; do cat F; i=$((i + 1)); done >MANY
-"$program" canonicalise MANY /dev/full >out 2>err
+# More than is written at once.
+cat MANY MANY MANY MANY MANY MANY >SIXFOLD
+"$program" canonicalise SIXFOLD /dev/full >out 2>err
 status=$?
 printf 'illcanon: write fault after 0 octets\n' >want-err
 compare full-device-in-the-middle 3

@@ -13,6 +13,9 @@ use std::fs::{self, OpenFile};
 use std::io::{self, BufWriter, ErrorKind, Printer, Read, Write};
 use std::rt::Files;
 
+/// The number of octets that wait until they are written at once.
+const BUFFER_LEN: usize = 65_536;
+
 /// Standard output or a file, with the number of octets that it took.
 #[derive(Drop)]
 pub struct OutputFile<S, F> {
@@ -85,7 +88,9 @@ impl<S: Write + Drop, F: Write + Drop> Output<S, F> {
             written: 0,
             is_closed: false,
         };
-        let writer = BufWriter::new(alloc, target).map_err(|_| ProgramError::out_of_memory())?;
+        let writer = BufWriter::with_capacity(alloc, BUFFER_LEN, target).map_err(
+            |_| ProgramError::out_of_memory(),
+        )?;
         let open = OpenOutput {
             writer,
             is_lost: false,

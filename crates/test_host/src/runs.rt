@@ -130,7 +130,7 @@ static FILES: [(&str, &str); 21] = [
     ),
     (
         "many",
-        "741f301d800102a10aa1031b0147a2031b0151a20ca00a80083230323430323239*1000",
+        "741f301d800102a10aa1031b0147a2031b0151a20ca00a80083230323430323239*3000",
     ),
     // 1,200,000 octets of a message are more than a message may have.
     (
