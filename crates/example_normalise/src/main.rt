@@ -2,17 +2,19 @@
 //! it: the program `illcanon` has files, flags and texts.
 #![tactic(auto)]
 
-use ber_core::{FromRead, ToWrite};
+use ber_core::{FromBuffer, ToWrite};
 use ill_normal::normalise_stream;
 use std::io::{self, BufWriter, Write};
 use std::process::ExitCode;
 
 fn main(rt: HostRuntime) -> ExitCode {
     let alloc = rt.alloc();
+    let Ok(mut source) = FromBuffer::new(alloc, rt.reader()) else {
+        return ExitCode::FAILURE;
+    };
     let Ok(mut writer) = BufWriter::new(alloc, io::writer(&rt)) else {
         return ExitCode::FAILURE;
     };
-    let mut source = FromRead::new(rt.reader());
     let normalised = normalise_stream(alloc, &mut source, &mut ToWrite::new(&mut writer));
     let flushed = writer.flush();
     let printed = match normalised {
