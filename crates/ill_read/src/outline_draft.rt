@@ -1,6 +1,6 @@
 //! The draft that is the outline of a message: marks that say what its value is, made while the message is read.
 ghost use Rattle.ill_tables.specs.declared.profile.Profile.{Profile as Named};
-ghost use Rattle.std.specs.Prelude.{◌≡◌, ◌++◌, [], ◌∷◌, ◌≤◌, length, map, take, drop, OnOk};
+ghost use Rattle.std.specs.Prelude.{◌≡◌, ◌++◌, [], ◌∷◌, ◌≤◌, length, map, take, drop, IsTrue, OnOk};
 ghost use Rattle.ill_grammar.specs.Places.{alternative_of};
 ghost use Rattle.ill_tables.specs.Table.{kind_of, rows_of};
 ghost use Rattle.ill_grammar.specs.Due.{first_of, read_as, shape, slot_in};
@@ -9,13 +9,13 @@ ghost use Rattle.ill_grammar.specs.Standing.{top_level};
 ghost use Rattle.ill_read.specs.code.Drafts.{rows_before, rows_left};
 ghost use Rattle.ill_grammar.specs.declared.outline.Mark.{Mark};
 ghost use Rattle.ill_grammar.specs.Cells.{is_any};
-ghost use Rattle.ill_read.specs.code.Outlines.{AreOutlined, HasPreceding, HasMarksAndForm, HasAbsent, HasEnding, alternative_marks, first_marks, held_marks, late_marks, start_marks};
+ghost use Rattle.ill_read.specs.code.Outlines.{AreOutlined, HasPreceding, PassesNone, HasMarksAndForm, HasAbsent, HasEnding, alternative_marks, first_marks, held_marks, late_marks, start_marks};
 
 use crate::draft::Draft;
 use crate::failure::Failure;
 use crate::normal_form_draft::NormalFormDraft;
 use ill_grammar::{
-    ConstructedElement, Element, Found, Frame, LeafType, Mark, Next, Outline, Place,
+    ConstructedElement, Element, EntryRole, Found, Frame, LeafType, Mark, Next, Outline, Place,
     PrimitiveElement, Slot,
 };
 use ill_schema::{NodeId, PartId, Profile, rows};
@@ -82,12 +82,26 @@ fn is_open_type(node: NodeId) -> bool
 }
 
 /// Marks what comes before an element that was found at this place: the rows that it passes, and the alternative that it is.
+#[inline(always)]
 fn mark_preceding(marks: &mut Vec<Mark>, place: Place, found: Found) -> Result<(), AllocError>
     ensures { OnOk result (HasPreceding (shape place) (slot_in found) (alternative_of found)
         marks.old.items marks.new.items) }
 {
-    mark_absent_before(marks, Next::at(place), Slot::of(found))?;
+    if !passes_none(place, found) {
+        mark_absent_before(marks, Next::at(place), Slot::of(found))?;
+    }
     mark_alternative(marks, found.alternative())
+}
+
+/// Tells whether an element that was found at this place is known to pass no row: most begin with the row that the place is at.
+#[inline(always)]
+fn passes_none(place: Place, found: Found) -> bool
+    ensures { IsTrue result → PassesNone (shape place) (slot_in found) }
+{
+    match found.slot() {
+        EntryRole::Row => place.position() > 0 && found.row() < place.position(),
+        _ => true,
+    }
 }
 
 /// Marks that an element begins. What comes in a loose wrapper says whether it is a sequence, and a foreign tree is marked when its
@@ -109,6 +123,7 @@ fn mark_start(marks: &mut Vec<Mark>, element: Element) -> Result<(), AllocError>
 }
 
 /// Marks a choice's alternative.
+#[inline(always)]
 fn mark_alternative(marks: &mut Vec<Mark>, alternative: Option<u8>) -> Result<(), AllocError>
     ensures { OnOk result (marks.new.items ≡ marks.old.items ++ alternative_marks alternative) }
 {
@@ -154,6 +169,7 @@ fn mark_foreign(marks: &mut Vec<Mark>, octets: &[u8]) -> Result<(), AllocError>
 
 /// Passes the rows before an element at the slot, where this may come next in the element round it. The first row in a loose wrapper
 /// says that this is a sequence.
+#[inline(never)]
 fn mark_absent_before(marks: &mut Vec<Mark>, next: Next, slot: Slot) -> Result<(), AllocError>
     ensures { OnOk result (HasAbsent (start_marks next slot) (rows_before next slot) marks.old.items
         marks.new.items) }

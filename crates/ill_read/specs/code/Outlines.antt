@@ -80,6 +80,10 @@ pub record HasPreceding (next : Next) (slot : Slot) (alternative : Option ℕ) (
   pub added : new ≡ old ++ (start_marks next slot ++ (rows ++ alternative_marks alternative))
   pub are : AreAbsent (rows_before next slot) rows
 
+-- an element at the slot passes no row, and no sequence begins with it
+abbrev pub PassesNone : Next → Slot → Type 0
+PassesNone next slot = (start_marks next slot ≡ []) × (rows_before next slot ≡ [])
+
 -- the same of an open element, which is due in the element round it
 pub record IsPreceded (tag : Tag) (element : CodeElement) (next : Next) (old new : List Mark) : Type 0 where
   pub slot : Slot
