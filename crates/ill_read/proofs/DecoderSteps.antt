@@ -2,7 +2,7 @@
 use Rattle.ill_tables.specs.declared.profile.Profile.{Profile as Named}
 use Rattle.ill_schema.specs.Profiles.{profile_of}
 use Rattle.ill_tables.specs.declared.profile.Profile.TheVariants.{Two}
-use Rattle.std.proofs.Common.{◌≡◌, ℕ, ◌+◌, ◌-◌, ◌≤◌, List, [], ◌∷◌, ◌++◌, length, take, drop, Option, Some, None, Ok, Err, true, false, refl, sym, ap, subst, ◌∙◌, inl, arith}
+use Rattle.std.proofs.Common.{◌≡◌, ℕ, ◌+◌, ◌-◌, ◌≤◌, Bool, List, [], ◌∷◌, ◌++◌, length, take, drop, Option, Some, None, Ok, Err, true, false, refl, sym, ap, subst, ◌∙◌, inl, arith, IsTrue}
 use Rattle.std.proofs.lemmas.List.{length-drop, length-take-le}
 use Rattle.ber_core.specs.Id.{tag_of_id}
 use Rattle.ber_tree.specs.Tree.{Tree}
@@ -21,7 +21,8 @@ use Rattle.ill_refusals.specs.code.Judge.{Judgement, closes, reads, judge, or_fa
 use Rattle.ill_read.specs.Answers.{IsRefusedIn}
 use Rattle.ill_grammar.specs.Standing.{Level, whole_level, StandsBefore}
 use Rattle.ill_read.specs.Paths.{HoldsAt}
-use Rattle.ill_read.specs.code.Drafts.{HoldsApdu}
+use Rattle.ber_tree.specs.Octets.{are_octets}
+use Rattle.ill_read.specs.code.ReaderCode.{IsAfter}
 use Rattle.ill_read.specs.code.Judged.{IsJudgement, IsStep}
 use Rattle.ill_refusals.specs.Place.{Open}
 use Rattle.ill_read.specs.code.Progress.{size_of, IsProgress}
@@ -38,13 +39,13 @@ use Rattle.ill_refusals.proofs.DueSteps.{IsMessage, Placed, step_placed}
 use Rattle.ill_refusals.proofs.Truncation.{leaf_cause}
 
 -- the step ends at this offset, or with a fault that isn't that the octets end
-abbrev EndsAt : ℕ → List ℕ → Step → Type 0
+abbrev pub EndsAt : ℕ → List ℕ → Step → Type 0
 EndsAt k rest (goes place l after) = (l ≡ k) × (after ≡ rest)
 EndsAt k rest (whole T n) = n ≡ k
 EndsAt k rest (refused f) = f.cause ≡ Cause.Truncated → ⊥
 EndsAt k rest stuck = Unit {0}
 
-with_end : (place : List Open) (T : Tree) (k l : ℕ) (rest after : List ℕ) → l ≡ k → after ≡ rest → EndsAt k rest (with_tree place T l after)
+pub with_end : (place : List Open) (T : Tree) (k l : ℕ) (rest after : List ℕ) → l ≡ k → after ≡ rest → EndsAt k rest (with_tree place T l after)
 with_end [] T k l rest after e f = e
 with_end (o ∷ place) T k l rest after e f = (e, f)
 
@@ -95,40 +96,38 @@ made p Stands frames at s rest judgement b q h = record {
   ends = moved_end p frames b.place at rest judgement (judge (profile_of p) b.place at rest) q h;
 }
 
--- it is at the next place
-pub goes_on : {D : Type 0} (p : Named) (holds : D → List Level → List ℕ → Type 0) (path new : Path D) (at : ℕ) (s rest : List ℕ) (judgement : CodeJudgement) → (b : StandsBefore p (HoldsAt p holds path) at s rest)
-    → IsProgress (depth_of path.frames) (length rest) judgement → IsJudgement p path.frames b.place at rest judgement (judge (profile_of p) b.place at rest)
-    → IsStep p holds new (Ok false) (step_after (judge (profile_of p) b.place at rest) b.place at rest)
-    → StandsBefore p (HoldsAt p holds new) (at + size_of judgement) s (drop (size_of judgement) rest)
-goes_on p holds path new at s rest judgement b q h is = go (step_after (judge (profile_of p) b.place at rest) b.place at rest) (made p (HoldsAt p holds path) path.frames at s rest judgement b q h) is
-  where
-    go : (st : Step) → IsMade p at s rest judgement st → IsStep p holds new (Ok false) st → StandsBefore p (HoldsAt p holds new) (at + size_of judgement) s (drop (size_of judgement) rest)
-    go (goes place l after) m i = record {
-      place = place;
-      before = m.placed.0;
-      joined = subst (λ z. s ≡ m.placed.0 ++ z) m.ends.1 m.placed.1;
-      octets = b.octets;
-      offset = sym m.ends.0 ∙ m.placed.2;
-      stands = i;
-      is_place = m.placed.3;
-    }
-    go _ m i = absurd i
+-- after a step the path is at the next place, or the message is whole: its octets encode what the draft holds
+pub step_made : {D : Type 0} (p : Named) (holds : D → List Level → List ℕ → Type 0) (new : Path D) (k : ℕ) (s rest : List ℕ) (st : Step) (done : Bool) → IsTrue (are_octets s) → Placed (profile_of p) s st → EndsAt k rest st
+    → IsStep p holds new (Ok done) st → IsAfter p holds new k s rest done
+step_made p holds new k s rest (goes place l after) false ok placed ends i = record {
+  place = place;
+  before = placed.0;
+  joined = subst (λ z. s ≡ placed.0 ++ z) ends.1 placed.1;
+  octets = ok;
+  offset = sym ends.0 ∙ placed.2;
+  stands = i;
+  is_place = placed.3;
+}
+step_made p holds new k s rest (whole T n) true ok placed ends i =
+    let apdu = means_apdu p i.0 T i.2 in
+    let message : IsMessage (profile_of p) s T n = record placed { apdu = apdu.0; means = apdu.2 } in
+    let encoded = subst (λ l. (l ≤ length s) × Encodes (profile_of p) apdu.0 (take l s)) ends (message_encodes (profile_of p) s T n message) in
+    (encoded.0, (apdu.0, (subst (λ c. holds new.draft (whole_level p c ∷ []) []) apdu.1 i.1, apdu.2.0, encoded.1)))
+step_made p holds new k s rest (refused f) false ok placed ends i = absurd i
+step_made p holds new k s rest (refused f) true ok placed ends i = absurd i
+step_made p holds new k s rest stuck false ok placed ends i = absurd i
+step_made p holds new k s rest stuck true ok placed ends i = absurd i
+step_made p holds new k s rest (goes place l after) true ok placed ends i = absurd i
+step_made p holds new k s rest (whole T n) false ok placed ends i = absurd i
 
--- the message is whole: its octets encode what the draft holds
-pub is_whole : {D : Type 0} (p : Named) (holds : D → List Level → List ℕ → Type 0) (path new : Path D) (at : ℕ) (s rest : List ℕ) (judgement : CodeJudgement) → (b : StandsBefore p (HoldsAt p holds path) at s rest)
+-- the same of what was judged
+pub after_step : {D : Type 0} (p : Named) (holds : D → List Level → List ℕ → Type 0) (path new : Path D) (at : ℕ) (s rest : List ℕ) (judgement : CodeJudgement) (done : Bool) → (b : StandsBefore p (HoldsAt p holds path) at s rest)
     → IsProgress (depth_of path.frames) (length rest) judgement → IsJudgement p path.frames b.place at rest judgement (judge (profile_of p) b.place at rest)
-    → IsStep p holds new (Ok true) (step_after (judge (profile_of p) b.place at rest) b.place at rest)
-    → (at + size_of judgement ≤ length s) × ((a : Apdu) × HoldsApdu p holds new.draft a (take (at + size_of judgement) s))
-is_whole p holds path new at s rest judgement b q h is = go (step_after (judge (profile_of p) b.place at rest) b.place at rest) (made p (HoldsAt p holds path) path.frames at s rest judgement b q h) is
-  where
-    go : (st : Step) → IsMade p at s rest judgement st → IsStep p holds new (Ok true) st
-        → (at + size_of judgement ≤ length s) × ((a : Apdu) × HoldsApdu p holds new.draft a (take (at + size_of judgement) s))
-    go (whole T n) m i =
-        let apdu = means_apdu p i.0 T i.2 in
-        let message : IsMessage (profile_of p) s T n = record m.placed { apdu = apdu.0; means = apdu.2 } in
-        let encoded = subst (λ k. (k ≤ length s) × Encodes (profile_of p) apdu.0 (take k s)) m.ends (message_encodes (profile_of p) s T n message) in
-        (encoded.0, (apdu.0, (subst (λ c. holds new.draft (whole_level p c ∷ []) []) apdu.1 i.1, apdu.2.0, encoded.1)))
-    go _ m i = absurd i
+    → IsStep p holds new (Ok done) (step_after (judge (profile_of p) b.place at rest) b.place at rest)
+    → IsAfter p holds new (at + size_of judgement) s (drop (size_of judgement) rest) done
+after_step p holds path new at s rest judgement done b q h is =
+    let m = made p (HoldsAt p holds path) path.frames at s rest judgement b q h in
+    step_made p holds new (at + size_of judgement) s (drop (size_of judgement) rest) (step_after (judge (profile_of p) b.place at rest) b.place at rest) done b.octets m.placed m.ends is
 
 -- a text is at fault, or memory runs out
 pub is_refused : {D : Type 0} (p : Named) (holds : D → List Level → List ℕ → Type 0) (path new : Path D) (at : ℕ) (s rest : List ℕ) (judgement : CodeJudgement) (failure : Failure)

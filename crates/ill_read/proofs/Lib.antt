@@ -25,3 +25,6 @@ pub mod OctetDrafts
 pub mod Outlines
 pub mod Accepted
 pub mod PassedHeaders
+pub mod StringsInTags
+pub mod StringSteps
+pub mod Windows

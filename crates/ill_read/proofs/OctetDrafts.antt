@@ -50,6 +50,14 @@ use Rattle.ill_read.proofs.DeliveredEntries.{pushed_apart, pushed_segment}
 use Rattle.ill_grammar.proofs.DueTags.{IsNoNumber, due_apart, due_bit_segment, kept}
 use Rattle.ill_grammar.proofs.NormalLeaves.{no_bits, normal_as_read}
 use Rattle.ill_read.proofs.WrittenElements.{entry_written, ended_written}
+use Rattle.ill_schema.specs.Normal.{normal_tree}
+use Rattle.ill_schema.specs.Tagging.{leaf_tag, untagged}
+use Rattle.ill_tables.specs.declared.node.NodeId.{NodeId}
+use Rattle.ill_grammar.specs.LeafTypes.{IsContentIn}
+use Rattle.ill_grammar.specs.declared.element.Wrapped.{Wrapped}
+use Rattle.ill_read.specs.code.Drafts.{HasString, WrapsString, is_ill_string}
+use Rattle.ill_read.specs.code.StringsInTags.{string_tree}
+use Rattle.ill_read.proofs.StringsInTags.{string_value, wrapped_of}
 
 -- an element that opens has written nothing in it
 written_first : (e : CodeElement) → written e (first_of e) [] ≡ []
@@ -256,6 +264,39 @@ other_added p old new l below next r octets c other right h due is e =
     let front : old.octets ≡ h.front = front_of old l.element h.front [] refl h.joined in
     added_octets new l below (slot_in r.found) (with_alternative (alternative_of r.found) c) h.front (encoding (primitive tag (other_octets el octets)))
     (no_bit_string p l next tag (slot_in r.found) (alternative_of r.found) el due (module_whole el other)) (entry ∙ ap (λ x. written l.element l.next l.entries ++ x) added) h.are (e ∙ ap (λ x. x ++ encoding (primitive tag (other_octets el octets))) front)
+
+-- a string of an ILL-String is the tree of its type
+string_octets : (w : Wrapped) (l : LeafType) (octets : List ℕ) → w.node ≡ NodeId.IllString → IsTrue (is_ill_string l) → encoding (normal_tree (simple (value (leaf_is l) octets)) w.node untagged) ≡ encoding (primitive (leaf_tag (leaf_is l)) octets)
+string_octets w l octets node string = ap (λ n. encoding (normal_tree (simple (value (leaf_is l) octets)) n untagged)) node ∙ go l string
+  where
+    go : (l : LeafType) → IsTrue (is_ill_string l) → encoding (normal_tree (simple (value (leaf_is l) octets)) NodeId.IllString untagged) ≡ encoding (primitive (leaf_tag (leaf_is l)) octets)
+    go LeafType.General h = refl
+    go LeafType.Visible h = refl
+    go _ h = absurd cc
+
+-- an explicit tag is added, and the string in it
+pub string_added : (p : Named) (old new : NormalFormDraft) (next : Next) (o : ConstructedElement) (leaf : LeafType) (octets : List ℕ) → WrapsString (read_as o.found) leaf → IsContentIn p (leaf_is leaf) octets
+    → (let body = encoding (primitive (leaf_tag (leaf_is leaf)) octets) in new.octets ≡ old.octets ++ (identifier (tag_of_id o.id) true ++ (shortest_length (length body) ++ body))) → HasString p AreOctets old next o leaf octets new
+string_added p old new next o kind octets string right e l below h due =
+    let tag = tag_of_id o.id in
+    let el = read_as o.found in
+    let x = wrapped_of el kind string in
+    let c = simple (value (leaf_is kind) octets) in
+    let T = string_tree tag kind octets in
+    let body = encoding (primitive (leaf_tag (leaf_is kind)) octets) in
+    let all = identifier tag true ++ (shortest_length (length body) ++ body) in
+    let whole = subst IsNoSegment (sym x.1) (λ s. cc, λ s. cc) in
+    let given = subst (λ e. IsValueOf p (element_is e) c T) (sym x.1) (string_value p x.0 kind tag octets x.2 x.3 right) in
+    let entry = entry_written p l.element l.next l.entries due.trees T (slot_in o.found) (alternative_of o.found) el c due.held due.is_due given in
+    let stays = kept tag l.next (slot_in o.found) (alternative_of o.found) el c due.is_due (subst (λ e. IsNoNumber (element_is e)) (sym x.1) tt) in
+    let contents : encoding (normal_tree c x.0.node untagged) ++ [] ≡ body = append-nil _ ∙ string_octets x.0 kind octets x.2 x.3 in
+    let octets_are : encoding (normal_element (element_is el) tag c) ≡ all =
+    ap (λ e. encoding (normal_element (element_is e) tag c)) x.1 ∙ ap (λ y. identifier tag true ++ (shortest_length (length y) ++ y)) contents in
+    let added : unless_left l.next (slot_in o.found) (with_alternative (alternative_of o.found) c) (encoding (normal_element (element_is el) tag c)) ≡ all =
+    ap (λ b. elim b as (λ _. List ℕ) [ true ↦ [] | false ↦ encoding (normal_element (element_is el) tag c) ]) stays ∙ octets_are in
+    let front : old.octets ≡ h.front = front_of old l.element h.front [] refl h.joined in
+    added_octets new l below (slot_in o.found) (with_alternative (alternative_of o.found) c) h.front all
+    (no_bit_string p l next tag (slot_in o.found) (alternative_of o.found) el due whole) (entry ∙ ap (λ y. written l.element l.next l.entries ++ y) added) h.are (e ∙ ap (λ y. y ++ all) front)
 
 -- the text of the innermost string
 pub text_at : (draft : NormalFormDraft) (l : Level) (below : List Level) (text : List ℕ) → AreOctets draft (l ∷ below) text → (l.element ≡ BitString → ⊥) → written l.element l.next l.entries ≡ [] → drop l.contents_start draft.octets ≡ text

@@ -65,7 +65,10 @@ use Rattle.ill_grammar.specs.declared.outline.Mark.TheVariants as mark
 use Rattle.ill_read.specs.declared.outline_draft.OutlineDraft.{OutlineDraft}
 use Rattle.ill_read.proofs.DeliveredEntries.{pushed_apart, pushed_segment}
 use Rattle.ill_read.proofs.HeldEntries.{drop-take-more}
+use Rattle.ill_grammar.specs.declared.place.Found.{Found}
+use Rattle.ill_read.specs.code.Drafts.{HasString, WrapsString}
 use Rattle.ill_read.proofs.AddedEntries.{one_due}
+use Rattle.ill_read.proofs.StringsInTags.{wrapped_of}
 use Rattle.std.proofs.Common.{suc, ◌+◌, ◌<◌, ◌≤◌, take, drop, slice_get, arith}
 
 -- ---- rows that are passed
@@ -428,12 +431,12 @@ outline_bits old new octets has same l below text is h = record {
 }
 
 -- an entry more in the innermost element, where no text is open
-outline_entry : (p : Named) (old new : OutlineDraft) (l : Level) (below : List Level) (next : Next) (r : PrimitiveElement) (el : CodeElement) (c : Content) (mid y : List Mark) → AreOutlined old (l ∷ below) [] → IsDueAt p l next (tag_of_id r.id) (slot_in r.found) (alternative_of r.found) el
-    → HasPreceding next (slot_in r.found) (alternative_of r.found) old.marks.items mid → new.marks.items ≡ mid ++ y → IsEntryMarked el c y → AreFronts (with_entry l (slot_in r.found) (with_alternative (alternative_of r.found) c) ∷ below) new.marks.items
-outline_entry p old new l below next r el c mid y h due led e m =
+outline_entry : (p : Named) (old new : OutlineDraft) (l : Level) (below : List Level) (next : Next) (t : Tag) (f : Found) (el : CodeElement) (c : Content) (mid y : List Mark) → AreOutlined old (l ∷ below) [] → IsDueAt p l next t (slot_in f) (alternative_of f) el
+    → HasPreceding next (slot_in f) (alternative_of f) old.marks.items mid → new.marks.items ≡ mid ++ y → IsEntryMarked el c y → AreFronts (with_entry l (slot_in f) (with_alternative (alternative_of f) c) ∷ below) new.marks.items
+outline_entry p old new l below next t f el c mid y h due led e m =
     let front : old.marks.items ≡ h.front = h.joined ∙ ap (λ ms. h.front ++ ms) (text_none l.element) ∙ append-nil h.front in
-    let here = subst (λ n. HasPreceding n (slot_in r.found) (alternative_of r.found) h.front mid) (sym due.next) (subst (λ ms. HasPreceding next (slot_in r.found) (alternative_of r.found) ms mid) front led) in
-    entry_marked p l below next (tag_of_id r.id) (slot_in r.found) (alternative_of r.found) el c h.front mid new.marks.items y due h.are here e m
+    let here = subst (λ n. HasPreceding n (slot_in f) (alternative_of f) h.front mid) (sym due.next) (subst (λ ms. HasPreceding next (slot_in f) (alternative_of f) ms mid) front led) in
+    entry_marked p l below next t (slot_in f) (alternative_of f) el c h.front mid new.marks.items y due h.are here e m
 
 closed_text : (ms : List Mark) (e : CodeElement) → ms ≡ ms ++ text_marks e []
 closed_text ms e = sym (append-nil ms) ∙ ap (λ t. ms ++ t) (sym (text_none e))
@@ -444,9 +447,25 @@ outline_leaf p old new next r leaf octets mid right has led e after l below h du
   octets = has after l below h.octets due;
   front = new.marks.items;
   joined = closed_text new.marks.items l.element;
-  are = outline_entry p old new l below next r (Leaf leaf) (simple (value (leaf_is leaf) octets)) mid (octets_marks (mark.Leaf leaf) octets) h due led e
+  are = outline_entry p old new l below next (tag_of_id r.id) r.found (Leaf leaf) (simple (value (leaf_is leaf) octets)) mid (octets_marks (mark.Leaf leaf) octets) h due led e
       (inl (record { first = mark.Leaf leaf; leaf = leaf_is leaf; octets = octets; profile = p; begins = refl; are = refl; content = right; holds = refl }));
 }
+
+-- a string in its explicit tag has the marks of a leaf
+pub outline_string : (p : Named) (old new : OutlineDraft) (next : Next) (o : ConstructedElement) (leaf : LeafType) (octets : List ℕ) (mid : List Mark) → WrapsString (read_as o.found) leaf → IsContentIn p (leaf_is leaf) octets
+    → HasString p AreOctets old.octets next o leaf octets new.octets → HasPreceding next (slot_in o.found) (alternative_of o.found) old.marks.items mid → new.marks.items ≡ mid ++ octets_marks (mark.Leaf leaf) octets
+    → HasString p AreOutlined old next o leaf octets new
+outline_string p old new next o leaf octets mid string right has led e l below h due =
+    let x = wrapped_of (read_as o.found) leaf string in
+    let c = simple (value (leaf_is leaf) octets) in
+    record {
+      octets = has l below h.octets due;
+      front = new.marks.items;
+      joined = closed_text new.marks.items l.element;
+      are = outline_entry p old new l below next (tag_of_id o.id) o.found (read_as o.found) c mid (octets_marks (mark.Leaf leaf) octets) h due led e
+          (subst (λ e. IsEntryMarked e c (octets_marks (mark.Leaf leaf) octets)) (sym x.1)
+          (inl (record { first = mark.Leaf leaf; leaf = leaf_is leaf; octets = octets; profile = p; begins = refl; are = refl; content = right; holds = refl })));
+    }
 
 -- a primitive element that only the module profile has
 abbrev pub module_marks : CodeElement → List ℕ → List Mark
@@ -467,7 +486,7 @@ outline_element p old new next r octets mid other right has led e l below c h du
   octets = has l below c h.octets due is;
   front = new.marks.items;
   joined = closed_text new.marks.items l.element;
-  are = outline_entry p old new l below next r (read_as r.found) c mid (module_marks (read_as r.found) octets) h due led e (module_marked p (read_as r.found) (tag_of_id r.id) octets c other right is);
+  are = outline_entry p old new l below next (tag_of_id r.id) r.found (read_as r.found) c mid (module_marks (read_as r.found) octets) h due led e (module_marked p (read_as r.found) (tag_of_id r.id) octets c other right is);
 }
 
 -- nothing is marked before an element of a foreign tree

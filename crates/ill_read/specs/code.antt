@@ -1,5 +1,6 @@
 pub mod Progress
 pub mod Drafts
+pub mod StringsInTags
 pub mod OpenValues
 pub mod Judged
 pub mod Stepping

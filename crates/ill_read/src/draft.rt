@@ -1,5 +1,5 @@
 //! Drafts: results that are built while the elements of a message are read.
-ghost use Rattle.std.specs.Prelude.{◌≡◌, ℕ, List, true, IfOk, IsTrue, OnOk};
+ghost use Rattle.std.specs.Prelude.{◌≡◌, ℕ, List, false, true, Ok, IfOk, IsTrue, OnOk};
 ghost use Rattle.ill_schema.specs.Apdu.{Apdu};
 ghost use Rattle.ill_tables.specs.declared.profile.Profile.{Profile as Named};
 ghost use Rattle.ill_grammar.specs.Due.{read_as, shape};
@@ -8,7 +8,7 @@ ghost use Rattle.ill_grammar.specs.LeafTypes.{IsContentIn, leaf_is};
 ghost use Rattle.ill_grammar.specs.Standing.{Level};
 ghost use Rattle.ill_grammar.specs.Two.{is_found_of};
 ghost use Rattle.ill_grammar.specs.declared.element.Element.{Element as CodeElement};
-ghost use Rattle.ill_read.specs.code.Drafts.{ChecksText, HasBits, HasClosed, HasEnded, HasLeaf, HasModuleElement, HasOpened, HasText, HoldsApdu, IsModuleElement, IsRightContent};
+ghost use Rattle.ill_read.specs.code.Drafts.{ChecksText, HasBits, HasClosed, HasEnded, HasLeaf, HasModuleElement, HasOpened, HasString, HasText, HoldsApdu, IsModuleElement, IsRightContent, WrapsString};
 
 use crate::failure::Failure;
 use ill_grammar::{ConstructedElement, Frame, LeafType, Place, PrimitiveElement};
@@ -50,6 +50,23 @@ pub trait Draft: Drop {
         requires usual { IsTrue (is_usual (read_as opening.found) true) }
         ensures { IfOk result (λ contents_start. HasOpened holds self.old (shape place) opening
             contents_start self.new) };
+
+    /// An explicit tag at this place, and in it one primitive string of an ILL-String. Returns false where the draft takes its parts one by
+    /// one: nothing changes then.
+    fn string_in_tag(
+        &mut self,
+        profile: Profile,
+        place: Place,
+        opening: ConstructedElement,
+        leaf: LeafType,
+        content: &[u8],
+    ) -> Result<bool, AllocError>
+        requires takes { takes profile }
+        requires string { WrapsString (read_as opening.found) leaf }
+        requires content { IsContentIn profile (leaf_is leaf) content.now }
+        ensures left { result ≡ Ok false → self.new ≡ self.old }
+        ensures added { result ≡ Ok true → HasString profile holds self.old (shape place) opening
+            leaf content.now self.new };
 
     /// More octets of the string that is open.
     fn text(&mut self, octets: &[u8]) -> Result<(), AllocError>

@@ -91,6 +91,17 @@ impl Draft for EmptyDraft {
         Ok(0)
     }
 
+    fn string_in_tag(
+        &mut self,
+        _profile: Profile,
+        _place: Place,
+        _opening: ConstructedElement,
+        _leaf: LeafType,
+        _content: &[u8],
+    ) -> Result<bool, AllocError> {
+        Ok(false)
+    }
+
     fn text(&mut self, _octets: &[u8]) -> Result<(), AllocError> {
         Ok(())
     }

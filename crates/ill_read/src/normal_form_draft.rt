@@ -1,11 +1,13 @@
 //! The draft that is the message's normal form: each element is written as it is read.
 ghost use Rattle.ill_tables.specs.declared.profile.Profile.{Profile as Named};
-ghost use Rattle.std.specs.Prelude.{◌≡◌, ◌++◌, ℕ, List, [], ◌∷◌, length, drop, false, true, IfOk, OnOk};
-ghost use Rattle.ber_core.specs.Id.{id_octets, tag_of_id};
+ghost use Rattle.std.specs.Prelude.{◌≡◌, ◌++◌, ℕ, List, [], ◌∷◌, length, drop, false, true, IfOk, IsTrue, OnOk};
+ghost use Rattle.ber_core.specs.Id.{form_of_id, id_octets, tag_of_id};
 ghost use Rattle.ber_tree.specs.Identifier.{HasIdentifier, identifier};
 ghost use Rattle.ber_leaf.specs.Leaf.{normal_content, value};
 ghost use Rattle.ill_schema.specs.Content.{simple};
+ghost use Rattle.ill_schema.specs.Tagging.{leaf_tag};
 ghost use Rattle.ill_grammar.specs.LeafTypes.{IsContentIn, leaf_is};
+ghost use Rattle.ill_read.specs.code.Drafts.{is_ill_string};
 ghost use Rattle.ill_grammar.specs.declared.element.Wrapped.{Wrapped};
 ghost use Rattle.ill_grammar.specs.Places.{alternative_of};
 ghost use Rattle.ill_grammar.specs.Due.{IsDueIn, behind, next_place, shape_at, slot_in};
@@ -189,6 +191,21 @@ impl Draft for NormalFormDraft {
         Ok(contents_start)
     }
 
+    #[inline(always)]
+    fn string_in_tag(
+        &mut self,
+        _profile: Profile,
+        _place: Place,
+        opening: ConstructedElement,
+        leaf: LeafType,
+        content: &[u8],
+    ) -> Result<bool, AllocError> {
+        let start = self.octets.open(opening.id)?;
+        self.octets.primitive(ill_string_id(leaf), content)?;
+        self.octets.close(start)?;
+        Ok(true)
+    }
+
     fn text(&mut self, octets: &[u8]) -> Result<(), AllocError> {
         self.octets.append(octets)?;
         Ok(())
@@ -274,6 +291,23 @@ fn string_id(id: Id) -> Id
         → id_octets result ≡ identifier (tag_of_id id) false }
 {
     Id::new(id.class(), false, id.number()).unwrap_or(id)
+}
+
+/// The identifier of a primitive string of an ILL-String.
+#[inline(always)]
+fn ill_string_id(leaf: LeafType) -> Id
+    requires { IsTrue (is_ill_string leaf) }
+    ensures tag { tag_of_id result ≡ leaf_tag (leaf_is leaf) }
+    ensures primitive { form_of_id result ≡ false }
+{
+    let number = match leaf {
+        LeafType::General => universal::GENERAL_STRING,
+        _ => universal::VISIBLE_STRING,
+    };
+    let Some(id) = Id::new(Class::Universal, false, number) else {
+        unreachable!()
+    };
+    id
 }
 
 /// The content of a leaf as DER has it: TRUE is FF (X.690, 11.1).

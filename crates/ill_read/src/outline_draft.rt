@@ -263,6 +263,25 @@ impl Draft for OutlineDraft {
         self.octets.open_usual(profile, place, opening)
     }
 
+    #[inline(always)]
+    fn string_in_tag(
+        &mut self,
+        profile: Profile,
+        place: Place,
+        opening: ConstructedElement,
+        leaf: LeafType,
+        content: &[u8],
+    ) -> Result<bool, AllocError> {
+        let octets = &mut self.octets;
+        if !octets.string_in_tag(profile, place, opening, leaf, content)? {
+            return Ok(false);
+        }
+        let marks = &mut self.marks;
+        mark_preceding(marks, place, opening.found)?;
+        mark_content(marks, Mark::Leaf(leaf), content)?;
+        Ok(true)
+    }
+
     fn text(&mut self, octets: &[u8]) -> Result<(), AllocError> {
         self.octets.text(octets)?;
         mark_octets(&mut self.marks, octets)

@@ -3,6 +3,7 @@ ghost use Rattle.std.specs.Prelude.{◌≤◌};
 
 mod elements;
 mod pass;
+mod strings;
 
 use crate::draft::Draft;
 use crate::failure::Failure;
@@ -48,17 +49,14 @@ impl<D: Draft> Reader<D> {
     ghost use Rattle.ill_grammar.specs.Standing.{StandsBefore, top_level};
     ghost use Rattle.ill_read.specs.Answers.{IsRefusedIn};
     ghost use Rattle.ill_refusals.specs.code.Judge.{faulty, judge, judge_octets};
-    ghost use Rattle.ill_refusals.specs.code.Step.{step_after};
     ghost use Rattle.ill_read.specs.code.Drafts.{HoldsApdu};
     ghost use Rattle.ill_read.specs.code.Filling.{HasLooked, NoneEndsWithin};
-    ghost use Rattle.ill_read.specs.code.Judged.{IsJudgement, IsStep};
     ghost use Rattle.ill_grammar.specs.code.Judging.{IsRoom, WhereItStands};
     ghost use Rattle.ber_leaf.specs.Profile.{profile_two};
     ghost use Rattle.ill_refusals.specs.Fault.{ends_at};
     ghost use Rattle.ill_refusals.specs.Place.{bound};
-    ghost use Rattle.ill_read.specs.code.Progress.{Judgement, size_of, IsProgress};
     ghost use Rattle.ill_grammar.specs.Standing.{depth_of};
-    ghost use Rattle.ill_read.specs.code.ReaderCode.{CanRefuse, HasAdvanced, HasClosed, HasOutcome, HasStopped, IsFed, IsRunning, LeadsOn, Progresses, ended};
+    ghost use Rattle.ill_read.specs.code.ReaderCode.{CanRefuse, HasAdvanced, HasClosed, HasOutcome, HasStopped, IsAfter, IsFed, IsRunning, LeadsOn, LeadsOnWithin, Progresses, ended};
 
     /// Begins with nothing, to read a message in the profile.
     #[inline(always)]
@@ -330,7 +328,7 @@ impl<D: Draft> Reader<D> {
         ensures progress { Progresses (length window.now) self.old.path.frames self.new.path.frames
             result }
         ensures goes { (p : Named)
-            → LeadsOn p D.holds D.has self.old window.now room available_len self.new result
+            → LeadsOnWithin p D.holds D.has self.old window.now room available_len self.new result
             (λ place cut. judge_octets (profile_of p) place self.old.at cut window.now) }
         ensures profile { self.new.path.frames.profile ≡ self.old.path.frames.profile }
     {
@@ -347,7 +345,7 @@ impl<D: Draft> Reader<D> {
         let Some(extent) = frames.reach(self.at, id, length_read, window, room) else {
             return self.step_unusual(window, room, available_len);
         };
-        self.open_or_read(found, id, extent, window, true)
+        self.open_or_take(found, id, extent, window)
     }
 
     /// Takes an end mark or an element that `step_within` leaves: one that is not usual, whose identifier is of more octets, whose
@@ -383,15 +381,8 @@ impl<D: Draft> Reader<D> {
         ensures pending { self.new.pending ≡ self.old.pending }
         ensures frames { self.new.path.frames ≡ self.old.path.frames }
         ensures size { result ≡ Some size }
-        ensures goes { (p : Named) → D.takes p
-            → (path : Path D) (s rest : List ℕ) (judgement : Judgement)
-            (b : StandsBefore p (HoldsAt p D.holds path) self.old.at s rest)
-            → IsProgress (depth_of path.frames) (length rest) judgement
-            → IsJudgement p path.frames b.place self.old.at rest judgement
-            (judge (profile_of p) b.place self.old.at rest)
-            → size ≡ size_of judgement
-            → IsStep p D.holds self.old.path (Ok whole)
-            (step_after (judge (profile_of p) b.place self.old.at rest) b.place self.old.at rest)
+        ensures goes { (p : Named) (s rest : List ℕ) → D.takes p
+            → IsAfter p D.holds self.old.path (self.old.at + size) s (drop size rest) whole
             → HasAdvanced p D.holds D.has self.new s rest result }
         ensures profile { self.new.path.frames.profile ≡ self.old.path.frames.profile }
     {

@@ -36,11 +36,13 @@ fn open_in<D: Draft>(
 }
 
 impl<D: Draft> Path<D> {
-    ghost use Rattle.ill_read.specs.code.Drafts.{IsModuleElement, IsNoLeaf};
+    ghost use Rattle.std.specs.Prelude.{Bool, Ok, None, Some};
+    ghost use Rattle.ill_grammar.specs.LeafTypes.{IsContentIn, leaf_is};
+    ghost use Rattle.ill_read.specs.code.Drafts.{IsModuleElement, IsNoLeaf, WrapsString};
     ghost use Rattle.ill_grammar.specs.Two.{is_place_of};
     ghost use Rattle.ill_grammar.specs.declared.element.Element.{Element as CodeElement};
     ghost use Rattle.ill_grammar.specs.Standing.{depth_of};
-    ghost use Rattle.ill_read.specs.code.Stepping.{ClosesExactly, OpensExactly, ReadsExactly, GoesOn};
+    ghost use Rattle.ill_read.specs.code.Stepping.{ClosesExactly, OpensExactly, ReadsExactly, GoesOn, TakesString};
 
     /// No open element, and a draft of nothing, of a message that is read in the profile.
     #[inline(always)]
@@ -204,6 +206,36 @@ impl<D: Draft> Path<D> {
         self.draft
             .leaf(profile, self.frames.place(), reading, leaf, content)?;
         Ok(self.move_to(reading.found.after()))
+    }
+
+    /// Takes an explicit tag and the one primitive string in it, which are due. Returns whether the message is whole; None where the draft
+    /// takes them one by one, and nothing changes then.
+    #[inline(always)]
+    pub fn take_string(
+        &mut self,
+        opening: ConstructedElement,
+        leaf: LeafType,
+        content: &[u8],
+    ) -> Result<Option<bool>, AllocError>
+        requires takes { D.takes self.old.frames.profile }
+        requires is_of { IsTrue (is_found_of self.old.frames.profile opening.found) }
+        requires string { WrapsString (read_as opening.found) leaf }
+        requires content { IsContentIn self.old.frames.profile (leaf_is leaf) content.now }
+        ensures left { result ≡ Ok None → self.new ≡ self.old }
+        ensures exact { (whole : Bool) → result ≡ Ok (Some whole)
+            → TakesString D.holds self.old opening leaf content.now self.new whole }
+        ensures depth { depth_of self.new.frames ≡ depth_of self.old.frames }
+        ensures profile { self.new.frames.profile ≡ self.old.frames.profile }
+    {
+        let profile = self.frames.profile;
+        let place = self.frames.place();
+        if !self
+            .draft
+            .string_in_tag(profile, place, opening, leaf, content)?
+        {
+            return Ok(None);
+        }
+        Ok(Some(self.move_to(opening.found.after())))
     }
 
     /// Takes the content of an element that only the module profile has.

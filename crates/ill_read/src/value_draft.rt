@@ -151,6 +151,17 @@ impl Draft for ValueDraft {
         self.open(profile, place, opening)
     }
 
+    fn string_in_tag(
+        &mut self,
+        _profile: Profile,
+        _place: Place,
+        _opening: ConstructedElement,
+        _leaf: LeafType,
+        _content: &[u8],
+    ) -> Result<bool, AllocError> {
+        Ok(false)
+    }
+
     fn text(&mut self, octets: &[u8]) -> Result<(), AllocError> {
         self.text.extend_from_slice(octets)?;
         Ok(())

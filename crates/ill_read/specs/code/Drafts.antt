@@ -15,6 +15,7 @@ use Rattle.ill_schema.specs.Content.{Content, simple}
 use Rattle.ill_schema.specs.Content as content
 use Rattle.ill_tables.specs.Table.{rows_of}
 use Rattle.ill_schema.specs.Value.{entries_of, items_of}
+use Rattle.ill_tables.specs.declared.node.NodeId.{NodeId}
 use Rattle.ill_tables.specs.declared.part.Row.{Row}
 use Rattle.ill_refusals.specs.Fault.{fault, element_fault, fault_of}
 use Rattle.ill_grammar.specs.Places.{alternative_of}
@@ -128,6 +129,22 @@ HasBits holds old octets new = (l : Level) (below : List Level) (text : List ℕ
 abbrev pub HasLeaf : {D : Type 0} → Named → (D → List Level → List ℕ → Type 0) → D → Next → PrimitiveElement → LeafType → List ℕ → D → Type 0
 HasLeaf p holds old next r leaf octets new = shape_at (next_place r.found) ≡ behind next (slot_in r.found) → (l : Level) (below : List Level) → holds old (l ∷ below) [] → IsDueAt p l next (tag_of_id r.id) (slot_in r.found) (alternative_of r.found) (Leaf leaf)
     → holds new (with_entry l (slot_in r.found) (with_alternative (alternative_of r.found) (simple (value (leaf_is leaf) octets))) ∷ below) []
+
+-- a string of an ILL-String
+abbrev pub is_ill_string : LeafType → Bool
+is_ill_string LeafType.General = true
+is_ill_string LeafType.Visible = true
+is_ill_string _ = false
+
+-- an explicit tag round an ILL-String, and a string that may be in it
+abbrev pub WrapsString : CodeElement → LeafType → Type 0
+WrapsString (Wrapper w) leaf = (w.node ≡ NodeId.IllString) × IsTrue (is_ill_string leaf)
+WrapsString _ leaf = ⊥
+
+-- an explicit tag with one primitive string in it was added
+abbrev pub HasString : {D : Type 0} → Named → (D → List Level → List ℕ → Type 0) → D → Next → ConstructedElement → LeafType → List ℕ → D → Type 0
+HasString p holds old next o leaf octets new = (l : Level) (below : List Level) → holds old (l ∷ below) [] → IsDueAt p l next (tag_of_id o.id) (slot_in o.found) (alternative_of o.found) (read_as o.found)
+    → holds new (with_entry l (slot_in o.found) (with_alternative (alternative_of o.found) (simple (value (leaf_is leaf) octets))) ∷ below) []
 
 -- the octets are a content of the element, where it has contents of its own
 abbrev pub IsRightContent : Named → CodeElement → List ℕ → Type 0

@@ -1,7 +1,7 @@
 -- What a reader's functions say: how it stands for the octets that it has been fed.
 use Rattle.ill_schema.specs.Profiles.{profile_of}
 use Rattle.ill_tables.specs.declared.profile.Profile.{Profile as Named}
-use Rattle.std.specs.Prelude.{◌≡◌, ℕ, ◌+◌, ◌-◌, ◌*◌, ◌<◌, ◌≤◌, Bool, true, false, List, [], ◌∷◌, ◌++◌, length, drop, Option, Some, None, IfSome, Result, Ok, Err}
+use Rattle.std.specs.Prelude.{◌≡◌, ℕ, ◌+◌, ◌-◌, ◌*◌, ◌<◌, ◌≤◌, Bool, true, false, List, [], ◌∷◌, ◌++◌, length, take, drop, Option, Some, None, IfSome, Result, Ok, Err}
 use Rattle.ber_leaf.specs.Profile.{profile_two}
 use Rattle.ill_schema.specs.declared.message.Message.{Message}
 use Rattle.ill_schema.specs.declared.refusal.Cause.{Cause}
@@ -16,6 +16,7 @@ use Rattle.ill_refusals.specs.code.Judge.{Judgement as Judged, faulty, judge}
 use Rattle.ill_read.specs.Answers.{IsPart, IsPartIn, IsRead, IsRefused, IsRefusedIn, IsSpelled, RefusesWhole}
 use Rattle.ill_read.specs.Paths.{HoldsAt}
 use Rattle.ill_grammar.specs.Standing.{Level, StandsBefore, StandsLast}
+use Rattle.ill_read.specs.code.Drafts.{HoldsApdu}
 use Rattle.ill_read.specs.code.Judged.{IsJudgement}
 use Rattle.ill_read.specs.Failures.{read_failure}
 use Rattle.ill_read.specs.declared.failure.Failure.{Failure}
@@ -23,6 +24,7 @@ use Rattle.ill_read.specs.declared.failure.ReadFailure.{ReadFailure}
 use Rattle.ill_read.specs.code.Progress.{Judgement, IsProgress}
 use Rattle.ill_grammar.specs.Standing.{depth_of}
 use Rattle.ill_grammar.specs.declared.frames.Frames.{Frames}
+use Rattle.ill_read.specs.declared.path.Path.{Path}
 use Rattle.ill_read.specs.declared.reader.Reader.{Reader}
 use Rattle.ill_read.specs.declared.reader.State.{State}
 use Rattle.ill_read.specs.declared.reader.State.TheVariants as state
@@ -72,6 +74,17 @@ abbrev pub LeadsOn : {D : Type 0} → Named → (D → List Level → List ℕ �
 LeadsOn p holds has old window room available_len new result judged = (s rest more : List ℕ) (b : StandsBefore p (HoldsAt p holds old.path) old.at s rest) → length rest ≡ available_len
     → rest ≡ window ++ more → room ≡ bound (profile_of p) b.place - old.at
     → judge (profile_of p) b.place old.at rest ≡ judged b.place (cut_fault (profile_of p) b.place old.at rest) → HasAdvanced p holds has new s rest result
+
+-- the same, where the octets before the bound are all that there are of `room`
+abbrev pub LeadsOnWithin : {D : Type 0} → Named → (D → List Level → List ℕ → Type 0) → (Named → D → Apdu → ℕ → Type 0) → Reader D → List ℕ → ℕ → ℕ → Reader D → Option ℕ → (List Open → Fault → Judged) → Type 0
+LeadsOnWithin p holds has old window room available_len new result judged = (s rest : List ℕ) (b : StandsBefore p (HoldsAt p holds old.path) old.at s rest) → length rest ≡ available_len
+    → window ≡ take room rest → room ≡ bound (profile_of p) b.place - old.at
+    → judge (profile_of p) b.place old.at rest ≡ judged b.place (cut_fault (profile_of p) b.place old.at rest) → HasAdvanced p holds has new s rest result
+
+-- the path is at the next place, or the message ends here
+abbrev pub IsAfter : {D : Type 0} → Named → (D → List Level → List ℕ → Type 0) → Path D → ℕ → List ℕ → List ℕ → Bool → Type 0
+IsAfter p holds path at s rest false = StandsBefore p (HoldsAt p holds path) at s rest
+IsAfter p holds path at s rest true = (at ≤ length s) × ((a : Apdu) × HoldsApdu p holds path.draft a (take at s))
 
 -- at most `room` octets are passed: at least one, or an element is closed
 abbrev pub Progresses : ℕ → Frames → Frames → Option ℕ → Type 0

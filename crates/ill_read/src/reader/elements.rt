@@ -378,7 +378,7 @@ impl<D: Draft> Reader<D> {
 
     /// Opens an element.
     #[inline(always)]
-    fn open(&mut self, opening: ConstructedElement, usual: bool) -> Option<usize>
+    pub(super) fn open(&mut self, opening: ConstructedElement, usual: bool) -> Option<usize>
         requires takes { D.takes self.old.path.frames.profile }
         requires open { self.old.state ≡ State.Open }
         requires room { depth_of self.old.path.frames < 32 }

@@ -1,4 +1,4 @@
-use Rattle.std.proofs.Common.{◌≡◌, ◌++◌, ◌<◌, ◌∙◌, List, ℕ, Bor, IsTrue, get_or, take, drop, length, sym, ap, subst, arith, take_all, take-append-drop}
+use Rattle.std.proofs.Common.{◌≡◌, ◌++◌, ◌<◌, ◌∙◌, List, ℕ, Bor, IsTrue, get_or, take, drop, sym, ap, subst, arith, take_all, take-append-drop}
 use Rattle.std.proofs.lemmas.List.{take-append-le}
 use Rattle.ber_tree.specs.Octets.{are_octets}
 use Rattle.ber_tree.proofs.Octets.{octets_fit}

@@ -1,5 +1,5 @@
 use Rattle.ill_schema.specs.Profiles.{profile_of}
-use Rattle.std.proofs.Common.{◌≡◌, ◌+◌, ◌-◌, ◌∙◌, ℕ, List, length, take, drop, refl, sym, ap, subst, arith, length-append}
+use Rattle.std.proofs.Common.{◌≡◌, ◌+◌, ◌-◌, ◌∙◌, ℕ, List, length, take, drop, sym, ap, subst, arith, length-append}
 use Rattle.ber_core.specs.Id.{tag_of_id}
 use Rattle.ill_refusals.specs.Fault.{element_fault}
 use Rattle.ill_refusals.specs.code.Judge.{judge, or_faulty, reads}
@@ -10,7 +10,7 @@ use Rattle.ill_read.specs.code.Judged.{IsJudgement, IsStep}
 use Rattle.ill_grammar.specs.code.Judging.{content_in}
 use Rattle.ill_read.specs.code.Progress.{Reads}
 use Rattle.ill_read.specs.code.Stepping.{ReadsExactly}
-use Rattle.ill_read.proofs.DecoderSteps.{is_refused}
+use Rattle.ill_read.proofs.DecoderSteps.{after_step, is_refused}
 use Rattle.ill_grammar.proofs.Judgements.{content_further}
 use Rattle.ill_read.proofs.PrimitiveElements.{reads_judged}
 use Rattle.ill_read.proofs.reader.Reader.read_foreign.Goals as goal
@@ -27,7 +27,9 @@ returns-in-Ok-clause-goes g c p s rest more b joined judged =
     (judged.0, judged.1 ∙ ap (λ x. or_faulty (element_fault (profile_of p) (element_is (read_as r.found)) x) d.at (reads (tag_of_id r.id) r.header x)) further) in
     let made = reads_judged p g.D.Draft.holds d.path c.take_module_element.new.self b.place r d.at rest (judge (profile_of p) b.place d.at rest) c.take_module_element.result b.stands at_rest
     (subst (λ x. ReadsExactly g.D.Draft.holds d.path r d.at x c.take_module_element.new.self c.take_module_element.result) (taken r.header r.size octets ∙ further) c.take_module_element.ensures.exact) in
-    c.move_on.ensures.goes p (subst g.D.Draft.takes b.stands.3 c.requires.takes) d.path s rest (Reads r) b (c.requires.header.0, omega (arith, c.requires.header.1, ap length joined, length-append octets more)) at_rest refl (subst (λ x. IsStep p g.D.Draft.holds c.take_module_element.new.self x (step_after (judge (profile_of p) b.place d.at rest) b.place d.at rest)) c.in-Ok.is made)
+    c.move_on.ensures.goes p s rest (subst g.D.Draft.takes b.stands.3 c.requires.takes) (after_step p g.D.Draft.holds d.path c.take_module_element.new.self d.at s rest (Reads r) c.in-Ok.whole b
+    (c.requires.header.0, omega (arith, c.requires.header.1, ap length joined, length-append octets more)) at_rest
+    (subst (λ x. IsStep p g.D.Draft.holds c.take_module_element.new.self x (step_after (judge (profile_of p) b.place d.at rest) b.place d.at rest)) c.in-Ok.is made))
 
 pub returns-in-Err-clause-goes : goal.returns-in-Err-clause-goes
 returns-in-Err-clause-goes g c p s rest more b joined judged =

@@ -1,6 +1,6 @@
 use Rattle.ill_schema.specs.Profiles.{profile_of}
 use Rattle.ill_read.proofs.ProfileOfPath.{stands_at}
-use Rattle.std.proofs.Common.{◌≡◌, ◌-◌, ◌++◌, ◌∙◌, ℕ, List, [], Bor, true, false, take, drop, length, refl, sym, ap, subst, arith, take_all, take-append-drop}
+use Rattle.std.proofs.Common.{◌≡◌, ◌-◌, ◌∙◌, ℕ, List, [], Bor, true, false, take, length, refl, sym, ap, subst, arith, take_all}
 use Rattle.ill_refusals.specs.Place.{bound}
 use Rattle.ill_read.specs.Paths.{HoldsAt}
 use Rattle.ill_grammar.specs.Standing.{StandsAt, StandsBefore}
@@ -38,6 +38,5 @@ returns-clause-goes g c p s h =
       | else-rest-room w ↦ ap (λ (x : Bor (List ℕ)). x.now) w.window-is
     ] in
     let here : room ≡ bound (profile_of p) b.place - d.at = c.saturating_sub-room.ensures ∙ ap (λ n. n - d.at) (c.bound.ensures.exact b.place stands) in
-    let joined : rest ≡ c.if-rest-room.window.now ++ drop room rest = sym (ap (λ x. x ++ drop room rest) front ∙ take-append-drop room rest) in
-    c.step_within.ensures.goes p s rest (drop room rest) b refl joined here
+    c.step_within.ensures.goes p s rest b refl front here
     (within_judged p b.place d.at rest c.if-rest-room.window.now (sym (c.ends_here.ensures.exact b.place stands here) ∙ c.if-ends_here.false) (front ∙ ap (λ m. take m rest) here))
