@@ -42,11 +42,11 @@ leaf_number (Kind.Leaf LeafKind.Enumerated) l o d h = let q : enumerated ≡ l =
 leaf_number _ l o d h = absurd h
 
 -- the leaf has this default
-abbrev has_default : Option ℤ → Leaf → List ℕ → Bool
+abbrev pub has_default : Option ℤ → Leaf → List ℕ → Bool
 has_default default l o = elim default as (λ _. Bool) [ Some d ↦ is_number l d o | None ↦ false ]
 
 -- what begins a row is its default exactly where it has the value of the row's default
-row_default : (node : NodeId) (r : ℕ) (row : Row) (t : Tag) (l : Leaf) (o : List ℕ) → slice_get (rows_of node) r ≡ Some row
+pub row_default : (node : NodeId) (r : ℕ) (row : Row) (t : Tag) (l : Leaf) (o : List ℕ) → slice_get (rows_of node) r ≡ Some row
     → element_with t (component_starts (component_at (record { node = node; row = r }) row)) ≡ Some (leaf l) → is_default row (simple (value l o)) ≡ has_default (presence_default row.presence) l o
 row_default node r row t l o is b = go row.presence refl
   where

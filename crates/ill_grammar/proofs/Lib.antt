@@ -26,3 +26,6 @@ pub mod PlaceNeeds
 pub mod MarkedValues
 pub mod Identifiers
 pub mod OctetTexts
+pub mod SpotEntries
+pub mod SpotsDue
+pub mod SpotsEnd

@@ -5,3 +5,5 @@ pub mod Listing
 pub mod Judging
 pub mod MarkedOctets
 pub mod Identifiers
+pub mod SpotTable
+pub mod Spots

@@ -27,6 +27,8 @@ mod marks;
 mod need;
 mod outline;
 mod place;
+mod spot;
+mod spot_entries;
 
 pub use cell::{EntryRole, is_strict, levels_in};
 pub use due::{Next, Slot};
@@ -45,3 +47,4 @@ pub use marks::{
 pub use need::need_at;
 pub use outline::{Mark, Outline};
 pub use place::{DueElement, Found, Place};
+pub use spot::{Spot, UsualElement, UsualKind};
