@@ -29,3 +29,4 @@ pub mod OctetTexts
 pub mod SpotEntries
 pub mod SpotsDue
 pub mod SpotsEnd
+pub mod UsualSteps

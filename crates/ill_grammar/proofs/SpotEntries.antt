@@ -23,7 +23,7 @@ use Rattle.ill_grammar.specs.Due.{behind, first_of, next_is}
 use Rattle.ill_grammar.specs.Elements.{component_of, element_is, element_with}
 use Rattle.ill_grammar.specs.Written.{row_slot}
 use Rattle.ill_grammar.specs.code.Judging.{is_usual}
-use Rattle.ill_grammar.specs.code.Spots.{default_number, key_octets}
+use Rattle.ill_grammar.specs.code.Spots.{default_number, is_constructed, key_octets}
 use Rattle.ill_grammar.specs.code.SpotTable.{next_at_offset, offset_end, spots}
 use Rattle.ill_grammar.specs.declared.due.Next.{Next}
 use Rattle.ill_grammar.specs.declared.due.Next.TheVariants.{Rows, Inner, Items, Either, Nothing}
@@ -156,12 +156,13 @@ pub record Seen : Type 0 where
   pub after : Next
   pub is_right : Bool
   pub octets : List ℕ
+  pub form : Bool
   pub kind : Option UsualKind
   pub first : Next
   pub default : Option ℤ
 
 abbrev pub nobody : Seen
-nobody = record { is_due = None; begins = None; after = Nothing; is_right = true; octets = []; kind = None; first = Nothing; default = None }
+nobody = record { is_due = None; begins = None; after = Nothing; is_right = true; octets = []; form = false; kind = None; first = Nothing; default = None }
 
 -- by the definitions
 abbrev pub seen_as : Next → ℕ → SpotEntry → Option Due → Seen
@@ -176,6 +177,7 @@ seen_as n key x d =
       after = after;
       is_right = fits (key_tag key) n slot && (is_usual e (key_form key) && is_identified (key_tag key) (key_form key));
       octets = identifier (key_tag key) (key_form key);
+      form = key_form key;
       kind = usual_kind e;
       first = opened x.kind (next_at_offset x.first);
       default = slot_default n slot a;
@@ -191,6 +193,7 @@ said_as n key x d =
       after = behind n slot;
       is_right = true;
       octets = key_octets key;
+      form = is_constructed x.kind;
       kind = Some x.kind;
       first = opened x.kind (first_of e);
       default = default_number x.default;

@@ -1,9 +1,11 @@
 -- What is due by the entries is due by the definitions.
-use Rattle.std.proofs.Common.{◌≡◌, ◌<◌, ◌≤◌, ℕ, ℤ, ◌+◌, Bool, true, false, ◌&&◌, List, [], ◌∷◌, drop, Option, Some, None, refl, sym, ap, subst, ◌∙◌, inl, inr, slice_get, arith}
+use Rattle.std.proofs.Common.{◌≡◌, ◌<◌, ◌≤◌, ℕ, ℤ, ◌+◌, Bool, true, false, ◌&&◌, List, [], ◌∷◌, ◌++◌, drop, Option, Some, None, refl, sym, ap, subst, ◌∙◌, inl, inr, slice_get, arith}
 use Rattle.std.specs.Prelude.{if◌then◌else◌}
 use Rattle.std.proofs.lemmas.Bool.{and_parts}
 use Rattle.std.proofs.lemmas.Bool.Decides.{nat_tests}
+use Rattle.ber_core.specs.Id.{form_of_id, id_octets, tag_of_id}
 use Rattle.ber_core.specs.declared.id.Id.{Id}
+use Rattle.ber_core.proofs.Identifiers.{identifier_unique}
 use Rattle.ber_core.specs.Foreign.{is_identified}
 use Rattle.ber_core.proofs.Foreign.{identified_has}
 use Rattle.ber_tree.specs.Identifier.{Tag}
@@ -27,7 +29,7 @@ use Rattle.ill_grammar.specs.Elements.{component_of, element_is, element_with}
 use Rattle.ill_grammar.specs.LeafTypes.{leaf_is}
 use Rattle.ill_grammar.specs.Written.{left_away}
 use Rattle.ill_grammar.specs.code.Judging.{is_usual}
-use Rattle.ill_grammar.specs.code.Spots.{IsOfKind, IsUsualDue, default_number, is_bare, is_default_octets, key_octets}
+use Rattle.ill_grammar.specs.code.Spots.{IsOfKind, IsUsualDue, default_number, is_bare, is_constructed, is_default_octets, key_octets}
 use Rattle.ill_grammar.specs.code.SpotTable.{next_at_offset, offset_end}
 use Rattle.ill_grammar.specs.declared.due.Next.{Next}
 use Rattle.ill_grammar.specs.declared.due.Next.TheVariants.{Rows, Inner, Items, Either}
@@ -152,6 +154,7 @@ entry_due n key x u (Some (part c e m)) h s kind after first default =
     let fit = and_parts (fits t n slot) (is_usual el (key_form key) && is_identified t (key_form key)) right in
     let usual = and_parts (is_usual el (key_form key)) (is_identified t (key_form key)) fit.1 in
     let id : Id = record { class = t.class; constructed = key_form key; number = t.number; valid = identified_has t (key_form key) usual.1 } in
+    let form : key_form key ≡ is_constructed u.kind = ap (λ (y : Seen). y.form) s ∙ ap is_constructed (sym kind) in
     let is : IsDueIn t n (due_with slot a el) = due_said t n slot a el c e m h (ap (λ (y : Seen). y.is_due) s) (ap (λ (y : Seen). y.begins) s) fit.0 in
     record {
       id = id;
@@ -161,7 +164,8 @@ entry_due n key x u (Some (part c e m)) h s kind after first default =
       element = el;
       is_due = is;
       after = ap next_at_offset after ∙ ap (λ (y : Seen). y.after) s;
-      usual = usual.0;
+      form = form;
+      usual = subst (λ (b : Bool). is_usual el b ≡ true) form usual.0;
       kind = subst (λ (o : ℕ). IsOfKind u.kind (next_at_offset o) el) (sym first) (subst (λ (k : UsualKind). IsOfKind k (next_at_offset x.first) el) (sym kind)
           (of_kind el x.kind (next_at_offset x.first) (ap (λ (y : Seen). y.kind) s) (ap (λ (y : Seen). y.first) s)));
       default = λ l o same. default_said t n slot a l o (subst (λ y. IsDueIn t n (due_with slot a y)) same is) fit.0 ∙ ap (λ y. is_default_octets y (leaf_is l) o) (ap (λ (y : Seen). y.default) s ∙ ap default_number (sym default));
@@ -174,3 +178,9 @@ pub usual_due : (offset key : ℕ) (x : SpotEntry) (u : UsualElement) → offset
     → u.kind ≡ x.kind → u.after.offset ≡ x.after → u.first.offset ≡ x.first → u.default ≡ x.default → IsUsualDue (key_octets key) (next_at_offset offset) u
 usual_due offset key x u low there spot kind after first default =
     entry_due (next_at_offset offset) key x u (due_by (next_at_offset offset) key) refl (entry_said offset key x low there spot) kind after first default
+
+-- an identifier of these octets is the one that the element is due with
+pub due_for : (octets : List ℕ) (n : Next) (u : UsualElement) (id : Id) (h : IsUsualDue octets n u) → id_octets id ≡ octets → (tag_of_id h.id ≡ tag_of_id id) × (form_of_id h.id ≡ form_of_id id)
+due_for octets n u id h is =
+    let same = identifier_unique (tag_of_id h.id) (tag_of_id id) (form_of_id h.id) (form_of_id id) [] [] h.id.valid id.valid (ap (λ x. x ++ []) (h.identified ∙ sym is)) in
+    (same.0, same.1)

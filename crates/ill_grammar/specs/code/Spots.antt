@@ -12,11 +12,11 @@ use Rattle.ill_grammar.specs.Written.{is_number, left_away}
 use Rattle.ill_grammar.specs.code.Judging.{is_usual}
 use Rattle.ill_grammar.specs.code.SpotTable.{next_at_offset}
 use Rattle.ill_grammar.specs.declared.due.Next.{Next}
-use Rattle.ill_grammar.specs.declared.due.Next.TheVariants.{Either}
+use Rattle.ill_grammar.specs.declared.due.Next.TheVariants.{Either, Nothing}
 use Rattle.ill_grammar.specs.declared.due.Slot.{Slot}
 use Rattle.ill_grammar.specs.declared.due.Slot.TheVariants.{Row as AtRow}
 use Rattle.ill_grammar.specs.declared.element.Element.{Element as CodeElement}
-use Rattle.ill_grammar.specs.declared.element.Element.TheVariants.{Leaf as LeafElement, Wrapper}
+use Rattle.ill_grammar.specs.declared.element.Element.TheVariants.{Leaf as LeafElement, LooseWrapper, Wrapper}
 use Rattle.ill_grammar.specs.declared.element.Wrapped.{Wrapped}
 use Rattle.ill_grammar.specs.declared.leaf_type.LeafType.{LeafType}
 use Rattle.ill_grammar.specs.declared.leaf_type.LeafType.TheVariants as leaf
@@ -40,6 +40,11 @@ IsOfKind kind.Time first e = e ≡ LeafElement leaf.Time
 IsOfKind kind.StringWrapper first e = (w : Wrapped) × (e ≡ Wrapper w) × (w.node ≡ NodeId.IllString)
 IsOfKind kind.Constructed first e = first ≡ first_of e
 
+abbrev pub is_constructed : UsualKind → Bool
+is_constructed kind.StringWrapper = true
+is_constructed kind.Constructed = true
+is_constructed _ = false
+
 -- the number of a default
 abbrev pub default_number : ℕ → Option ℤ
 default_number n = if nat_eq n 255 then None else Some (pos n)
@@ -58,6 +63,13 @@ abbrev pub is_either : Next → Bool
 is_either (Either w) = true
 is_either _ = false
 
+-- what may come next in the element: in a loose wrapper its SEQUENCE, or nothing after that
+abbrev pub IsInSequence : CodeElement → Next → Type 0
+IsInSequence (LooseWrapper w) (Either v) = Unit {0}
+IsInSequence (LooseWrapper w) Nothing = Unit {0}
+IsInSequence (LooseWrapper w) _ = ⊥
+IsInSequence _ _ = Unit {0}
+
 -- the identifier octets that a key stands for: one; or two, context-specific, for a number from 31 on
 abbrev pub key_octets : ℕ → List ℕ
 key_octets key = if nat_lt key 256 then key ∷ [] else (0x9F + 32 * (key / 32 % 2)) ∷ (31 + key % 32) ∷ []
@@ -71,7 +83,8 @@ pub record IsUsualDue (octets : List ℕ) (n : Next) (u : UsualElement) : Type 0
   pub element : CodeElement
   pub is_due : IsDueIn (tag_of_id id) n (due_with slot alternative element)
   pub after : spot_next u.after ≡ behind n slot
-  pub usual : IsTrue (is_usual element (form_of_id id))
+  pub form : form_of_id id ≡ is_constructed u.kind
+  pub usual : IsTrue (is_usual element (is_constructed u.kind))
   pub kind : IsOfKind u.kind (spot_next u.first) element
   pub default : (l : LeafType) (octets : List ℕ) → element ≡ LeafElement l
       → left_away n slot (with_alternative alternative (simple (value (leaf_is l) octets))) ≡ is_default_octets (default_number u.default) (leaf_is l) octets
