@@ -40,6 +40,7 @@ run ../bindings/c/tests/run.sh
 has python3 || exit $status
 run python3 ../examples/make.py --check
 run python3 ../vectors/make.py --check
+run python3 -m model.comb
 run ../bindings/python/tests/run.sh
 for script in memory/files_allocations.py program/progress.py program/packaging.py program/outputs.py; do run $script; done
 if has wasm-opt && has wasm-validate; then

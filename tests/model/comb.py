@@ -1,5 +1,5 @@
 #!/usr/bin/env python3
-"""comb.py [--write]: the spots of usual messages and the elements that are due at them, from tables.json, as tables of ill_grammar. Without
+"""`python3 -m model.comb [--write]`, in tests/: the spots of usual messages and the elements that are due at them, from tables.json, as tables of ill_grammar. Without
 --write it compares them with the files.
 
 The tables are one comb: the entry of an element lies at the offset of its spot plus the key of its identifier, between those of other spots,
@@ -7,7 +7,7 @@ and says whose it is. `rt check` proves each entry, so that a wrong one is refus
 import sys
 from pathlib import Path
 
-from tables import ALL_LISTS, ALL_ROWS, CHOICES, ROOTS, TOP
+from .tables import ALL_LISTS, ALL_ROWS, CHOICES, ROOTS, TOP
 
 CRATE = TOP / "crates/ill_grammar"
 CLASSES = {"universal": 0, "application": 1, "context": 2}
@@ -119,7 +119,7 @@ def entry(spot, offsets, element):
 
 def entries_file(spots, offsets, start):
     size = max(offsets.values()) + 1
-    rows = ["e!(65535, 0, 0, Constructed, 255)"] * (size + KEYS)
+    rows = ["e!()"] * (size + KEYS)
     for spot, (elements, _) in spots.items():
         for element in elements:
             rows[offsets[spot] + element[0]] = entry(spot, offsets, element)
@@ -146,6 +146,7 @@ def entries_file(spots, offsets, start):
         "",
         "/// The entry of an element: its spot, the spots after and in it, its kind, and its default or 255.",
         "macro_rules! e {",
+        "    () => { e!(65535, 0, 0, Constructed, 255) };",
         "    ($spot:literal, $after:literal, $first:literal, $kind:ident, $default:literal) => {",
         "        SpotEntry {",
         "            spot: $spot,",
@@ -160,7 +161,7 @@ def entries_file(spots, offsets, start):
         "/// The entries, each at the offset of its spot and the key of its identifier. 65535 is no spot.",
         "#[rattlefmt::skip]",
         f"pub static ENTRIES: [SpotEntry; {size + KEYS}] = [",
-        *(f"    {row}," for row in rows),
+        *("    " + " ".join(f"{row}," for row in rows[k : k + 4]) for k in range(0, len(rows), 4)),
         "];",
     ]
     return "\n".join(lines) + "\n"

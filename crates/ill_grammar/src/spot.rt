@@ -3,6 +3,7 @@ ghost use Rattle.std.specs.Prelude.{◌≡◌, ◌<◌, Some, slice_get};
 ghost use Rattle.ill_grammar.specs.code.SpotTable.{offset_end};
 ghost use Rattle.ill_grammar.specs.declared.spot_entries.TheConstants.{ENTRIES};
 
+use crate::leaf_type::LeafType;
 use crate::spot_entries::{COMPLETE, ENTRIES, MODULE_TOP, NOTHING, TOP};
 use ill_schema::Profile;
 
@@ -59,6 +60,22 @@ fn entry_at(at: usize) -> SpotEntry
     ensures low { (result.after < offset_end) × (result.first < offset_end) }
 {
     ENTRIES[at]
+}
+
+impl UsualElement {
+    ghost use Rattle.ill_grammar.specs.LeafTypes.{IsContentIn, leaf_is};
+    ghost use Rattle.ill_grammar.specs.code.Spots.{default_number, is_default_octets};
+    ghost use Rattle.ill_tables.specs.declared.profile.Profile.{Profile as Named};
+
+    /// Tells whether the octets hold the default of its row.
+    #[inline(always)]
+    pub fn is_default(self, leaf: LeafType, octets: &[u8]) -> bool
+        requires { (p : Named) × IsContentIn p (leaf_is leaf) octets.now }
+        ensures { result ≡ is_default_octets (default_number self.default) (leaf_is leaf)
+            octets.now }
+    {
+        self.default != 255 && leaf.is_number(self.default as i64, octets)
+    }
 }
 
 impl Spot {
