@@ -252,8 +252,15 @@ fn append_element(octets: &mut Vec<u8>, id: &Id, content: &[u8]) -> Result<(), A
     octets.extend_from_slice(content)
 }
 
-// Puts the fewest octets that spell a length at the end of the array (X.690, 8.1.3.3, 8.1.3.5 and 10.1), and returns how many octets come before them.
-fn put_length(size: usize, room: &mut [u8; 9]) -> usize
+/// Puts the fewest octets that spell a length at the end of the array (X.690, 8.1.3.3, 8.1.3.5 and 10.1), and returns how many octets come
+/// before them.
+///
+/// ```
+/// let mut room = [0; 9];
+/// let first = put_length(300, &mut room);
+/// let octets = &room[first..]; // 82 01 2C
+/// ```
+pub fn put_length(size: usize, room: &mut [u8; 9]) -> usize
     ensures some { result < 9 }
     ensures octets { drop result room.new ≡ shortest_length size }
 {

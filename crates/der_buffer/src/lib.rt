@@ -15,4 +15,4 @@
 
 mod der_buffer;
 
-pub use der_buffer::DerBuffer;
+pub use der_buffer::{DerBuffer, put_length};

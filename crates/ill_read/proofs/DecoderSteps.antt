@@ -70,7 +70,7 @@ moved_end p frames place at rest (code.Reads r) j q h =
     (omega (arith, n)) (ap (λ k. drop (r.header + k) rest) n)))
 
 -- what means a value of ILL-APDU means an APDU
-means_apdu : (p : Named) (c : Content) (T : Tree) → Means (profile_of p) c (root (profile_of p)) untagged T → (a : Apdu) × (c ≡ choice_of a) × MeansApdu (profile_of p) a T
+pub means_apdu : (p : Named) (c : Content) (T : Tree) → Means (profile_of p) c (root (profile_of p)) untagged T → (a : Apdu) × (c ≡ choice_of a) × MeansApdu (profile_of p) a T
 means_apdu p (alternative n d) T h =
     let e : n ≡ n + 1 - 1 = omega arith in
     (record { number = n + 1; body = d }, ap (λ m. alternative m d) e, (omega arith, subst (λ m. Means (profile_of p) (alternative m d) (root (profile_of p)) untagged T) e h))

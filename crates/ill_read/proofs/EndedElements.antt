@@ -46,7 +46,7 @@ pub record EndsWith (p : Named) (e : CodeElement) (n : Next) (entries : List (Op
   pub value : IsRightText p e text → IsValueOf p (element_is e) content (constructed o.tag o.trees)
   pub fault : string_fault (profile_of p) (element_is e) o.trees ≡ element_fault (profile_of p) (element_is e) text
 
-content_ended : (p : Named) (e : CodeElement) (n : Next) (entries : List (Option Content)) (o : Open) (before : List ℕ) → IsTrue (is_identified o.tag true) → IsHeld p e n entries o.trees
+pub content_ended : (p : Named) (e : CodeElement) (n : Next) (entries : List (Option Content)) (o : Open) (before : List ℕ) → IsTrue (is_identified o.tag true) → IsHeld p e n entries o.trees
     → (e ≡ Segment → ⊥) → (e ≡ BitSegment → ⊥) → missing (profile_of p) (next_is n) ≡ None → EndsWith p e n entries o (text_with (element_is e) before o.trees)
 content_ended p (Leaf l) Segments entries o before tagged h apart other m =
     let c = simple (value (leaf_is l) (segments_content (leaf_is l) o.trees)) in

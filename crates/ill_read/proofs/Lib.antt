@@ -25,6 +25,12 @@ pub mod OctetDrafts
 pub mod Outlines
 pub mod Accepted
 pub mod PassedHeaders
+pub mod UsualElements
+pub mod UsualWrites
+pub mod UsualTexts
+pub mod UsualLeaves
+pub mod UsualReads
+pub mod UsualMessages
 pub mod StringsInTags
 pub mod StringSteps
 pub mod Windows

@@ -60,7 +60,7 @@ use Rattle.ill_read.specs.code.StringsInTags.{string_tree}
 use Rattle.ill_read.proofs.StringsInTags.{string_value, wrapped_of}
 
 -- an element that opens has written nothing in it
-written_first : (e : CodeElement) → written e (first_of e) [] ≡ []
+pub written_first : (e : CodeElement) → written e (first_of e) [] ≡ []
 written_first (LeafElement l) = refl
 written_first _ = refl
 
@@ -349,7 +349,7 @@ string_number integer h = absurd cc
 string_number enumerated h = absurd cc
 string_number _ h = tt
 
-open_number : (p : Named) (e : CodeElement) (n : Next) (entries : List (Option Content)) (ts : Trees) → IsHeld p e n entries ts → IsNoNumber (element_is e)
+pub open_number : (p : Named) (e : CodeElement) (n : Next) (entries : List (Option Content)) (ts : Trees) → IsHeld p e n entries ts → IsNoNumber (element_is e)
 open_number p (LeafElement l) Segments entries ts h = string_number (leaf_is l) h.0
 open_number p (LeafElement l) _ entries ts h = absurd h
 open_number p (ModuleLeaf l) n entries ts h = number_apart l

@@ -34,7 +34,7 @@ use Rattle.ill_grammar.proofs.DueTags.{bit_segment_due}
 use Rattle.ill_read.proofs.Segments.{IsOutside, due_outside, segments_alone, text_with, no_text}
 
 -- an element that opens holds nothing
-holds_none : (p : Named) (e : CodeElement) (n : Next) → n ≡ first_of e → allows (element_is e) true ≡ true → IsHeld p e n [] none
+pub holds_none : (p : Named) (e : CodeElement) (n : Next) → n ≡ first_of e → allows (element_is e) true ≡ true → IsHeld p e n [] none
 holds_none p (Leaf l) n f a = subst (λ x. IsHeld p (Leaf l) x [] none) (sym f) (a, refl, tt)
 holds_none p (Sequence node) n f a = subst (λ x. IsHeld p (Sequence node) x [] none) (sym f) (refl, refl)
 holds_none p (ListOf node) n f a = subst (λ x. IsHeld p (ListOf node) x [] none) (sym f) (refl, [], refl, refl)

@@ -187,7 +187,7 @@ ended_rows p node n entries ts h =
     ap (λ rs. normal_trees (entries_of (entries ++ map absent_content rs)) (rows_of node)) (rows_after n (rows_of node) (length entries) (matches_length p entries (take n (rows_of node)) ts h))
     ∙ normal_ended (rows_of node) (length entries) entries refl
 
-abbrev of_contents : Tag → List ℕ → List ℕ
+abbrev pub of_contents : Tag → List ℕ → List ℕ
 of_contents tag contents = identifier tag true ++ (shortest_length (length contents) ++ contents)
 
 tree_written : (ts : Trees) → foreign_octets (foreign_entries ts) ≡ encodings ts

@@ -8,3 +8,4 @@ pub mod ReaderCode
 pub mod Filling
 pub mod OctetDrafts
 pub mod Outlines
+pub mod Usual

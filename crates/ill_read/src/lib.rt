@@ -25,6 +25,7 @@ mod read;
 mod reader;
 mod recorder;
 mod steps;
+mod usual;
 mod value_draft;
 mod whole;
 

@@ -9,7 +9,8 @@ use crate::normal_form_draft::NormalFormDraft;
 use crate::read::read_draft;
 use crate::reader::Reader;
 use crate::recorder::{NoRecorder, Recorder};
-use ber_core::Source;
+use crate::usual::{usual_form, usual_front};
+use ber_core::{Broken, Source};
 use ill_schema::{Cause, Profile};
 use std::alloc::Global;
 
@@ -21,6 +22,12 @@ pub struct NormalForm {
     /// The number of octets that the message had in the input.
     pub input_len: u32,
 }
+
+/// The number of octets at hand in which the first usual message is looked for.
+const FIRST_WINDOW_LEN: usize = 2000;
+
+/// The same, at most.
+const MAX_WINDOW_LEN: usize = 65_536;
 
 /// A reader of normal forms, one message after another. The elements that are open stand in it, so a stream of messages is best read by one
 /// reader that stays where it is.
@@ -36,6 +43,10 @@ pub struct NormalForm {
 pub struct NormalReader {
     alloc: Global,
     reader: Reader<NormalFormDraft>,
+    /// The memory that usual messages are written to.
+    scratch: Vec<u8>,
+    /// The number of octets at hand in which a usual message is looked for. It grows, so that a reader of one message clears little memory.
+    window_len: usize,
 }
 
 impl NormalReader {
@@ -51,6 +62,8 @@ impl NormalReader {
                 Profile::Two,
                 NormalFormDraft::new(alloc, Vec::new(alloc)),
             ),
+            scratch: Vec::new(alloc),
+            window_len: FIRST_WINDOW_LEN,
         }
     }
 
@@ -94,6 +107,26 @@ impl NormalReader {
             × Appends (K.recorded recorded.old) (K.recorded recorded.new) octets) result }
         ensures few { open_count self.new.reader ≤ 32 }
     {
+        let mut buffer = buffer;
+        let hand = source.buffered();
+        let window = &hand[..hand.len().min(self.window_len)];
+        let Ok(found) = usual_front(profile, window, &mut self.scratch, &mut buffer) else {
+            return Err(ReadFailure::OutOfMemory);
+        };
+        if let Some(taken) = found {
+            if let Err(_) = recorded.append(&window[..taken]) {
+                return Err(ReadFailure::OutOfMemory);
+            }
+            return match source.consume(taken) {
+                Ok(()) => Ok(Some(NormalForm {
+                    octets: buffer,
+                    input_len: taken as u32,
+                })),
+                Err(Broken) => Err(ReadFailure::ReadFault),
+            };
+        }
+        // The next message may be a usual one that is longer than this window.
+        self.window_len = self.window_len.saturating_mul(8).min(MAX_WINDOW_LEN);
         self.reader
             .restart(profile, NormalFormDraft::new(self.alloc, buffer));
         match read_draft(&mut self.reader, source, recorded) {
@@ -118,6 +151,14 @@ impl NormalReader {
         ensures answers { NormalAnswersIn (profile_of profile) octets.now result }
         ensures few { open_count self.new.reader ≤ 32 }
     {
+        let mut buffer = buffer;
+        let found = usual_form(profile, octets, &mut buffer)?;
+        if found == Some(octets.len()) {
+            return Ok(NormalForm {
+                octets: buffer,
+                input_len: octets.len() as u32,
+            });
+        }
         self.reader
             .restart(profile, NormalFormDraft::new(self.alloc, buffer));
         let _ = self.reader.read_elements(octets);

@@ -1,0 +1,20 @@
+//! The octets of a message at hand.
+ghost use Rattle.std.specs.Prelude.{◌≤◌, IsTrue, length};
+ghost use Rattle.ber_tree.specs.Octets.{are_octets};
+
+/// The octets at hand, and where those of the open element end at the latest.
+#[derive(Clone, Copy)]
+pub(super) struct Input<'a> {
+    pub octets: &'a [u8],
+    pub bound: usize,
+    ghost within: { bound ≤ length octets.now },
+    ghost few: { bound ≤ 1_048_576 },
+    ghost right: { IsTrue (are_octets octets.now) },
+}
+
+/// The offset up to which octets were taken, and up to which octets were written.
+#[derive(Clone, Copy)]
+pub(super) struct Reach {
+    pub taken: usize,
+    pub written: usize,
+}

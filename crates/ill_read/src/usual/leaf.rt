@@ -1,0 +1,93 @@
+//! Leaves of usual elements.
+ghost use Rattle.std.specs.Prelude.{◌≡◌, ◌+◌, ◌≤◌, [], ◌∷◌, IfSome, Some, length};
+ghost use Rattle.ill_grammar.specs.declared.leaf_type.LeafType.{LeafType as Leaf};
+ghost use Rattle.ill_read.specs.code.Usual.{IsLeafPut, IsNumberType, IsOrdered, Puts, kind_leaf};
+
+use super::header::Header;
+use super::writing::{copy, put_octet, write_length};
+use ill_grammar::{LeafType, UsualKind};
+use ill_schema::Profile;
+
+/// The number of a default where a row has none.
+const NO_DEFAULT: u8 = 255;
+
+/// Writes a BOOLEAN, unless it is its row's default, and returns where it ends.
+#[inline(always)]
+fn put_flag(header: Header, content: &[u8], out: &mut [u8]) -> Option<usize>
+    requires order { IsOrdered header (length content.now) out.old }
+    ensures room { length out.new ≡ length out.old }
+    ensures put { IfSome result (IsLeafPut LeafType.Boolean header content.now
+        out.old out.new) }
+{
+    let [octet] = content else {
+        return None;
+    };
+    if header.element.is_default(LeafType::Boolean, content) {
+        return Some(header.from.written);
+    }
+    let normal = if *octet == 0 { 0x00 } else { 0xFF };
+    Some(put_single(out, header.length.written, normal))
+}
+
+/// Writes an INTEGER or ENUMERATED, unless it is its row's default, and returns where it ends.
+#[inline(always)]
+fn put_number(header: Header, leaf: LeafType, content: &[u8], out: &mut [u8]) -> Option<usize>
+    requires number { IsNumberType leaf }
+    requires order { IsOrdered header (length content.now) out.old }
+    ensures room { length out.new ≡ length out.old }
+    ensures put { IfSome result (IsLeafPut leaf header content.now out.old out.new) }
+{
+    let [octet] = content else {
+        return put_other(header, leaf, content, out);
+    };
+    if header.element.is_default(leaf, content) {
+        return Some(header.from.written);
+    }
+    Some(put_single(out, header.length.written, *octet))
+}
+
+/// Writes a content of one octet with its length, and returns where it ends.
+#[inline(always)]
+fn put_single(out: &mut [u8], to: usize, octet: u8) -> usize
+    requires { to + 2 ≤ length out.old }
+    ensures put { Puts out.old out.new to result (1 ∷ octet ∷ []) }
+{
+    put_octet(out, to, 1);
+    put_octet(out, to + 1, octet);
+    to + 2
+}
+
+/// Writes another leaf, where its row has no default, and returns where it ends.
+#[inline(never)]
+fn put_other(header: Header, leaf: LeafType, content: &[u8], out: &mut [u8]) -> Option<usize>
+    requires other { leaf ≡ LeafType.Boolean → ⊥ }
+    requires order { IsOrdered header (length content.now) out.old }
+    ensures room { length out.new ≡ length out.old }
+    ensures put { IfSome result (IsLeafPut leaf header content.now out.old out.new) }
+{
+    if header.element.default != NO_DEFAULT || leaf.fault(Profile::Two, content).is_some() {
+        return None;
+    }
+    let start = write_length(out, header.length.written, content.len());
+    copy(content, out, start);
+    Some(start + content.len())
+}
+
+/// Writes a leaf, unless it is its row's default, and returns where it ends.
+#[inline(always)]
+pub(super) fn put_leaf(header: Header, content: &[u8], out: &mut [u8]) -> Option<usize>
+    requires order { IsOrdered header (length content.now) out.old }
+    ensures room { length out.new ≡ length out.old }
+    ensures put { IfSome result (λ end. (l : Leaf) × (kind_leaf header.element.kind ≡ Some l)
+        × IsLeafPut l header content.now out.old out.new end) }
+{
+    match header.element.kind {
+        UsualKind::Boolean => put_flag(header, content, out),
+        UsualKind::Integer => put_number(header, LeafType::Integer, content, out),
+        UsualKind::Enumerated => put_number(header, LeafType::Enumerated, content, out),
+        UsualKind::Printable => put_other(header, LeafType::Printable, content, out),
+        UsualKind::Date => put_other(header, LeafType::Date, content, out),
+        UsualKind::Time => put_other(header, LeafType::Time, content, out),
+        UsualKind::StringWrapper | UsualKind::Constructed => None,
+    }
+}
