@@ -2,7 +2,7 @@
 ghost use Rattle.std.specs.Prelude.{◌≡◌, List, ℕ, ◌++◌, length};
 ghost use Rattle.ber_leaf.specs.Profile.{Profile as Meaning};
 ghost use Rattle.ill_schema.specs.Profiles.{profile_of};
-ghost use Rattle.ill_read.specs.Answers.{IsNormalIn, NormalAnswersIn};
+ghost use Rattle.ill_read.specs.Answers.{NormalAnswersIn};
 ghost use Rattle.ill_read.specs.Outlined.{IsOutlinedIn};
 ghost use Rattle.ill_read.specs.declared.failure.Failure.{Failure};
 ghost use Rattle.ill_c.specs.code.Steps.{OutlineAnswers};
@@ -13,6 +13,9 @@ use ill_normal::{
 use ill_read::{OutlinedMessage, read_outline};
 use std::alloc::Global;
 
+/// The number of octets that memory is taken for beside those of a message, so that it needn't grow while the normal form is written.
+const MORE_CAPACITY: usize = 64;
+
 /// The normal form of the message in the profile that the octets are, as [`decode_normal`](ill_normal::decode_normal) gives it.
 /// Memory is taken once, as much as the message has, since a normal form is seldom longer.
 pub(crate) fn read_whole(
@@ -22,16 +25,9 @@ pub(crate) fn read_whole(
 ) -> Result<NormalForm, Failure>
     ensures { NormalAnswersIn (profile_of profile) octets.now result }
 {
-    let buffer = Vec::with_capacity(alloc, octets.len().min(LIMIT as usize))?;
-    let mut source = FromSlice::new(octets);
-    match NormalReader::new(alloc).read(profile, &mut source, buffer) {
-        Ok(Some(normal)) => whole(normal, octets.len()),
-        Ok(None) => Err(refused(0, Cause::Truncated)),
-        Err(ReadFailure::Refused(refusal)) => Err(Failure::Refused(refusal)),
-        Err(ReadFailure::OutOfMemory) => Err(Failure::OutOfMemory),
-        // A slice doesn't break.
-        Err(ReadFailure::ReadFault) => unreachable!(),
-    }
+    let capacity = octets.len().min(LIMIT as usize) + MORE_CAPACITY;
+    let buffer = Vec::with_capacity(alloc, capacity)?;
+    NormalReader::new(alloc).decode(profile, octets, buffer)
 }
 
 /// The outline and the normal form of the message in the profile that the octets are.
@@ -50,18 +46,6 @@ pub(crate) fn read_whole_outline(
         Err(ReadFailure::OutOfMemory) => Err(Failure::OutOfMemory),
         // A slice doesn't break.
         Err(ReadFailure::ReadFault) => unreachable!(),
-    }
-}
-
-/// The normal form of a message at the front of octets, if there are no more.
-fn whole(normal: NormalForm, count: usize) -> Result<NormalForm, Failure>
-    ensures { (p : Meaning) (front rest : List ℕ) → count ≡ length (front ++ rest)
-        → IsNormalIn p normal front → NormalAnswersIn p (front ++ rest) result }
-{
-    if normal.input_len as usize == count {
-        Ok(normal)
-    } else {
-        Err(refused(normal.input_len, Cause::TrailingBytes))
     }
 }
 
