@@ -13,7 +13,7 @@ use Rattle.ill_grammar.specs.code.Spots.{is_either}
 use Rattle.ill_grammar.specs.code.SpotTable.{complete_start, next_at_offset, spots}
 use Rattle.ill_grammar.specs.declared.due.Next.{Next}
 use Rattle.ill_grammar.specs.declared.due.Next.TheVariants.{Nothing}
-use Rattle.ill_grammar.specs.declared.spot_entries.TheConstants.{MODULE_TOP, NOTHING, TOP}
+use Rattle.ill_grammar.specs.declared.spot_entries.TheConstants.{MODULE_TOP, TOP}
 
 -- nothing is missing, and no SEQUENCE
 abbrev may_end : Next → Bool
@@ -58,7 +58,3 @@ top_there = refl
 pub module_top_there : next_at_offset MODULE_TOP ≡ next_at_top Module
 unfolding next_at_offset spots
 module_top_there = refl
-
-pub nothing_there : next_at_offset NOTHING ≡ Nothing
-unfolding next_at_offset spots
-nothing_there = refl

@@ -47,4 +47,4 @@ pub use marks::{
 pub use need::need_at;
 pub use outline::{Mark, Outline};
 pub use place::{DueElement, Found, Place};
-pub use spot::{Spot, UsualElement, UsualKind};
+pub use spot::{NO_DEFAULT, Spot, UsualElement, UsualKind};

@@ -4,8 +4,11 @@ ghost use Rattle.ill_grammar.specs.code.SpotTable.{offset_end};
 ghost use Rattle.ill_grammar.specs.declared.spot_entries.TheConstants.{ENTRIES};
 
 use crate::leaf_type::LeafType;
-use crate::spot_entries::{COMPLETE, ENTRIES, MODULE_TOP, NOTHING, TOP};
+use crate::spot_entries::{COMPLETE, ENTRIES, MODULE_TOP, TOP};
 use ill_schema::Profile;
+
+/// The number that stands for no default, where a row has none.
+pub const NO_DEFAULT: u8 = 255;
 
 /// The kind of a usual element: of a leaf its type, of a constructed element whether it is a string in its tag.
 #[derive(Clone, Copy, Debug, PartialEq, Eq)]
@@ -30,7 +33,7 @@ pub struct SpotEntry {
     pub after: u16,
     pub first: u16,
     pub kind: UsualKind,
-    /// The number of its row's default, 255 for none.
+    /// The number of its row's default, or [`NO_DEFAULT`].
     pub default: u8,
 }
 
@@ -49,10 +52,11 @@ pub struct UsualElement {
     pub after: Spot,
     /// The spot in it, once it is open; of a leaf, and of a string in its tag, any spot.
     pub first: Spot,
-    /// The number of its row's default, 255 for none.
+    /// The number of its row's default, or [`NO_DEFAULT`].
     pub default: u8,
 }
 
+/// The entry at an offset.
 #[inline(always)]
 fn entry_at(at: usize) -> SpotEntry
     requires { at < 2061 }
@@ -74,7 +78,7 @@ impl UsualElement {
         ensures { result ≡ is_default_octets (default_number self.default) (leaf_is leaf)
             octets.now }
     {
-        self.default != 255 && leaf.is_number(self.default as i64, octets)
+        self.default != NO_DEFAULT && leaf.is_number(self.default as i64, octets)
     }
 }
 
@@ -85,7 +89,6 @@ impl Spot {
     ghost use Rattle.ill_grammar.specs.Due.{next_is};
     ghost use Rattle.ill_grammar.specs.Standing.{next_at_top};
     ghost use Rattle.ill_grammar.specs.code.Spots.{IsUsualDue, is_either, key_octets, spot_next};
-    ghost use Rattle.ill_grammar.specs.declared.due.Next.TheVariants.{Nothing};
 
     /// The spot where a message of the profile begins.
     pub fn top_of(profile: Profile) -> Spot
@@ -121,6 +124,7 @@ impl Spot {
         }
     }
 
+    /// The usual element that is due with the identifier octets of the key: an octet, or from 256 on one of the pairs with a number.
     #[inline(always)]
     fn at_key(self, key: usize) -> Option<UsualElement>
         requires { key < 320 }
@@ -149,13 +153,5 @@ impl Spot {
         ensures in_sequence { IsTrue result → is_either (spot_next self) ≡ false }
     {
         COMPLETE <= self.offset
-    }
-
-    /// Tells whether nothing may come there. False says nothing.
-    #[inline(always)]
-    pub fn is_nothing(self) -> bool
-        ensures { IsTrue result → spot_next self ≡ Nothing }
-    {
-        self.offset == NOTHING
     }
 }

@@ -2,9 +2,6 @@
 
 use crate::spot::{SpotEntry, UsualKind};
 
-/// The number of spots, and of offsets between them.
-pub const SPOTS: u16 = 1741;
-
 /// The first of the spots where an element may end.
 pub const COMPLETE: u16 = 656;
 
@@ -13,9 +10,6 @@ pub const TOP: u16 = 20;
 
 /// The spot where a message of the module profile begins.
 pub const MODULE_TOP: u16 = 0;
-
-/// The spot where nothing may come.
-pub const NOTHING: u16 = 678;
 
 /// The entry of an element: its spot, the spots after and in it, its kind, and its default or 255.
 macro_rules! e {

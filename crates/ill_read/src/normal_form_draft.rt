@@ -312,7 +312,7 @@ fn ill_string_id(leaf: LeafType) -> Id
 
 /// The content of a leaf as DER has it: TRUE is FF (X.690, 11.1).
 #[inline(always)]
-pub(crate) fn normal_content(leaf: LeafType, content: &[u8]) -> &[u8]
+fn normal_content(leaf: LeafType, content: &[u8]) -> &[u8]
     requires { (p : Named) × IsContentIn p (leaf_is leaf) content.now }
     ensures { result.now ≡ normal_content (value (leaf_is leaf) content.now) }
 {
@@ -326,7 +326,7 @@ pub(crate) fn normal_content(leaf: LeafType, content: &[u8]) -> &[u8]
 
 /// Tells whether a leaf is the default of its row, by the default of what was found. Strings and the values of choices never are.
 #[inline(always)]
-pub(crate) fn is_default_value(reading: PrimitiveElement, leaf: LeafType, content: &[u8]) -> bool
+fn is_default_value(reading: PrimitiveElement, leaf: LeafType, content: &[u8]) -> bool
     requires { (p : Named) × IsContentIn p (leaf_is leaf) content.now }
     ensures { (t : Tag) (n : Next)
         → IsDueIn t n (due_with (slot_in reading.found) (alternative_of reading.found)

@@ -5,11 +5,8 @@ ghost use Rattle.ill_read.specs.code.Usual.{IsLeafPut, IsNumberType, IsOrdered, 
 
 use super::header::Header;
 use super::writing::{copy, put_octet, write_length};
-use ill_grammar::{LeafType, UsualKind};
+use ill_grammar::{LeafType, NO_DEFAULT, UsualKind};
 use ill_schema::Profile;
-
-/// The number of a default where a row has none.
-const NO_DEFAULT: u8 = 255;
 
 /// Writes a BOOLEAN, unless it is its row's default, and returns where it ends.
 #[inline(always)]

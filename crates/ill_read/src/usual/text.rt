@@ -53,21 +53,21 @@ fn put_any_text(text: &[u8], leaf: LeafType, out: &mut [u8], to: usize) -> bool
     leaf.fault(Profile::Two, text).is_none()
 }
 
-/// Copies sixteen octets at once.
+/// Copies a block.
 #[inline(always)]
 fn copy_block(octets: &[u8], at: usize, out: &mut [u8], to: usize)
-    requires octets { at + 16 ≤ length octets.now }
-    requires room { to + 16 ≤ length out.old }
-    ensures { Puts out.old out.new to (to + 16) (between at (at + 16) octets.now) }
+    requires octets { at + BLOCK_LEN ≤ length octets.now }
+    requires room { to + BLOCK_LEN ≤ length out.old }
+    ensures { Puts out.old out.new to (to + BLOCK_LEN) (between at (at + BLOCK_LEN) octets.now) }
 {
-    u8x16::from_slice(&octets[at..at + 16]).copy_to_slice(&mut out[to..to + 16]);
+    u8x16::from_slice(&octets[at..at + BLOCK_LEN]).copy_to_slice(&mut out[to..to + BLOCK_LEN]);
 }
 
 /// Tells whether the first octets of a block are graphic ones of ASCII or the space. False says nothing.
 #[inline(always)]
 fn is_graphic_front(octets: &[u8], at: usize, size: usize) -> bool
-    requires octets { at + 16 ≤ length octets.now }
-    requires few { size ≤ 16 }
+    requires octets { at + BLOCK_LEN ≤ length octets.now }
+    requires few { size ≤ BLOCK_LEN }
     ensures { IsTrue result
         → list_all is_graphic (between at (at + size) octets.now) ≡ true }
 {

@@ -65,6 +65,7 @@ pub(super) fn write_length(out: &mut [u8], to: usize, size: usize) -> usize
     write_long_length(out, to, size)
 }
 
+/// Writes a length of 128 or more, and returns where it ends.
 #[inline(never)]
 fn write_long_length(out: &mut [u8], to: usize, size: usize) -> usize
     requires { to + 9 ≤ length out.old }
