@@ -13,8 +13,8 @@ use crate::profile::profile_numbered;
 use crate::put::put;
 use crate::refusal::{IllcanonRefusal, report};
 use crate::status::Status;
-use crate::whole::{read_whole, read_whole_outline};
-use ill_normal::{Profile, message_digest};
+use crate::whole::read_whole_outline;
+use ill_normal::{Profile, decode_normal, message_digest};
 use ill_read::Outline;
 use ill_text::Text;
 use std::alloc::{AllocError, Global};
@@ -66,7 +66,7 @@ fn normalise(
         (change buffer.old buffer.new) (change size.old size.new)
         (change refusal.old refusal.new) result }
 {
-    match read_whole(alloc, profile, octets) {
+    match decode_normal(alloc, profile, octets) {
         Ok(normal) => put(&normal.octets, buffer, size),
         Err(failure) => report(failure, refusal),
     }

@@ -2,33 +2,13 @@
 ghost use Rattle.std.specs.Prelude.{◌≡◌, List, ℕ, ◌++◌, length};
 ghost use Rattle.ber_leaf.specs.Profile.{Profile as Meaning};
 ghost use Rattle.ill_schema.specs.Profiles.{profile_of};
-ghost use Rattle.ill_read.specs.Answers.{NormalAnswersIn};
 ghost use Rattle.ill_read.specs.Outlined.{IsOutlinedIn};
 ghost use Rattle.ill_read.specs.declared.failure.Failure.{Failure};
 ghost use Rattle.ill_c.specs.code.Steps.{OutlineAnswers};
 
-use ill_normal::{
-    Cause, Failure, FromSlice, LIMIT, NormalForm, NormalReader, Profile, ReadFailure, Refusal,
-};
+use ill_normal::{Cause, Failure, FromSlice, Profile, ReadFailure, Refusal};
 use ill_read::{OutlinedMessage, read_outline};
 use std::alloc::Global;
-
-/// The number of octets that memory is taken for beside those of a message, so that it needn't grow while the normal form is written.
-const MORE_CAPACITY: usize = 64;
-
-/// The normal form of the message in the profile that the octets are, as [`decode_normal`](ill_normal::decode_normal) gives it.
-/// Memory is taken once, as much as the message has, since a normal form is seldom longer.
-pub(crate) fn read_whole(
-    alloc: Global,
-    profile: Profile,
-    octets: &[u8],
-) -> Result<NormalForm, Failure>
-    ensures { NormalAnswersIn (profile_of profile) octets.now result }
-{
-    let capacity = octets.len().min(LIMIT as usize) + MORE_CAPACITY;
-    let buffer = Vec::with_capacity(alloc, capacity)?;
-    NormalReader::new(alloc).decode(profile, octets, buffer)
-}
 
 /// The outline and the normal form of the message in the profile that the octets are.
 pub(crate) fn read_whole_outline(

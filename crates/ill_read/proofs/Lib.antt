@@ -30,6 +30,7 @@ pub mod UsualWrites
 pub mod UsualTexts
 pub mod UsualLeaves
 pub mod UsualReads
+pub mod UsualLevels
 pub mod UsualMessages
 pub mod StringsInTags
 pub mod StringSteps

@@ -41,7 +41,7 @@ use Rattle.ill_grammar.proofs.DueTags.{kept}
 use Rattle.ill_grammar.proofs.UsualSteps.{general_due, sequence_first, sequence_kept, string_first, visible_due}
 use Rattle.ill_read.specs.code.Drafts.{IsRightText}
 use Rattle.ill_read.specs.code.OctetDrafts.{enclosed, part_octets, unless_left, written}
-use Rattle.ill_read.specs.code.Usual.{Adds, HasAll, HasRead, IsElement, IsStringTag, IsStringType, kind_leaf, leaf_octets}
+use Rattle.ill_read.specs.code.Usual.{Adds, HasAll, HasRead, IsElement, IsSized, IsStringTag, IsStringType, kind_leaf, leaf_octets, mark_of}
 use Rattle.ill_read.proofs.AddedEntries.{held_added}
 use Rattle.ill_read.proofs.DecoderSteps.{means_apdu}
 use Rattle.ill_read.proofs.EndedElements.{content_ended}
@@ -184,24 +184,14 @@ leaf_adds p i n u l k os octets due is some sized right =
     (ap (λ x. x ++ (os ++ octets)) identified)
     (ap₂ (λ (b : Bool) x. elim b as (λ _. List ℕ) [ true ↦ [] | false ↦ x ++ (shortest_length (length content) ++ content) ]) (due.default l octets leaf.0) identified)
 
--- how a header says that the contents end
-abbrev pub mark_of : Bool → List ℕ
-mark_of true = []
-mark_of false = 0 ∷ 0 ∷ []
-
--- length octets of contents
-abbrev pub IsSized : Bool → List ℕ → List ℕ → Type 0
-IsSized true b os = IsLength (length b) os
-IsSized false b os = os ≡ 128 ∷ []
-
-spelled_as : (tag : Tag) (is_definite : Bool) (os b : List ℕ) → HasIdentifier tag true → IsSized is_definite b os
+spelled_as : (tag : Tag) (is_definite : Bool) (os b : List ℕ) → HasIdentifier tag true → IsSized is_definite (length b) os
     → IsDefinite tag true b (identifier tag true ++ (os ++ (b ++ mark_of is_definite))) ⊎ IsIndefinite tag b (identifier tag true ++ (os ++ (b ++ mark_of is_definite)))
 spelled_as tag true os b has sized = inl (record { has_identifier = has; octets = os; spell_length = sized; joined = ap (λ x. identifier tag true ++ (os ++ x)) (append-nil b) })
 spelled_as tag false os b has sized = inr (record { has_identifier = has; joined = ap (λ x. identifier tag true ++ (x ++ (b ++ 0 ∷ 0 ∷ []))) sized })
 
 -- a constructed element more is read
 pub open_adds : (p : Named) (i : List ℕ) (n : Next) (u : UsualElement) (is_definite : Bool) (k : ℕ) (os b w : List ℕ) → (due : IsUsualDue i n u) → is_constructed u.kind ≡ true → HasAll p due.element k b w
-    → IsSized is_definite b os → Adds p n (spot_next u.after) (suc k) (i ++ (os ++ (b ++ mark_of is_definite))) (i ++ (shortest_length (length w) ++ w))
+    → IsSized is_definite (length b) os → Adds p n (spot_next u.after) (suc k) (i ++ (os ++ (b ++ mark_of is_definite))) (i ++ (shortest_length (length w) ++ w))
 open_adds p i n u is_definite k os b w due opens all sized =
     let tag = tag_of_id due.id in
     let form : form_of_id due.id ≡ true = due.form ∙ opens in
@@ -262,7 +252,7 @@ string_all p e l k os octets tag (inr is) some sized right =
     (string_in p e tag leaf_type.Visible k os octets (visible_due tag.0 tag.2) (identified_has (leaf_tag (leaf_is leaf_type.Visible)) false refl) refl refl some sized (subst (λ x. IsContentIn p (leaf_is x) octets) is right))
 
 -- nothing is read of a message yet
-top_first : (p : Named) → Inner (top_part p) ≡ first_of (Wrapper (top_part p))
+pub top_first : (p : Named) → Inner (top_part p) ≡ first_of (Wrapper (top_part p))
 top_first Two = refl
 top_first Module = refl
 

@@ -9,3 +9,4 @@ pub mod Filling
 pub mod OctetDrafts
 pub mod Outlines
 pub mod Usual
+pub mod UsualLevels

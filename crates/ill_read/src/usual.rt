@@ -1,282 +1,116 @@
 //! The path of usual messages: a message that is at hand whole, and has usual elements alone, is read straight to its normal form.
 //!
 //! All else gives None, which says nothing: the [`Reader`](crate::reader::Reader) reads the message then from its start.
-ghost use Rattle.std.specs.Prelude.{◌≡◌, ◌+◌, ◌*◌, ◌-◌, ◌<◌, ◌≤◌, ◌++◌, [], ◌∷◌, ℕ, List, IsTrue, IfOk, IfSome, get_or, length, take};
-ghost use Rattle.std.specs.List.{between};
-ghost use Rattle.ber_tree.specs.Length.{IsLength, shortest_length};
-ghost use Rattle.ill_grammar.specs.LeafTypes.{IsContentIn, leaf_is};
-ghost use Rattle.ill_grammar.specs.code.Spots.{IsUsualDue, spot_next};
-ghost use Rattle.ill_grammar.specs.declared.due.Next.{Next};
-ghost use Rattle.ill_grammar.specs.declared.element.Element.{Element as CodeElement};
+ghost use Rattle.std.specs.Prelude.{◌≡◌, ◌<◌, ◌≤◌, ◌^◌, [], IfOk, IfSome, length, take};
 ghost use Rattle.ill_schema.specs.Profiles.{profile_of};
 ghost use Rattle.ill_tables.specs.declared.profile.Profile.{Profile as Named};
-ghost use Rattle.ill_read.specs.code.Usual.{EndsAt, HasAll, IsContentsRead, IsHeaded, IsLeafPut, IsNormalFormOf, IsNumberType, IsOrdered, IsStep, IsStringTag, OpensAt, Puts, kind_leaf};
+ghost use Rattle.ill_read.specs.code.Usual.{EndsAt, IsNormalFormOf};
+ghost use Rattle.ill_read.specs.code.UsualLevels.{IsReading, to_read};
 
 mod header;
 mod input;
 mod leaf;
+mod level;
+mod string;
 mod text;
 mod writing;
 
-use header::{Header, Length, begin, ends_at, length_at};
-use ill_grammar::{LeafType, Spot, UsualKind};
+use arrayvec::ArrayVec;
+use header::{ends_at, read_identifier};
+use ill_grammar::{Spot, UsualKind};
 use ill_schema::{LIMIT, Profile};
 use input::{Input, Reach};
-use leaf::put_leaf;
+use leaf::read_leaf;
+use level::{Level, MAX_LEVELS, Standing, close_level, open_level};
 use std::alloc::AllocError;
-use text::put_text;
-use writing::{ROOM, Written, close, copy_two, has_room, put_octet, write_length};
+use string::read_wrapped;
+use writing::ROOM;
 
-/// The number of levels that a message may have.
-const MAX_LEVELS: usize = 32;
+/// The levels round the innermost one, outermost first.
+type Levels = ArrayVec<Level, MAX_LEVELS>;
 
-/// An element that was read: the spot after it, and how far it reaches.
-#[derive(Clone, Copy)]
-struct Step {
-    after: Spot,
-    reach: Reach,
-}
-
-/// The contents of an element that were written from one offset to another.
+/// Reads the next element of the innermost level; one that is constructed up to its contents.
 #[inline(always)]
-fn written_to(header: Header, start: usize, reach: Reach) -> Written
-    ensures { result ≡ (record {
-      length_at = header.length.written;
-      start = start;
-      end = reach.written;
-    }) }
-{
-    Written {
-        length_at: header.length.written,
-        start,
-        end: reach.written,
-    }
-}
-
-/// The number of octets that are left for a length before contents of this size: a guess, which is right where these are read from DER.
-#[inline(always)]
-fn length_room(size: usize) -> usize
-    ensures { (1 ≤ result) × (result ≤ 3) }
-{
-    match size {
-        0..0x80 => 1,
-        0x80..0x100 => 2,
-        _ => 3,
-    }
-}
-
-/// Reads the one string in the tag of an ILL-String, whose contents begin at the offset.
-#[inline(always)]
-fn read_string(input: Input<'_>, from: Reach, is_definite: bool, out: &mut [u8]) -> Option<Reach>
-    requires order { (from.taken ≤ input.bound) × (from.written ≤ length out.old) }
-    requires room { IsTrue is_definite
-        → from.written + (input.bound - from.taken) + 39 ≤ length out.old }
-    ensures room { length out.new ≡ length out.old }
-    ensures read { IfSome result (IsContentsRead input.entry is_definite from out.old out.new) }
-    ensures all { (p : Named) (e : CodeElement) (k : ℕ) → IsStringTag e → 0 < k
-        → IfSome result (λ r. HasAll p e k (between from.taken r.taken input.entry.octets.now)
-        (between from.written r.written out.new)) }
-{
-    if input.bound - from.taken < 2 {
-        return None;
-    }
-    let first = input.octets[from.taken];
-    let leaf = match first {
-        0x1B => LeafType::General,
-        0x1A => LeafType::Visible,
-        _ => return None,
-    };
-    let Length { size, contents } = length_at(input, from.taken + 1)?;
-    if size > input.bound - contents {
-        return None;
-    }
-    let end = contents + size;
-    if !ends_at(input, end, is_definite) {
-        return None;
-    }
-    // Where the length is definite, there is room for all that is in the tag.
-    if !is_definite && !has_room(out, from.written, size) {
-        return None;
-    }
-    put_octet(out, from.written, first);
-    let to = write_length(out, from.written + 1, size);
-    if !put_text(input.octets, contents, size, leaf, out, to) {
-        return None;
-    }
-    Some(Reach {
-        taken: end,
-        written: to + size,
-    })
-}
-
-/// Reads what is in an element that is open, up to its end.
-#[cycle(usual)]
-fn read_contents(
+fn read_next(
     input: Input<'_>,
-    from: Reach,
-    first: Spot,
-    is_definite: bool,
+    at: Standing,
+    levels: &mut Levels,
     out: &mut [u8],
-    levels: usize,
-) -> Option<Reach>
-    requires { (from.taken ≤ input.bound) × (from.written ≤ length out.old) }
+) -> Option<Standing>
+    requires reading { (p : Named) × IsReading p input levels.old.items at out.old }
+    requires few { length out.old < 2 ^ 32 }
     ensures room { length out.new ≡ length out.old }
-    ensures read { IfSome result (IsContentsRead input.entry is_definite from out.old out.new) }
-    ensures all { (p : Named) (e : CodeElement) → OpensAt e first → IfSome result (λ r. HasAll p e
-        levels (between from.taken r.taken input.entry.octets.now)
-        (between from.written r.written out.new)) }
+    ensures reading { IfSome result (λ to. (p : Named)
+        → IsReading p input.entry levels.old.items at out.old
+        → IsReading p input.entry levels.new.items to out.new) }
+    ensures less { IfSome result (λ to. to_read input.entry levels.new.items to
+        < to_read input.entry levels.old.items at) }
 {
-    if levels < 2 {
-        return None;
-    }
-    let mut spot = first;
-    let mut reach = from;
-    while !ends_at(input, reach.taken, is_definite) {
-        let step = read_element(input, reach, spot, out, levels)?;
-        spot = step.after;
-        reach = step.reach;
-    }
-    if !spot.is_complete() {
-        return None;
-    }
-    Some(reach)
-}
-
-/// Reads the usual element that begins at an offset, with those in it.
-#[cycle(usual)]
-#[inline(always)]
-fn read_element(
-    input: Input<'_>,
-    from: Reach,
-    spot: Spot,
-    out: &mut [u8],
-    levels: usize,
-) -> Option<Step>
-    requires within { (from.taken ≤ input.bound) × (from.written ≤ length out.old) }
-    requires deep { 1 < levels }
-    ensures room { length out.new ≡ length out.old }
-    ensures step { IfSome result (λ s. (s.reach.taken ≤ input.entry.bound)
-        × IsStep (spot_next spot) (spot_next s.after) levels input.entry.octets.now out.old out.new
-        from s.reach) }
-{
-    if input.bound - from.taken < 2 || !has_room(out, from.written, 0) {
-        return None;
-    }
-    let begun = begin(input, from.taken, spot)?;
-    copy_two(input.octets, from.taken, out, from.written);
-    let header = Header {
-        element: begun.element,
-        from,
-        length: Reach {
-            taken: begun.length_at,
-            written: from.written + (begun.length_at - from.taken),
-        },
-    };
-    let reach = if input.octets[begun.length_at] == 0x80 {
-        read_indefinite(input, header, out, levels)?
-    } else {
-        read_definite(input, header, out, levels)?
-    };
-    Some(Step {
-        after: begun.element.after,
-        reach,
-    })
-}
-
-/// Reads an element of indefinite length, behind its identifier.
-#[cycle(usual)]
-#[inline(always)]
-fn read_indefinite(input: Input<'_>, header: Header, out: &mut [u8], levels: usize) -> Option<Reach>
-    requires within { (header.length.taken < input.bound) × IsOrdered header 0 out.old }
-    requires deep { 1 < levels }
-    requires mark { get_or input.octets.now header.length.taken 0 ≡ 128 }
-    ensures room { length out.new ≡ length out.old }
-    ensures step { (n : Next) → IsHeaded n input.entry header out.old → IfSome result (λ r.
-        (r.taken ≤ input.entry.bound) × IsStep n (spot_next header.element.after) levels
-        input.entry.octets.now out.old out.new header.from r) }
-{
-    let start = header.length.written + 1;
-    let from = Reach {
-        taken: header.length.taken + 1,
-        written: start,
+    let inside = input.up_to(at.level.bound as usize);
+    let header = read_identifier(inside, at.reach, at.level.spot, out)?;
+    let level = Level {
+        spot: header.element.after,
+        ..at.level
     };
     let reach = match header.element.kind {
-        UsualKind::StringWrapper => read_string(input, from, false, out)?,
         UsualKind::Constructed => {
-            read_contents(input, from, header.element.first, false, out, levels - 1)?
+            if levels.is_full() {
+                return None;
+            }
+            levels.push(level);
+            let opened = open_level(inside, header, out)?;
+            return Some(opened);
         }
-        _ => return None,
+        UsualKind::StringWrapper => read_wrapped(inside, header, out)?,
+        _ => read_leaf(inside, header, out)?,
     };
-    let written = close(
-        out,
-        Written {
-            length_at: header.length.written,
-            start,
-            end: reach.written,
-        },
-    )?;
-    Some(Reach {
-        taken: reach.taken + 2,
-        written,
-    })
+    Some(Standing { level, reach })
 }
 
-/// Reads an element of definite length, behind its identifier.
-#[cycle(usual)]
+/// Ends the innermost level.
 #[inline(always)]
-fn read_definite(input: Input<'_>, header: Header, out: &mut [u8], levels: usize) -> Option<Reach>
-    requires within { (header.length.taken < input.bound) × IsOrdered header 0 out.old }
-    requires deep { 1 < levels }
+fn end_level(
+    input: Input<'_>,
+    at: Standing,
+    levels: &mut Levels,
+    out: &mut [u8],
+) -> Option<Standing>
+    requires reading { (p : Named) × IsReading p input levels.old.items at out.old }
+    requires ends { EndsAt at.level.is_definite input.octets.now at.reach.taken at.level.bound }
     ensures room { length out.new ≡ length out.old }
-    ensures step { (n : Next) → IsHeaded n input.entry header out.old → IfSome result (λ r.
-        (r.taken ≤ input.entry.bound) × IsStep n (spot_next header.element.after) levels
-        input.entry.octets.now out.old out.new header.from r) }
+    ensures reading { IfSome result (λ to. (p : Named)
+        → IsReading p input.entry levels.old.items at out.old
+        → IsReading p input.entry levels.new.items to out.new) }
+    ensures less { IfSome result (λ to. to_read input.entry levels.new.items to
+        < to_read input.entry levels.old.items at) }
 {
-    let Length { size, contents } = length_at(input, header.length.taken)?;
-    if size > input.bound - contents || !has_room(out, header.length.written, size) {
-        return None;
+    let level = levels.pop()?;
+    let reach = close_level(at, out)?;
+    Some(Standing { level, reach })
+}
+
+/// Reads the one element that is due in the level of the message, with all that is in it.
+#[inline(always)]
+fn read_whole(input: Input<'_>, message: Standing, out: &mut [u8]) -> Option<Standing>
+    requires reading { (p : Named) × IsReading p input [] message out.old }
+    requires few { length out.old < 2 ^ 32 }
+    ensures room { length out.new ≡ length out.old }
+    ensures reading { IfSome result (λ to. (p : Named)
+        → IsReading p input.entry [] message out.old → IsReading p input.entry [] to out.new) }
+{
+    let mut levels = ArrayVec::new();
+    let mut at = message;
+    loop {
+        let inside = input.up_to(at.level.bound as usize);
+        if !ends_at(inside, at.reach.taken, at.level.is_definite) {
+            at = read_next(input, at, &mut levels, out)?;
+            continue;
+        }
+        at = end_level(input, at, &mut levels, out)?;
+        if levels.is_empty() {
+            return Some(at);
+        }
     }
-    let end = contents + size;
-    let inside = Input {
-        octets: input.octets,
-        bound: end,
-    };
-    let written = match header.element.kind {
-        UsualKind::StringWrapper => {
-            let start = header.length.written + 1;
-            let reach = read_string(
-                inside,
-                Reach {
-                    taken: contents,
-                    written: start,
-                },
-                true,
-                out,
-            )?;
-            close(out, written_to(header, start, reach))?
-        }
-        UsualKind::Constructed => {
-            let start = header.length.written + length_room(size);
-            let first = header.element.first;
-            let reach = read_contents(
-                inside,
-                Reach {
-                    taken: contents,
-                    written: start,
-                },
-                first,
-                true,
-                out,
-                levels - 1,
-            )?;
-            close(out, written_to(header, start, reach))?
-        }
-        _ => put_leaf(header, &input.octets[contents..end], out)?,
-    };
-    Some(Reach {
-        taken: end,
-        written,
-    })
 }
 
 /// Reads the message at the front of the octets, where it has usual elements alone, and writes its normal form at the front of `out`. None
@@ -288,24 +122,28 @@ fn read_usual(profile: Profile, octets: &[u8], out: &mut [u8]) -> Option<Reach>
     ensures normal { IfSome result (λ r. IsNormalFormOf (profile_of profile)
         (take r.written out.new) (take r.taken octets.now)) }
 {
-    let input = Input {
-        octets,
-        bound: octets.len().min(LIMIT as usize),
-    };
-    let step = read_element(
-        input,
-        Reach {
+    if out.len() > u32::MAX as usize {
+        return None;
+    }
+    let bound = octets.len().min(LIMIT as usize);
+    let message = Standing {
+        level: Level {
+            spot: Spot::top_of(profile),
+            is_definite: true,
+            bound: bound as u32,
+            length_at: 0,
+            start: 0,
+        },
+        reach: Reach {
             taken: 0,
             written: 0,
         },
-        Spot::top_of(profile),
-        out,
-        MAX_LEVELS,
-    )?;
-    if !step.after.is_complete() || step.reach.written > LIMIT as usize {
+    };
+    let at = read_whole(Input { octets, bound }, message, out)?;
+    if !at.level.spot.is_complete() || at.reach.written > LIMIT as usize {
         return None;
     }
-    Some(step.reach)
+    Some(at.reach)
 }
 
 /// Reads the message at the front of the octets, where it has usual elements alone, and puts its normal form into the buffer. Returns the

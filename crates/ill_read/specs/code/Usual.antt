@@ -58,11 +58,6 @@ Adds p n after k b w = (e : CodeElement) (b0 w0 : List ℕ) → HasRead p e n k 
 abbrev pub HasAll : Named → CodeElement → ℕ → List ℕ → List ℕ → Type 0
 HasAll p e k b w = (n : Next) × HasRead p e n k b w × (missing profile_two (next_is n) ≡ None) × (enclosed e n w ≡ w)
 
--- the element is constructed, and opens at the spot
-pub record OpensAt (e : CodeElement) (first : Spot) : Type 0 where
-  pub begins : spot_next first ≡ first_of e
-  pub usual : IsTrue (is_usual e true)
-
 -- the element is the explicit tag of an ILL-String
 abbrev pub IsStringTag : CodeElement → Type 0
 IsStringTag e = (w : Wrapped) × (e ≡ Wrapper w) × (w.node ≡ NodeId.IllString)
@@ -124,10 +119,25 @@ pub record IsContentsRead (input : Input) (is_definite : Bool) (from : Reach) (o
   pub ends : EndsAt is_definite input.octets.now to.taken input.bound
 
 -- an element was read, and what is to be written of it was
-pub record IsStep (n after : Next) (k : ℕ) (octets old new : List ℕ) (from to : Reach) : Type 0 where
+pub record IsStep (p : Named) (n after : Next) (k : ℕ) (octets old new : List ℕ) (from to : Reach) : Type 0 where
   pub taken : from.taken < to.taken
   pub put : Puts old new from.written to.written (between from.written to.written new)
-  pub adds : (p : Named) → Adds p n after k (between from.taken to.taken octets) (between from.written to.written new)
+  pub adds : Adds p n after k (between from.taken to.taken octets) (between from.written to.written new)
+
+-- the element behind a header was read up to there, in two levels at most
+abbrev pub IsElementRead : Input → Header → List ℕ → List ℕ → Reach → Type 0
+IsElementRead input h old new to = (n : Next) → IsHeaded n input h old
+    → (to.taken ≤ input.bound) × ((p : Named) (k : ℕ) → 1 < k → IsStep p n (spot_next h.element.after) k input.octets.now old new h.from to)
+
+-- these length octets stand before contents of n octets
+abbrev pub IsSized : Bool → ℕ → List ℕ → Type 0
+IsSized true n os = IsLength n os
+IsSized false n os = os ≡ 128 ∷ []
+
+-- what stands behind contents
+abbrev pub mark_of : Bool → List ℕ
+mark_of true = []
+mark_of false = 0 ∷ 0 ∷ []
 
 -- the octets spell an APDU, and these are its normal form
 abbrev pub IsNormalFormOf : Profile → List ℕ → List ℕ → Type 0

@@ -1,11 +1,12 @@
 //! Headers of usual elements, and where their contents end.
-ghost use Rattle.std.specs.Prelude.{◌≡◌, ◌+◌, ◌<◌, ◌≤◌, IsTrue, IfSome, length};
+ghost use Rattle.std.specs.Prelude.{◌≡◌, ◌+◌, ◌<◌, ◌≤◌, IsTrue, IfSome, length, take};
 ghost use Rattle.std.specs.List.{between};
 ghost use Rattle.ber_tree.specs.Length.{IsLength};
 ghost use Rattle.ill_grammar.specs.code.Spots.{IsUsualDue, spot_next};
-ghost use Rattle.ill_read.specs.code.Usual.{EndsAt};
+ghost use Rattle.ill_read.specs.code.Usual.{EndsAt, IsHeaded, IsOrdered};
 
 use super::input::{Input, Reach};
+use super::writing::{copy_two, has_room};
 use ber_core::{Len, LengthRead, length_after};
 use ill_grammar::{Spot, UsualElement};
 
@@ -57,9 +58,58 @@ pub(super) fn begin(input: Input<'_>, at: usize, spot: Spot) -> Option<Begun>
     })
 }
 
+/// Reads the identifier of the usual element that is due at the offset, and copies it.
+#[inline(always)]
+pub(super) fn read_identifier(
+    input: Input<'_>,
+    from: Reach,
+    spot: Spot,
+    out: &mut [u8],
+) -> Option<Header>
+    requires within { (from.taken ≤ input.bound) × (from.written ≤ length out.old) }
+    ensures room { length out.new ≡ length out.old }
+    ensures before { take from.written out.new ≡ take from.written out.old }
+    ensures from { IfSome result (λ h. h.from ≡ from) }
+    ensures order { IfSome result (λ h. (h.length.taken < input.entry.bound)
+        × IsOrdered h 0 out.new) }
+    ensures headed { IfSome result (λ h. IsHeaded (spot_next spot) input.entry h out.new) }
+{
+    if input.bound - from.taken < 2 || !has_room(out, from.written, 0) {
+        return None;
+    }
+    let begun = begin(input, from.taken, spot)?;
+    copy_two(input.octets, from.taken, out, from.written);
+    Some(Header {
+        element: begun.element,
+        from,
+        length: Reach {
+            taken: begun.length_at,
+            written: from.written + (begun.length_at - from.taken),
+        },
+    })
+}
+
 /// The definite length at the offset.
 #[inline(always)]
 pub(super) fn length_at(input: Input<'_>, at: usize) -> Option<Length>
+    requires { (0 < at) × (at < input.bound) }
+    ensures within { IfSome result (λ l. (at < l.contents) × (l.contents ≤ input.entry.bound)) }
+    ensures is { IfSome result (λ l. l.size ≤ 1_048_576
+        → IsLength l.size (between at l.contents input.entry.octets.now)) }
+{
+    let first = input.octets[at];
+    if first < 0x80 {
+        return Some(Length {
+            size: first as usize,
+            contents: at + 1,
+        });
+    }
+    long_length_at(input, at)
+}
+
+/// The definite length at the offset, in any number of octets.
+#[inline(always)]
+fn long_length_at(input: Input<'_>, at: usize) -> Option<Length>
     requires { (0 < at) × (at < input.bound) }
     ensures within { IfSome result (λ l. (at < l.contents) × (l.contents ≤ input.entry.bound)) }
     ensures is { IfSome result (λ l. l.size ≤ 1_048_576

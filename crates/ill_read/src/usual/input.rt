@@ -1,5 +1,5 @@
 //! The octets of a message at hand.
-ghost use Rattle.std.specs.Prelude.{◌≤◌, IsTrue, length};
+ghost use Rattle.std.specs.Prelude.{◌≡◌, ◌≤◌, IsTrue, length};
 ghost use Rattle.ber_tree.specs.Octets.{are_octets};
 
 /// The octets at hand, and where those of the open element end at the latest.
@@ -10,6 +10,21 @@ pub(super) struct Input<'a> {
     ghost within: { bound ≤ length octets.now },
     ghost few: { bound ≤ 1_048_576 },
     ghost right: { IsTrue (are_octets octets.now) },
+}
+
+impl<'a> Input<'a> {
+    /// The same octets, up to an earlier bound.
+    #[inline(always)]
+    pub fn up_to(self, bound: usize) -> Input<'a>
+        requires { bound ≤ self.bound }
+        ensures octets { result.octets.now ≡ self.entry.octets.now }
+        ensures bound { result.bound ≡ bound }
+    {
+        Input {
+            octets: self.octets,
+            bound,
+        }
+    }
 }
 
 /// The offset up to which octets were taken, and up to which octets were written.

@@ -101,43 +101,44 @@ pub(super) fn close(out: &mut [u8], written: Written) -> Option<usize>
         put_octet(out, written.length_at, size as u8);
         return Some(written.end);
     }
-    move_behind_length(out, written)
+    move_behind_length(out, written.length_at, written.start, size)
 }
 
-/// Does the same where the length takes another number of octets than were left for it, or more than one.
+/// Does the same where the length takes another number of octets than were left for it, or more than one. The contents are so many octets
+/// from `from` on.
 #[inline(never)]
-fn move_behind_length(out: &mut [u8], written: Written) -> Option<usize>
-    requires order { (written.length_at < written.start) × (written.start ≤ written.end) }
-    requires room { written.end ≤ length out.old }
+fn move_behind_length(
+    out: &mut [u8],
+    length_at: usize,
+    from: usize,
+    size: usize,
+) -> Option<usize>
+    requires order { length_at < from }
+    requires room { from + size ≤ length out.old }
     ensures room { length out.new ≡ length out.old }
-    ensures put { IfSome result (λ end. Puts out.old out.new written.length_at end
-        (shortest_length (written.end - written.start)
-        ++ between written.start written.end out.old)) }
+    ensures put { IfSome result (λ end. Puts out.old out.new length_at end
+        (shortest_length size ++ between from (from + size) out.old)) }
 {
-    let size = written.end - written.start;
     let mut room = [0; 9];
     let first = put_length(size, &mut room);
-    let start = written.length_at + (9 - first);
+    let start = length_at + (9 - first);
     if out.len() - size < start {
         return None;
     }
-    move_to(out, written, start);
-    copy(&room[first..], out, written.length_at);
+    move_to(out, from, size, start);
+    copy(&room[first..], out, length_at);
     Some(start + size)
 }
 
-/// Moves contents to another offset.
+/// Moves contents of so many octets to another offset.
 #[inline(always)]
-fn move_to(out: &mut [u8], written: Written, to: usize)
-    requires order { written.start ≤ written.end }
-    requires room { (written.end ≤ length out.old)
-        × (to + (written.end - written.start) ≤ length out.old) }
+fn move_to(out: &mut [u8], from: usize, size: usize, to: usize)
+    requires room { (from + size ≤ length out.old) × (to + size ≤ length out.old) }
     ensures room { length out.new ≡ length out.old }
-    ensures before { (n : ℕ) → n ≤ to → n ≤ written.start → take n out.new ≡ take n out.old }
-    ensures moved { between to (to + (written.end - written.start)) out.new
-        ≡ between written.start written.end out.old }
+    ensures before { (n : ℕ) → n ≤ to → n ≤ from → take n out.new ≡ take n out.old }
+    ensures moved { between to (to + size) out.new ≡ between from (from + size) out.old }
 {
-    if to != written.start {
-        out.copy_within(written.start..written.end, to);
+    if to != from {
+        out.copy_within(from..from + size, to);
     }
 }

@@ -164,7 +164,7 @@ static ROWS: [Row; 64] = [
     Row {
         words: "canonicalise many OUT",
         faults: Faults {
-            room: Some(98_990),
+            room: Some(65_540),
             ..NO_FAULTS
         },
         status: 3,

@@ -8,8 +8,8 @@ use Rattle.ill_read.proofs.usual.writing.move_behind_length.Goals as goal
 
 pub returns-clause-put : goal.returns-clause-put
 returns-clause-put c =
-    let at = c.args.written.length_at in
-    let size = c.args.written.end - c.args.written.start in
+    let at = c.args.length_at in
+    let size = c.args.size in
     let first = c.put_length-first.result in
     let room = c.put_length-first.new.room in
     let start = at + (9 - first) in
@@ -23,7 +23,7 @@ returns-clause-put c =
     let first_le = c.put_length-first.ensures.some in
     record {
       room = put.room ∙ moved.room;
-      forward = (omega arith, omega (arith, put.room, moved.room, c.if-out-size.false, c.requires.order, c.requires.room));
+      forward = (omega arith, omega (arith, put.room, moved.room, c.if-out-size.false, c.requires.room));
       before = put.before ∙ moved.before at (omega arith) (omega (arith, c.requires.order));
       put = between_split c.copy.new.out at start (start + size) (omega arith) (omega arith)
           ∙ ap₂ (λ x y. x ++ y) (put.put ∙ is) (ap (λ xs. take (start + size - start) xs) behind ∙ moved.moved);

@@ -5,8 +5,8 @@ use Rattle.ber_tree.specs.Length.{IsLength, shortest_length}
 use Rattle.ill_read.specs.code.Usual.{HasAll, IsStringType, Puts}
 use Rattle.ill_read.proofs.UsualElements.{string_all, string_octet}
 use Rattle.ill_read.proofs.UsualWrites.{between_split, one_octet, puts_as, puts_then}
-use Rattle.ill_read.proofs.usual.read_string.Goals as goal
-use Rattle.ill_read.proofs.usual.read_string.Goals.{in-27, in-26}
+use Rattle.ill_read.proofs.usual.string.read_string.Goals as goal
+use Rattle.ill_read.proofs.usual.string.read_string.Goals.{in-27, in-26}
 
 pub returns-clause-read : goal.returns-clause-read
 returns-clause-read c =
