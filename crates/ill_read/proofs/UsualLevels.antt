@@ -55,6 +55,7 @@ round_kept p input out new (o ∷ outer) l e k begin same round =
         bound = i.bound;
         taken = i.taken;
         written = i.written;
+        ordered = i.ordered;
       },
       round_kept p input out new outer o i.round (suc k) i.round_begin (kept_before out new o.start l.start (omega (arith, i.written)) same) round.1,
     )
@@ -67,9 +68,9 @@ reading_kept p input outer at out new long same r = record {
   begin = r.begin;
   read = read_kept p r.element _ r.levels _ out new at.level.start at.reach.written same r.read;
   taken = r.taken;
-  written = (r.written.0, omega (arith, r.written.1, long));
+  written = (r.written.0, r.written.1, omega (arith, r.written.2, long));
   deep = r.deep;
-  round = round_kept p input out new (reverse outer) at.level r.element r.levels r.begin (kept_before out new at.level.start at.reach.written r.written.0 same) r.round;
+  round = round_kept p input out new (reverse outer) at.level r.element r.levels r.begin (kept_before out new at.level.start at.reach.written r.written.1 same) r.round;
 }
 
 -- an element more was read in what is open
@@ -101,6 +102,7 @@ round_next p input out (o ∷ outer) l l' e k begin es el eb ed r =
         bound = (omega (arith, i.bound, eb), i.bound.1);
         taken = i.taken;
         written = (i.written.0, i.written.1, i.written.2 ∙ sym el, omega (arith, i.written, es, el));
+        ordered = i.ordered;
       },
       r.1,
     )
@@ -123,12 +125,12 @@ element_read p input inside outer at h out mid new to octets bound long before f
       element = r.element;
       levels = r.levels;
       begin = r.begin;
-      read = step_read p r.element _ _ r.levels r.begin at.level.start input.octets.now mid new at.reach to r.taken.0 r.written.0 step r.read;
+      read = step_read p r.element _ _ r.levels r.begin at.level.start input.octets.now mid new at.reach to r.taken.0 r.written.1 step r.read;
       taken = (omega (arith, r.taken, step.taken), omega (arith, got.0, bound), r.taken.2);
-      written = (omega (arith, r.written, step.put.forward), step.put.forward.1);
+      written = (r.written.0, omega (arith, r.written, step.put.forward), step.put.forward.1);
       deep = r.deep;
       round = round_next p input new (reverse outer) at.level _ r.element r.levels r.begin refl refl refl refl
-          (round_kept p input mid new (reverse outer) at.level r.element r.levels r.begin (kept_before mid new at.level.start at.reach.written r.written.0 step.put.before) r.round);
+          (round_kept p input mid new (reverse outer) at.level r.element r.levels r.begin (kept_before mid new at.level.start at.reach.written r.written.1 step.put.before) r.round);
     }
 
 -- it took octets
@@ -173,6 +175,7 @@ element_opened p input inside outer at to h out mid octets bound few long before
       bound = (omega (arith, opens.taken, bound), r.taken.2);
       taken = (omega (arith, r.taken, from_taken), order.0, omega (arith, opens.taken));
       written = (omega (arith, r.written, from_written), order.1, sym opens.written.0, omega (arith, opens.written));
+      ordered = r.written.0;
     } in
     record {
       element = e;
@@ -182,7 +185,7 @@ element_opened p input inside outer at to h out mid octets bound few long before
           (subst (λ n. HasRead p e (spot_next to.level.spot) k [] (between to.level.start n mid)) (sym opens.written.2)
           (subst (HasRead p e (spot_next to.level.spot) k []) (sym (between_none mid to.level.start)) nothing));
       taken = (omega arith, opens.taken.1, omega (arith, opens.taken, bound, r.taken));
-      written = (omega (arith, opens.written), omega (arith, opens.written));
+      written = (omega (arith, opens.written), omega (arith, opens.written), omega (arith, opens.written));
       deep = (omega (arith, r.deep, few, length-append outer (level ∷ [])), omega (arith, few, length-append outer (level ∷ [])));
       round = subst (λ xs. IsRound p input mid xs to.level e k to.reach.taken) (sym (reverse-append outer (level ∷ [])))
           (inner, subst (λ n. IsRound p input mid (reverse outer) level r.element n r.begin) (sym is) (round_next p input mid (reverse outer) at.level level r.element r.levels r.begin refl refl refl refl r.round));
@@ -219,8 +222,8 @@ level_ended p input outer level at out new to ends complete sequence taken put w
     let known : at.reach.taken ≤ length octets = omega (arith, was.taken, input.within) in
     let at_length = subst (λ n. Puts out new n to.written (shortest_length (at.reach.written - at.level.start) ++ between at.level.start at.reach.written out)) (sym i.written.2) put in
     let step = open_step p octets out out new h i.next at.level.is_definite (suc k) was.begin at.reach.taken to.taken at.level.start at.reach.written to.written i.headed.0 i.headed.1
-        (i.taken.1, i.taken.2, was.taken.0, omega (arith, taken)) (i.written.1, omega (arith, i.written), was.written.0) (omega (arith, deep, few)) i.opens
-        (puts_kept out at.level.start at.reach.written was.written.0 was.written.1) at_length all
+        (i.taken.1, i.taken.2, was.taken.0, omega (arith, taken)) (i.written.1, omega (arith, i.written), was.written.1) (omega (arith, deep, few)) i.opens
+        (puts_kept out at.level.start at.reach.written was.written.1 was.written.2) at_length all
         (sized_ended at.level.is_definite octets _ was.begin at.reach.taken at.level.bound ends was.taken.0 known i.sized)
         (marks_at at.level.is_definite octets at.reach.taken at.level.bound ends to.taken taken) in
     record {
@@ -230,14 +233,14 @@ level_ended p input outer level at out new to ends complete sequence taken put w
       read = subst (λ n. HasRead p i.round n (suc k) (between i.round_begin to.taken octets) (between level.start to.written new)) i.after
           (step_read p i.round i.next (spot_next h.element.after) (suc k) i.round_begin level.start octets out new h.from to i.taken.0 i.written.0 step i.read);
       taken = (omega (arith, i.taken, was.taken, taken), omega (arith, taken, within, i.bound), i.bound.1);
-      written = (omega (arith, i.written, put.forward), put.forward.1);
+      written = (i.ordered, omega (arith, i.written, put.forward), put.forward.1);
       deep = (omega (arith, deep), omega (arith, few));
       round = round_kept p input out new (reverse outer) level i.round (suc k) i.round_begin (kept_before out new level.start at.level.length_at (omega (arith, i.written)) put.before) round.1;
     }
 
 -- nothing is read of a message yet
-pub message_begins : (p : Named) (input : Input) (at : Standing) (out : List ℕ) → spot_next at.level.spot ≡ next_at_top p → at.level.start ≡ 0 → at.reach.taken ≡ 0 → at.reach.written ≡ 0 → at.level.bound ≤ input.bound → IsReading p input [] at out
-message_begins p input at out top start taken written bound = record {
+pub message_begins : (p : Named) (input : Input) (at : Standing) (out : List ℕ) → spot_next at.level.spot ≡ next_at_top p → at.level.start ≡ 0 → at.level.length_at ≡ 0 → at.reach.taken ≡ 0 → at.reach.written ≡ 0 → at.level.bound ≤ input.bound → IsReading p input [] at out
+message_begins p input at out top start length_at taken written bound = record {
   element = Wrapper (top_part p);
   levels = 32;
   begin = 0;
@@ -245,7 +248,7 @@ message_begins p input at out top start taken written bound = record {
       (subst (λ n. HasRead p (Wrapper (top_part p)) (spot_next at.level.spot) 32 [] (between n at.reach.written out)) (sym start)
       (subst (λ n. HasRead p (Wrapper (top_part p)) (spot_next at.level.spot) 32 [] (between 0 n out)) (sym written) (none_read p (Wrapper (top_part p)) (spot_next at.level.spot) 32 (top ∙ top_first p) refl)));
   taken = (omega (arith, taken), omega (arith, taken), bound);
-  written = (omega (arith, start, written), omega (arith, written));
+  written = (omega (arith, start, length_at), omega (arith, start, written), omega (arith, written));
   deep = (refl, omega arith);
   round = (refl, refl, start);
 }
@@ -264,5 +267,5 @@ message_ends p input at out complete sequence few r =
     let whole = subst (λ n. HasRead p (Wrapper (top_part p)) (spot_next at.level.spot) 32 b (between n at.reach.written out)) r.round.2 front in
     let all = all_there p (Wrapper (top_part p)) (spot_next at.level.spot) 32 b w whole complete sequence in
     let short : length b ≤ 1_048_576 = omega (arith, r.taken, input.few, length-between octets 0 at.reach.taken (omega (arith, r.taken, input.within))) in
-    let normal : length w ≤ 1_048_576 = omega (arith, few, length-between out 0 at.reach.written r.written.1) in
+    let normal : length w ≤ 1_048_576 = omega (arith, few, length-between out 0 at.reach.written r.written.2) in
     subst (λ x. IsNormalFormOf (profile_of p) x (take at.reach.taken octets)) (between_from_start out at.reach.written) (subst (IsNormalFormOf (profile_of p) w) (between_from_start octets at.reach.taken) (message_read p b w all short normal))

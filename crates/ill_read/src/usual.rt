@@ -1,7 +1,7 @@
 //! The path of usual messages: a message that is at hand whole, and has usual elements alone, is read straight to its normal form.
 //!
 //! All else gives None, which says nothing: the [`Reader`](crate::reader::Reader) reads the message then from its start.
-ghost use Rattle.std.specs.Prelude.{◌≡◌, ◌<◌, ◌≤◌, ◌^◌, [], IfOk, IfSome, length, take};
+ghost use Rattle.std.specs.Prelude.{◌≡◌, ◌<◌, ◌≤◌, ◌^◌, [], IfOk, IfSome, OnSome, length, take};
 ghost use Rattle.ill_schema.specs.Profiles.{profile_of};
 ghost use Rattle.ill_tables.specs.declared.profile.Profile.{Profile as Named};
 ghost use Rattle.ill_read.specs.code.Usual.{EndsAt, IsNormalFormOf};
@@ -33,82 +33,78 @@ type Levels = ArrayVec<Level, MAX_LEVELS>;
 #[inline(always)]
 fn read_next(
     input: Input<'_>,
-    at: Standing,
+    at: &mut Standing,
     levels: &mut Levels,
     out: &mut [u8],
-) -> Option<Standing>
-    requires reading { (p : Named) × IsReading p input levels.old.items at out.old }
+) -> Option<()>
+    requires reading { (p : Named) × IsReading p input levels.old.items at.old out.old }
     requires few { length out.old < 2 ^ 32 }
     ensures room { length out.new ≡ length out.old }
-    ensures reading { IfSome result (λ to. (p : Named)
-        → IsReading p input.entry levels.old.items at out.old
-        → IsReading p input.entry levels.new.items to out.new) }
-    ensures less { IfSome result (λ to. to_read input.entry levels.new.items to
-        < to_read input.entry levels.old.items at) }
+    ensures reading { OnSome result ((p : Named)
+        → IsReading p input.entry levels.old.items at.old out.old
+        → IsReading p input.entry levels.new.items at.new out.new) }
+    ensures less { OnSome result (to_read input.entry levels.new.items at.new
+        < to_read input.entry levels.old.items at.old) }
 {
     let inside = input.up_to(at.level.bound as usize);
     let header = read_identifier(inside, at.reach, at.level.spot, out)?;
-    let level = Level {
-        spot: header.element.after,
-        ..at.level
-    };
-    let reach = match header.element.kind {
+    at.level.spot = header.element.after;
+    match header.element.kind {
         UsualKind::Constructed => {
             if levels.is_full() {
                 return None;
             }
-            levels.push(level);
-            let opened = open_level(inside, header, out)?;
-            return Some(opened);
+            levels.push(at.level);
+            *at = open_level(inside, header, out)?;
         }
-        UsualKind::StringWrapper => read_wrapped(inside, header, out)?,
-        _ => read_leaf(inside, header, out)?,
-    };
-    Some(Standing { level, reach })
+        UsualKind::StringWrapper => at.reach = read_wrapped(inside, header, out)?,
+        _ => at.reach = read_leaf(inside, header, out)?,
+    }
+    Some(())
 }
 
 /// Ends the innermost level.
 #[inline(always)]
 fn end_level(
     input: Input<'_>,
-    at: Standing,
+    at: &mut Standing,
     levels: &mut Levels,
     out: &mut [u8],
-) -> Option<Standing>
-    requires reading { (p : Named) × IsReading p input levels.old.items at out.old }
-    requires ends { EndsAt at.level.is_definite input.octets.now at.reach.taken at.level.bound }
+) -> Option<()>
+    requires reading { (p : Named) × IsReading p input levels.old.items at.old out.old }
+    requires ends { EndsAt at.old.level.is_definite input.octets.now at.old.reach.taken
+        at.old.level.bound }
     ensures room { length out.new ≡ length out.old }
-    ensures reading { IfSome result (λ to. (p : Named)
-        → IsReading p input.entry levels.old.items at out.old
-        → IsReading p input.entry levels.new.items to out.new) }
-    ensures less { IfSome result (λ to. to_read input.entry levels.new.items to
-        < to_read input.entry levels.old.items at) }
+    ensures reading { OnSome result ((p : Named)
+        → IsReading p input.entry levels.old.items at.old out.old
+        → IsReading p input.entry levels.new.items at.new out.new) }
+    ensures less { OnSome result (to_read input.entry levels.new.items at.new
+        < to_read input.entry levels.old.items at.old) }
 {
-    let level = levels.pop()?;
-    let reach = close_level(at, out)?;
-    Some(Standing { level, reach })
+    at.reach = close_level(*at, out)?;
+    at.level = levels.pop()?;
+    Some(())
 }
 
 /// Reads the one element that is due in the level of the message, with all that is in it.
 #[inline(always)]
-fn read_whole(input: Input<'_>, message: Standing, out: &mut [u8]) -> Option<Standing>
-    requires reading { (p : Named) × IsReading p input [] message out.old }
+fn read_whole(input: Input<'_>, at: &mut Standing, out: &mut [u8]) -> Option<()>
+    requires reading { (p : Named) × IsReading p input [] at.old out.old }
     requires few { length out.old < 2 ^ 32 }
     ensures room { length out.new ≡ length out.old }
-    ensures reading { IfSome result (λ to. (p : Named)
-        → IsReading p input.entry [] message out.old → IsReading p input.entry [] to out.new) }
+    ensures reading { OnSome result ((p : Named) → IsReading p input.entry [] at.old out.old
+        → IsReading p input.entry [] at.new out.new) }
 {
     let mut levels = ArrayVec::new();
-    let mut at = message;
     loop {
         let inside = input.up_to(at.level.bound as usize);
         if !ends_at(inside, at.reach.taken, at.level.is_definite) {
-            at = read_next(input, at, &mut levels, out)?;
+            read_next(input, at, &mut levels, out)?;
             continue;
         }
-        at = end_level(input, at, &mut levels, out)?;
+        end_level(input, at, &mut levels, out)?;
         if levels.is_empty() {
-            return Some(at);
+            return Some(());
         }
     }
 }
@@ -126,7 +122,7 @@ fn read_usual(profile: Profile, octets: &[u8], out: &mut [u8]) -> Option<Reach>
         return None;
     }
     let bound = octets.len().min(LIMIT as usize);
-    let message = Standing {
+    let mut at = Standing {
         level: Level {
             spot: Spot::top_of(profile),
             is_definite: true,
@@ -139,7 +135,7 @@ fn read_usual(profile: Profile, octets: &[u8], out: &mut [u8]) -> Option<Reach>
             written: 0,
         },
     };
-    let at = read_whole(Input { octets, bound }, message, out)?;
+    read_whole(Input { octets, bound }, &mut at, out)?;
     if !at.level.spot.is_complete() || at.reach.written > LIMIT as usize {
         return None;
     }

@@ -35,6 +35,7 @@ pub record IsIn (p : Named) (input : Input) (out : List ℕ) (outer level : Leve
   pub bound : (level.bound ≤ outer.bound) × (outer.bound ≤ input.bound)
   pub taken : (round_begin ≤ header.from.taken) × (header.from.taken < header.length.taken) × (header.length.taken ≤ begin)
   pub written : (outer.start ≤ header.from.written) × (header.from.written < header.length.written) × (header.length.written ≡ level.length_at) × (level.length_at < level.start)
+  pub ordered : outer.length_at ≤ outer.start
 
 -- the levels round an open element, innermost first; the outermost is the message's
 abbrev pub IsRound : Named → Input → List ℕ → List Level → Level → CodeElement → ℕ → ℕ → Type 0
@@ -48,7 +49,7 @@ pub record IsReading (p : Named) (input : Input) (outer : List Level) (at : Stan
   pub begin : ℕ
   pub read : HasRead p element (spot_next at.level.spot) levels (between begin at.reach.taken input.octets.now) (between at.level.start at.reach.written out)
   pub taken : (begin ≤ at.reach.taken) × (at.reach.taken ≤ at.level.bound) × (at.level.bound ≤ input.bound)
-  pub written : (at.level.start ≤ at.reach.written) × (at.reach.written ≤ length out)
+  pub written : (at.level.length_at ≤ at.level.start) × (at.level.start ≤ at.reach.written) × (at.reach.written ≤ length out)
   pub deep : (levels + length outer ≡ 32) × (length outer ≤ 10)
   pub round : IsRound p input out (reverse outer) at.level element levels begin
 

@@ -121,7 +121,7 @@ pub(super) fn open_level(input: Input<'_>, header: Header, out: &[u8]) -> Option
 /// Ends an element whose contents were read, and writes their length.
 #[inline(always)]
 pub(super) fn close_level(standing: Standing, out: &mut [u8]) -> Option<Reach>
-    requires order { (standing.level.length_at < standing.level.start)
+    requires order { (standing.level.length_at ≤ standing.level.start)
         × (standing.level.start ≤ standing.reach.written) }
     requires room { standing.reach.written ≤ length out.old }
     requires taken { standing.reach.taken ≤ 1_048_576 }

@@ -89,7 +89,7 @@ pub(super) struct Written {
 /// Writes the length of contents before them, and returns where they end then. None where there is no room.
 #[inline(always)]
 pub(super) fn close(out: &mut [u8], written: Written) -> Option<usize>
-    requires order { (written.length_at < written.start) × (written.start ≤ written.end) }
+    requires order { (written.length_at ≤ written.start) × (written.start ≤ written.end) }
     requires room { written.end ≤ length out.old }
     ensures room { length out.new ≡ length out.old }
     ensures put { IfSome result (λ end. Puts out.old out.new written.length_at end
@@ -113,7 +113,7 @@ fn move_behind_length(
     from: usize,
     size: usize,
 ) -> Option<usize>
-    requires order { length_at < from }
+    requires order { length_at ≤ from }
     requires room { from + size ≤ length out.old }
     ensures room { length out.new ≡ length out.old }
     ensures put { IfSome result (λ end. Puts out.old out.new length_at end

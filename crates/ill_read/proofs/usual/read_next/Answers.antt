@@ -7,41 +7,41 @@ use Rattle.ill_read.proofs.usual.read_next.Goals as goal
 lt_from_ne : (a b : ℕ) → a ≤ b → (a ≡ b → ⊥) → a < b
 lt_from_ne a b le ne = omega (arith, le, ne)
 
-pub returns-in-Constructed-clause-reading : goal.returns-in-Constructed-clause-reading
-returns-in-Constructed-clause-reading c p was =
+pub returns-in_ok-at-in-Constructed-clause-reading : goal.returns-in_ok-at-in-Constructed-clause-reading
+returns-in_ok-at-in-Constructed-clause-reading c p was =
     let h = c.in_ok-header.ensures in
     let inside = c.up_to-inside in
     let full : eqb (length c.args.levels.now.items) 10 ≡ false = sym c.is_full.ensures.value ∙ c.if-is_full.false in
     let few = lt_from_ne (length c.args.levels.now.items) 10 c.is_full.ensures.fits (eqb-false (length c.args.levels.now.items) 10 full) in
-    subst (λ xs. IsReading p c.args.input xs c.in_ok-opened-in-Constructed.opened c.read_identifier.new.out) (sym c.push.ensures.items)
-    (element_opened p c.args.input inside.result c.args.levels.now.items c.args.at c.in_ok-opened-in-Constructed.opened c.in_ok-header.header c.args.out.now c.read_identifier.new.out inside.ensures.octets inside.ensures.bound
-    few h.room h.before h.from h.headed (h.order.1.0, h.order.1.1) c.in-Constructed.is c.in_ok-opened-in-Constructed.ensures was)
+    subst (λ xs. IsReading p c.args.input xs c.in_ok-at-in-Constructed.field-0 c.read_identifier.new.out) (sym c.push.ensures.items)
+    (element_opened p c.args.input inside.result c.args.levels.now.items c.args.at.now c.in_ok-at-in-Constructed.field-0 c.in_ok-header.header c.args.out.now c.read_identifier.new.out inside.ensures.octets inside.ensures.bound
+    few h.room h.before h.from h.headed (h.order.1.0, h.order.1.1) c.in-Constructed.is c.in_ok-at-in-Constructed.ensures was)
 
-pub returns-in_ok-reach-in-StringWrapper-clause-reading :
-    goal.returns-in_ok-reach-in-StringWrapper-clause-reading
-returns-in_ok-reach-in-StringWrapper-clause-reading c p was =
+pub returns-in_ok-at-in-StringWrapper-clause-reading :
+    goal.returns-in_ok-at-in-StringWrapper-clause-reading
+returns-in_ok-at-in-StringWrapper-clause-reading c p was =
     let h = c.in_ok-header.ensures in
     let inside = c.up_to-inside in
-    element_read p c.args.input inside.result c.args.levels.now.items c.args.at c.in_ok-header.header c.args.out.now c.read_identifier.new.out c.read_wrapped.new.out c.in_ok-reach-in-StringWrapper.reach inside.ensures.octets
-    inside.ensures.bound h.room h.before h.from h.headed c.in_ok-reach-in-StringWrapper.ensures.read was
+    element_read p c.args.input inside.result c.args.levels.now.items c.args.at.now c.in_ok-header.header c.args.out.now c.read_identifier.new.out c.read_wrapped.new.out c.in_ok-at-in-StringWrapper.field-0 inside.ensures.octets
+    inside.ensures.bound h.room h.before h.from h.headed c.in_ok-at-in-StringWrapper.ensures.read was
 
-pub returns-in_ok-reach-in-StringWrapper-clause-less :
-    goal.returns-in_ok-reach-in-StringWrapper-clause-less
-returns-in_ok-reach-in-StringWrapper-clause-less c =
+pub returns-in_ok-at-in-StringWrapper-clause-less :
+    goal.returns-in_ok-at-in-StringWrapper-clause-less
+returns-in_ok-at-in-StringWrapper-clause-less c =
     let h = c.in_ok-header.ensures in
     let inside = c.up_to-inside in
-    let taken = element_taken inside.result c.args.at c.in_ok-header.header c.read_identifier.new.out c.read_wrapped.new.out c.in_ok-reach-in-StringWrapper.reach h.from h.headed c.in_ok-reach-in-StringWrapper.ensures.read in
+    let taken = element_taken inside.result c.args.at.now c.in_ok-header.header c.read_identifier.new.out c.read_wrapped.new.out c.in_ok-at-in-StringWrapper.field-0 h.from h.headed c.in_ok-at-in-StringWrapper.ensures.read in
     omega (arith, taken, inside.ensures.bound, c.requires.reading.1.taken)
 
-pub returns-in_ok-reach-in_default : goal.returns-in_ok-reach-in_default
-returns-in_ok-reach-in_default c =
+pub returns-in_ok-at-in_default : goal.returns-in_ok-at-in_default
+returns-in_ok-at-in_default c =
     let h = c.in_ok-header.ensures in
     let inside = c.up_to-inside in
-    let taken = element_taken inside.result c.args.at c.in_ok-header.header c.read_identifier.new.out c.read_leaf.new.out c.in_ok-reach-in_default.reach h.from h.headed c.in_ok-reach-in_default.ensures.read in
+    let taken = element_taken inside.result c.args.at.now c.in_ok-header.header c.read_identifier.new.out c.read_leaf.new.out c.in_ok-at-in_default.field-0 h.from h.headed c.in_ok-at-in_default.ensures.read in
     record {
-      room = c.in_ok-reach-in_default.ensures.room ∙ h.room;
+      room = c.in_ok-at-in_default.ensures.room ∙ h.room;
       reading = λ p was.
-          element_read p c.args.input inside.result c.args.levels.now.items c.args.at c.in_ok-header.header c.args.out.now c.read_identifier.new.out c.read_leaf.new.out c.in_ok-reach-in_default.reach inside.ensures.octets
-          inside.ensures.bound h.room h.before h.from h.headed c.in_ok-reach-in_default.ensures.read was;
+          element_read p c.args.input inside.result c.args.levels.now.items c.args.at.now c.in_ok-header.header c.args.out.now c.read_identifier.new.out c.read_leaf.new.out c.in_ok-at-in_default.field-0 inside.ensures.octets
+          inside.ensures.bound h.room h.before h.from h.headed c.in_ok-at-in_default.ensures.read was;
       less = omega (arith, taken, inside.ensures.bound, c.requires.reading.1.taken);
     }

@@ -6,7 +6,7 @@ use Rattle.ill_read.proofs.usual.read_whole.Given as goal
 abbrev pub invariant-loop-input : goal.invariant-loop-input
 invariant-loop-input l =
     (length l.out ≡ length l.initial.out)
-    × ((p : Named) → IsReading p l.input [] l.fn.message l.initial.out → IsReading p l.input l.levels.items l.at l.out)
+    × ((p : Named) → IsReading p l.input [] l.initial.at l.initial.out → IsReading p l.input l.levels.items l.at l.out)
 
 abbrev pub decreases-loop-input : goal.decreases-loop-input
 decreases-loop-input l = to_read l.input l.levels.items l.at
