@@ -2,11 +2,8 @@
 ghost use Rattle.ill_schema.specs.Profiles.{profile_of};
 ghost use Rattle.ill_c.specs.code.Steps.{FrontAnswers};
 
-use ill_normal::{Cause, Failure, FromSlice, NormalForm, NormalReader, Profile, ReadFailure};
+use ill_normal::{Cause, Failure, FromSlice, NormalForm, Profile, ReadFailure, read_normal};
 use std::alloc::Global;
-
-/// The number of octets that memory is taken for at first. Most normal forms have fewer.
-const FIRST_CAPACITY: usize = 4096;
 
 /// The normal form of the message in the profile at the front of octets, or none where they may be the beginning of a message.
 pub(crate) fn read_front(
@@ -16,9 +13,8 @@ pub(crate) fn read_front(
 ) -> Result<Option<NormalForm>, Failure>
     ensures { FrontAnswers (profile_of profile) octets.now result }
 {
-    let buffer = Vec::with_capacity(alloc, octets.len().min(FIRST_CAPACITY))?;
     let mut source = FromSlice::new(octets);
-    match NormalReader::new(alloc).read(profile, &mut source, buffer) {
+    match read_normal(alloc, profile, &mut source) {
         Ok(Some(normal)) => Ok(Some(normal)),
         Ok(None) => Ok(None),
         Err(ReadFailure::Refused(it)) => match it.cause {

@@ -2,7 +2,7 @@
 use Rattle.std.proofs.Common.{◌≡◌, ◌∙◌, ℕ, ◌+◌, ◌-◌, ◌≤◌, ◌<◌, Bool, List, [], ◌++◌, length, length-take, length-drop, take, drop, Option, Some, None, Ok, Err, IfSome, IsTrue, refl, sym, ap, subst, arith}
 use Rattle.std.proofs.lemmas.List.{take-append-drop, take-take, take_min}
 use Rattle.std.specs.Io.KnownBytes.{Consumes}
-use Rattle.ber_core.specs.Shown.{Drops}
+use Rattle.ber_core.specs.Shown.{Drops, DropsFewer}
 use Rattle.std.specs.Io.{StartsWith}
 use Rattle.ber_leaf.specs.Profile.{Profile}
 use Rattle.ill_schema.specs.Apdu.{Accepts, Apdu, SpellsApdu}
@@ -13,6 +13,7 @@ use Rattle.ill_schema.proofs.OneMeaning.{no_prefix}
 use Rattle.ill_read.specs.Answers.{IsUnfinishedIn, ReadsNextIn}
 use Rattle.ill_read.specs.code.Usual.{IsNormalFormOf}
 use Rattle.ill_read.specs.declared.failure.ReadFailure.{ReadFailure}
+use Rattle.ill_read.specs.declared.normal.NormalForm.{NormalForm}
 
 -- the first octets at hand are shown too
 pub fewer_shown : (left : Option (List ℕ)) (hand : List ℕ) (n : ℕ) → IfSome left (λ s. StartsWith s hand) → IfSome left (λ s. StartsWith s (take n hand))
@@ -49,3 +50,18 @@ module _ {T : Type 0} {p : Profile} (Is : T → List ℕ → Type 0) (left left'
   -- the source broke before
   pub reads_broken : (b : List ℕ) → Consumes left left' b → IsUnfinishedIn p b → length b ≤ 1_048_576 → IsTrue broken' → ReadsNextIn p left left' broken broken' Is (Err ReadFailure.ReadFault)
   reads_broken b took unfinished short breaks = record { message = tt; none = tt; refused = tt; taken = (b, took, short); fault = (breaks, (b, took, unfinished)); stays = λ was. breaks }
+
+-- a usual message was taken from a source that shows these octets, or the source broke before
+module _ (p : Named) (Is : NormalForm → List ℕ → Type 0) (left left' : Option (List ℕ)) (broken broken' : Bool) (all : List ℕ) (m n : ℕ) (w : List ℕ) where
+  pub usual_read : (x : NormalForm) → IfSome left (λ s. StartsWith s all) → n ≤ length (take m all) → IsNormalFormOf (profile_of p) w (take n (take m all)) → Is x (take n (take m all)) → Drops left left' n → (IsTrue broken → IsTrue broken')
+      → ReadsNextIn (profile_of p) left left' broken broken' Is (Ok (Some x))
+  usual_read x shown le normal is drops stays =
+      let hand = take m all in
+      reads_whole Is left left' broken broken' x (take n hand) (front_taken left left' hand n (fewer_shown left all m shown) le drops) is (short_enough p normal.0 (take n hand) normal.1) stays
+
+  pub usual_broken : IfSome left (λ s. StartsWith s all) → n ≤ length (take m all) → IsNormalFormOf (profile_of p) w (take n (take m all)) → DropsFewer left left' n → IsTrue broken' → ReadsNextIn (profile_of p) left left' broken broken' Is (Err ReadFailure.ReadFault)
+  usual_broken shown le normal part breaks =
+      let hand = take m all in
+      let k = part.0 in
+      reads_broken Is left left' broken broken' (take k hand) (front_taken left left' hand k (fewer_shown left all m shown) (omega (arith, part.1, le)) part.2)
+      (fewer_unfinished (profile_of p) hand w n k normal le part.1) (omega (arith, part.1, length-take k hand, length-take n hand, le, short_enough p normal.0 (take n hand) normal.1)) breaks

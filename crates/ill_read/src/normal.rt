@@ -1,8 +1,9 @@
 //! Messages as their normal forms.
-ghost use Rattle.std.specs.Prelude.{◌≡◌, ◌≤◌, ℕ, List, ◌++◌, length};
+ghost use Rattle.std.specs.Prelude.{◌≡◌, ◌≤◌, ℕ, List, ◌++◌, IfOk, IsTrue, length};
 ghost use Rattle.std.specs.Io.KnownBytes.{Appends};
 ghost use Rattle.ill_schema.specs.Profiles.{profile_of};
 ghost use Rattle.ill_read.specs.Answers.{IsNormalIn, NormalAnswersIn, ReadsNextIn};
+ghost use Rattle.ill_read.specs.code.Usual.{IsNormalFormOf};
 
 use crate::failure::{Failure, ReadFailure};
 use crate::normal_form_draft::NormalFormDraft;
@@ -12,7 +13,7 @@ use crate::recorder::{NoRecorder, Recorder};
 use crate::usual::{usual_form, usual_front};
 use ber_core::{Broken, Source};
 use ill_schema::{Cause, Profile};
-use std::alloc::Global;
+use std::alloc::{AllocError, Global};
 
 /// The normal form of a message, in DER (X.690, 8 to 11). Two messages are of one APDU if and only if their normal forms are equal.
 #[derive(Drop)]
@@ -127,6 +128,24 @@ impl NormalReader {
         }
         // The next message may be a usual one that is longer than this window.
         self.window_len = self.window_len.saturating_mul(8).min(MAX_WINDOW_LEN);
+        self.read_any(profile, source, buffer, recorded)
+    }
+
+    /// Does the same for any message, element by element.
+    #[inline(always)]
+    fn read_any<R: Source, K: Recorder>(
+        &mut self,
+        profile: Profile,
+        source: &mut R,
+        buffer: Vec<u8>,
+        recorded: &mut K,
+    ) -> Result<Option<NormalForm>, ReadFailure>
+        ensures next { ReadsNextIn (profile_of profile) (R.left source.old) (R.left source.new)
+            (R.is_broken source.old) (R.is_broken source.new)
+            (λ n octets. IsNormalIn (profile_of profile) n octets
+            × Appends (K.recorded recorded.old) (K.recorded recorded.new) octets) result }
+        ensures few { open_count self.new.reader ≤ 32 }
+    {
         self.reader
             .restart(profile, NormalFormDraft::new(self.alloc, buffer));
         match read_draft(&mut self.reader, source, recorded) {
@@ -152,13 +171,26 @@ impl NormalReader {
         ensures few { open_count self.new.reader ≤ 32 }
     {
         let mut buffer = buffer;
-        let found = usual_form(profile, octets, &mut buffer)?;
-        if found == Some(octets.len()) {
+        if is_usual(profile, octets, &mut buffer)? {
             return Ok(NormalForm {
                 octets: buffer,
                 input_len: octets.len() as u32,
             });
         }
+        self.decode_any(profile, octets, buffer)
+    }
+
+    /// Does the same for any message, element by element.
+    #[inline(always)]
+    fn decode_any(
+        &mut self,
+        profile: Profile,
+        octets: &[u8],
+        buffer: Vec<u8>,
+    ) -> Result<NormalForm, Failure>
+        ensures answers { NormalAnswersIn (profile_of profile) octets.now result }
+        ensures few { open_count self.new.reader ≤ 32 }
+    {
         self.reader
             .restart(profile, NormalFormDraft::new(self.alloc, buffer));
         let _ = self.reader.read_elements(octets);
@@ -186,6 +218,15 @@ impl NormalReader {
     }
 }
 
+/// Tells whether the whole slice is a usual message, and puts its normal form into the buffer then. False says nothing.
+#[inline(always)]
+fn is_usual(profile: Profile, octets: &[u8], buffer: &mut Vec<u8>) -> Result<bool, AllocError>
+    ensures { IfOk result (λ it. IsTrue it
+        → IsNormalFormOf (profile_of profile) buffer.new.items octets.now) }
+{
+    Ok(usual_form(profile, octets, buffer)? == Some(octets.len()))
+}
+
 /// Reads the normal form of the message in the profile at the front of what is left, as [`read_message`](crate::read_message) reads the
 /// message. The normal form is written while the message is read; of the message no value is made, but of a leaf whose row has a default.
 ///
@@ -205,7 +246,37 @@ pub fn read_normal<R: Source>(
         (R.is_broken source.old) (R.is_broken source.new)
         (IsNormalIn (profile_of profile)) result }
 {
-    NormalReader::new(alloc).read(profile, source, Vec::new(alloc))
+    let mut buffer = Vec::new(alloc);
+    let hand = source.buffered();
+    let window = &hand[..hand.len().min(FIRST_WINDOW_LEN)];
+    let Ok(found) = usual_form(profile, window, &mut buffer) else {
+        return Err(ReadFailure::OutOfMemory);
+    };
+    let Some(taken) = found else {
+        return read_any_normal(alloc, profile, source, buffer);
+    };
+    match source.consume(taken) {
+        Ok(()) => Ok(Some(NormalForm {
+            octets: buffer,
+            input_len: taken as u32,
+        })),
+        Err(Broken) => Err(ReadFailure::ReadFault),
+    }
+}
+
+/// Reads the normal form of any message by a reader of its own, which takes longer to make than most messages to read.
+#[inline(never)]
+fn read_any_normal<R: Source>(
+    alloc: Global,
+    profile: Profile,
+    source: &mut R,
+    buffer: Vec<u8>,
+) -> Result<Option<NormalForm>, ReadFailure>
+    ensures { ReadsNextIn (profile_of profile) (R.left source.old) (R.left source.new)
+        (R.is_broken source.old) (R.is_broken source.new)
+        (IsNormalIn (profile_of profile)) result }
+{
+    NormalReader::new(alloc).read_any(profile, source, buffer, &mut NoRecorder)
 }
 
 /// The normal form of the message in the profile that the whole slice is.
@@ -221,5 +292,25 @@ pub fn read_normal<R: Source>(
 pub fn decode_normal(alloc: Global, profile: Profile, octets: &[u8]) -> Result<NormalForm, Failure>
     ensures { NormalAnswersIn (profile_of profile) octets.now result }
 {
-    NormalReader::new(alloc).decode(profile, octets, Vec::new(alloc))
+    let mut buffer = Vec::new(alloc);
+    if is_usual(profile, octets, &mut buffer)? {
+        return Ok(NormalForm {
+            octets: buffer,
+            input_len: octets.len() as u32,
+        });
+    }
+    decode_any_normal(alloc, profile, octets, buffer)
+}
+
+/// The normal form of any message that the whole slice is, by a reader of its own.
+#[inline(never)]
+fn decode_any_normal(
+    alloc: Global,
+    profile: Profile,
+    octets: &[u8],
+    buffer: Vec<u8>,
+) -> Result<NormalForm, Failure>
+    ensures { NormalAnswersIn (profile_of profile) octets.now result }
+{
+    NormalReader::new(alloc).decode_any(profile, octets, buffer)
 }

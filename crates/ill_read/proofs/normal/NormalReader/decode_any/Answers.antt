@@ -10,7 +10,7 @@ use Rattle.ill_read.specs.code.ReaderCode.{HasOutcome}
 use Rattle.ill_read.specs.declared.failure.Failure.{Failure}
 use Rattle.ill_read.proofs.ClosedElements.{handed_on}
 use Rattle.ill_read.proofs.MessageEnds.{normal_fails, normal_trails, normal_whole, runs}
-use Rattle.ill_read.proofs.normal.NormalReader.decode.Goals as goal
+use Rattle.ill_read.proofs.normal.NormalReader.decode_any.Goals as goal
 
 pub returns-in_err-outcome-clause-answers : goal.returns-in_err-outcome-clause-answers
 returns-in_err-outcome-clause-answers c =
@@ -19,7 +19,7 @@ returns-in_err-outcome-clause-answers c =
     let ok : IsTrue (are_octets w) = octets_fit w (λ k. let small : get_or w k 0 < 256 = omega (arith, c.type_inv.octets k) in small) in
     let available_len = c.outcome.ensures p w (drop c.read_elements.result w) (c.read_elements.ensures.stopped p w (runs p AreOctets AreNormal c.restart.new.self w ok (c.restart.ensures.«open» (c.new.ensures p)))) in
     let refused = subst (λ (e : Result Bool Failure). HasOutcome p AreNormal c.read_elements.new.self w e) c.in_err-outcome.was available_len in
-    handed_on (NormalAnswersIn (profile_of p) w) c.from_residual-in_err-outcome.result c.in_err-outcome.field-0.0 c.from_residual-in_err-outcome.ensures.1 (normal_fails p w c.in_err-outcome.field-0.0 refused)
+    handed_on (NormalAnswersIn (profile_of p) w) c.from_residual.result c.in_err-outcome.field-0.0 c.from_residual.ensures.1 (normal_fails p w c.in_err-outcome.field-0.0 refused)
 
 pub overflow_cast-octets : goal.overflow_cast-octets
 overflow_cast-octets c =
