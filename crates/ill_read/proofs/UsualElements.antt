@@ -3,7 +3,7 @@ use Rattle.ill_tables.specs.declared.profile.Profile.{Profile as Named}
 use Rattle.ill_tables.specs.declared.profile.Profile.TheVariants.{Two, Module}
 use Rattle.std.proofs.Common.{◌≡◌, ◌⊎◌, ℕ, suc, ◌≤◌, ◌<◌, List, [], ◌∷◌, ◌++◌, append-nil, append_assoc, length, Bool, Option, Some, None, true, false, IsTrue, refl, sym, ap, ap₂, subst, ◌∙◌, inl, inr, arith}
 use Rattle.ber_core.specs.Der.{encoding}
-use Rattle.ber_core.specs.Id.{form_of_id, id_octets, tag_of_id}
+use Rattle.ber_core.specs.Id.{form_of_id, tag_of_id}
 use Rattle.ber_core.proofs.Foreign.{has_identified, identified_has}
 use Rattle.ber_tree.specs.Identifier.{Tag, HasIdentifier, identifier}
 use Rattle.ber_tree.specs.Length.{IsLength, shortest_length}
@@ -18,7 +18,7 @@ use Rattle.ill_schema.specs.Tagging.{leaf_tag, untagged}
 use Rattle.ill_refusals.specs.Next.{missing}
 use Rattle.ill_refusals.specs.Place.{Open, allows}
 use Rattle.ill_refusals.specs.code.Step.{snoc, opened}
-use Rattle.ill_grammar.specs.Contents.{IsValueOf, with_alternative}
+use Rattle.ill_grammar.specs.Contents.{with_alternative}
 use Rattle.ill_grammar.specs.Due.{IsDueIn, behind, due_with, first_of, next_is}
 use Rattle.ill_grammar.specs.Elements.{element_is}
 use Rattle.ill_grammar.specs.LeafTypes.{IsContentIn, leaf_is}

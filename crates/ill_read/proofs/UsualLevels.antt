@@ -1,5 +1,5 @@
 -- The levels of a usual message, as elements are read, opened and ended in the innermost one.
-use Rattle.std.proofs.Common.{◌≡◌, ◌∙◌, ℕ, suc, ◌+◌, ◌-◌, ◌≤◌, ◌<◌, Bool, true, false, IsTrue, List, [], ◌∷◌, ◌++◌, length, length-append, reverse, take, None, refl, sym, ap, ap₂, subst, arith}
+use Rattle.std.proofs.Common.{◌≡◌, ◌∙◌, ℕ, suc, ◌+◌, ◌-◌, ◌≤◌, ◌<◌, Bool, true, false, IsTrue, List, [], ◌∷◌, ◌++◌, length, length-append, reverse, take, None, refl, sym, ap, subst, arith}
 use Rattle.std.specs.List.{between}
 use Rattle.std.proofs.lemmas.List.{reverse-append}
 use Rattle.std.proofs.lemmas.List.Edits.{between_none, length-between}
@@ -17,7 +17,6 @@ use Rattle.ill_grammar.specs.code.Spots.{IsOfKind, IsUsualDue, is_constructed, i
 use Rattle.ill_grammar.specs.declared.due.Next.{Next}
 use Rattle.ill_grammar.specs.declared.element.Element.{Element as CodeElement}
 use Rattle.ill_grammar.specs.declared.element.Element.TheVariants.{Wrapper}
-use Rattle.ill_grammar.specs.declared.spot.Spot.{Spot}
 use Rattle.ill_grammar.specs.declared.spot.UsualKind.TheVariants as kind
 use Rattle.ill_read.specs.code.Usual.{EndsAt, HasAll, HasRead, IsElementRead, IsHeaded, IsNormalFormOf, IsSized, IsStep, Puts, mark_of}
 use Rattle.ill_read.specs.code.UsualLevels.{IsIn, IsReading, IsRound, OpensIn}
@@ -222,10 +221,10 @@ level_ended p input outer level at out new to ends complete sequence taken put w
     let known : at.reach.taken ≤ length octets = omega (arith, was.taken, input.within) in
     let at_length = subst (λ n. Puts out new n to.written (shortest_length (at.reach.written - at.level.start) ++ between at.level.start at.reach.written out)) (sym i.written.2) put in
     let step = open_step p octets out out new h i.next at.level.is_definite (suc k) was.begin at.reach.taken to.taken at.level.start at.reach.written to.written i.headed.0 i.headed.1
-        (i.taken.1, i.taken.2, was.taken.0, omega (arith, taken)) (i.written.1, omega (arith, i.written), was.written.1) (omega (arith, deep, few)) i.opens
-        (puts_kept out at.level.start at.reach.written was.written.1 was.written.2) at_length all
-        (sized_ended at.level.is_definite octets _ was.begin at.reach.taken at.level.bound ends was.taken.0 known i.sized)
-        (marks_at at.level.is_definite octets at.reach.taken at.level.bound ends to.taken taken) in
+    (i.taken.1, i.taken.2, was.taken.0, omega (arith, taken)) (i.written.1, omega (arith, i.written), was.written.1) (omega (arith, deep, few)) i.opens
+    (puts_kept out at.level.start at.reach.written was.written.1 was.written.2) at_length all
+    (sized_ended at.level.is_definite octets _ was.begin at.reach.taken at.level.bound ends was.taken.0 known i.sized)
+    (marks_at at.level.is_definite octets at.reach.taken at.level.bound ends to.taken taken) in
     record {
       element = i.round;
       levels = suc k;

@@ -1,11 +1,11 @@
 -- A usual message is taken from a source that shows it.
-use Rattle.std.proofs.Common.{◌≡◌, ◌∙◌, ℕ, ◌+◌, ◌-◌, ◌≤◌, ◌<◌, Bool, List, [], ◌++◌, length, length-take, length-drop, take, drop, Option, Some, None, Ok, Err, IfSome, IsTrue, refl, sym, ap, subst, arith}
+use Rattle.std.proofs.Common.{◌≡◌, ◌∙◌, ℕ, ◌≤◌, ◌<◌, Bool, List, ◌++◌, length, length-take, length-drop, take, drop, Option, Some, None, Ok, Err, IfSome, IsTrue, sym, ap, subst, arith}
 use Rattle.std.proofs.lemmas.List.{take-append-drop, take-take, take_min}
 use Rattle.std.specs.Io.KnownBytes.{Consumes}
 use Rattle.ber_core.specs.Shown.{Drops, DropsFewer}
 use Rattle.std.specs.Io.{StartsWith}
 use Rattle.ber_leaf.specs.Profile.{Profile}
-use Rattle.ill_schema.specs.Apdu.{Accepts, Apdu, SpellsApdu}
+use Rattle.ill_schema.specs.Apdu.{Apdu, SpellsApdu}
 use Rattle.ill_schema.specs.Profiles.{profile_of}
 use Rattle.ill_tables.specs.declared.profile.Profile.{Profile as Named}
 use Rattle.ill_tables.specs.declared.profile.Profile.TheVariants.{Two, Module}

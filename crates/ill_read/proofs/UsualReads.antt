@@ -1,5 +1,5 @@
 -- An element is read, and what is to be written of it is.
-use Rattle.std.proofs.Common.{◌≡◌, ◌∙◌, ℕ, suc, ◌+◌, ◌-◌, ◌≤◌, ◌<◌, Bool, true, false, List, [], ◌∷◌, ◌++◌, Some, length, take, refl, sym, ap, ap₂, subst, arith}
+use Rattle.std.proofs.Common.{◌≡◌, ◌∙◌, ℕ, suc, ◌+◌, ◌-◌, ◌≤◌, ◌<◌, Bool, true, false, List, ◌++◌, Some, length, refl, sym, ap, ap₂, subst, arith}
 use Rattle.std.specs.List.{between}
 use Rattle.std.proofs.lemmas.List.Edits.{between_none, length-between}
 use Rattle.ber_tree.specs.Length.{IsLength, shortest_length}
@@ -10,7 +10,7 @@ use Rattle.ill_grammar.specs.declared.leaf_type.LeafType.{LeafType}
 use Rattle.ill_read.specs.code.Usual.{Adds, EndsAt, HasAll, IsLeafPut, IsSized, IsStep, Puts, kind_leaf, leaf_octets, mark_of}
 use Rattle.ill_read.specs.declared.usual.header.Header.{Header}
 use Rattle.ill_read.proofs.UsualElements.{adds_as, leaf_adds, open_adds}
-use Rattle.ill_read.proofs.UsualWrites.{between_kept, between_less, between_split, kept_before, puts_as, puts_less, puts_over, puts_then}
+use Rattle.ill_read.proofs.UsualWrites.{between_kept, between_less, between_split, kept_before, puts_as, puts_less, puts_then}
 
 -- octets in four parts
 four_parts : (xs : List ℕ) (a b c d e : ℕ) → a ≤ b → b ≤ c → c ≤ d → d ≤ e → between a e xs ≡ between a b xs ++ (between b c xs ++ (between c d xs ++ between d e xs))

@@ -5,7 +5,7 @@ use Rattle.std.proofs.lemmas.List.{drop-drop, length-drop, take-append-drop, len
 use Rattle.std.proofs.lemmas.Simd.{put_chunk_whole}
 use lib.Lanes.{chunk, put_chunk}
 use Rattle.std.proofs.lemmas.List.Edits.{between_more, between_none, length-between}
-use Rattle.std.proofs.lemmas.Slice.{between_is, overwrites, take-put_mid, take-put_mid_below, between-put_mid}
+use Rattle.std.proofs.lemmas.Slice.{between_is, overwrites, take-put_mid_below, between-put_mid}
 use Rattle.std.specs.List.{between}
 use borrow.Rule.Slice.PartMut.{put_mid}
 use Rattle.ber_core.proofs.ReadOctets.{octets_left, octets_right, read_is_length}

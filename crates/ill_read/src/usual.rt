@@ -31,12 +31,7 @@ type Levels = ArrayVec<Level, MAX_LEVELS>;
 
 /// Reads the next element of the innermost level; one that is constructed up to its contents.
 #[inline(always)]
-fn read_next(
-    input: Input<'_>,
-    at: &mut Standing,
-    levels: &mut Levels,
-    out: &mut [u8],
-) -> Option<()>
+fn read_next(input: Input<'_>, at: &mut Standing, levels: &mut Levels, out: &mut [u8]) -> Option<()>
     requires reading { (p : Named) × IsReading p input levels.old.items at.old out.old }
     requires few { length out.old < 2 ^ 32 }
     ensures room { length out.new ≡ length out.old }
@@ -65,12 +60,7 @@ fn read_next(
 
 /// Ends the innermost level.
 #[inline(always)]
-fn end_level(
-    input: Input<'_>,
-    at: &mut Standing,
-    levels: &mut Levels,
-    out: &mut [u8],
-) -> Option<()>
+fn end_level(input: Input<'_>, at: &mut Standing, levels: &mut Levels, out: &mut [u8]) -> Option<()>
     requires reading { (p : Named) × IsReading p input levels.old.items at.old out.old }
     requires ends { EndsAt at.old.level.is_definite input.octets.now at.old.reach.taken
         at.old.level.bound }

@@ -1,5 +1,5 @@
 -- What is read in an open element, and written of it.
-use Rattle.std.specs.Prelude.{◌≡◌, ◌⊎◌, ℕ, ◌+◌, ◌≤◌, ◌<◌, Bool, true, false, List, [], ◌∷◌, ◌++◌, length, take, Option, Some, None, IsTrue}
+use Rattle.std.specs.Prelude.{◌≡◌, ◌⊎◌, ℕ, ◌+◌, ◌≤◌, ◌<◌, Bool, true, false, List, [], ◌∷◌, ◌++◌, length, take, Option, Some, None}
 use Rattle.std.specs.List.{between}
 use Rattle.ber_leaf.specs.Leaf.{normal_content, value}
 use Rattle.ber_leaf.specs.Profile.{Profile, profile_two}
@@ -12,11 +12,10 @@ use Rattle.ill_schema.specs.Content.{Content}
 use Rattle.ill_tables.specs.declared.node.NodeId.{NodeId}
 use Rattle.ill_refusals.specs.Next.{missing}
 use Rattle.ill_grammar.specs.Contents.{IsValueOf}
-use Rattle.ill_grammar.specs.Due.{first_of, next_is}
+use Rattle.ill_grammar.specs.Due.{next_is}
 use Rattle.ill_grammar.specs.Elements.{element_is}
 use Rattle.ill_grammar.specs.LeafTypes.{IsContentIn, leaf_is}
 use Rattle.ill_grammar.specs.Standing.{IsHeld}
-use Rattle.ill_grammar.specs.code.Judging.{is_usual}
 use Rattle.ill_grammar.specs.code.Spots.{IsInSequence, IsUsualDue, default_number, is_default_octets, spot_next}
 use Rattle.ill_grammar.specs.declared.due.Next.{Next}
 use Rattle.ill_grammar.specs.declared.element.Element.{Element as CodeElement}
@@ -24,7 +23,6 @@ use Rattle.ill_grammar.specs.declared.element.Element.TheVariants.{Wrapper}
 use Rattle.ill_grammar.specs.declared.element.Wrapped.{Wrapped}
 use Rattle.ill_grammar.specs.declared.leaf_type.LeafType.{LeafType}
 use Rattle.ill_grammar.specs.declared.leaf_type.LeafType.TheVariants as leaf_type
-use Rattle.ill_grammar.specs.declared.spot.Spot.{Spot}
 use Rattle.ill_grammar.specs.declared.spot.UsualKind.{UsualKind}
 use Rattle.ill_grammar.specs.declared.spot.UsualKind.TheVariants as kind
 use Rattle.ill_read.specs.code.OctetDrafts.{enclosed, written}

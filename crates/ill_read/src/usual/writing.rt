@@ -107,12 +107,7 @@ pub(super) fn close(out: &mut [u8], written: Written) -> Option<usize>
 /// Does the same where the length takes another number of octets than were left for it, or more than one. The contents are so many octets
 /// from `from` on.
 #[inline(never)]
-fn move_behind_length(
-    out: &mut [u8],
-    length_at: usize,
-    from: usize,
-    size: usize,
-) -> Option<usize>
+fn move_behind_length(out: &mut [u8], length_at: usize, from: usize, size: usize) -> Option<usize>
     requires order { length_at ≤ from }
     requires room { from + size ≤ length out.old }
     ensures room { length out.new ≡ length out.old }

@@ -1,4 +1,4 @@
-use Rattle.std.proofs.Common.{◌≡◌, ◌≤◌, length, length-take, take, refl, IfSome, subst, arith}
+use Rattle.std.proofs.Common.{◌≤◌, length, length-take, take, refl, IfSome, subst, arith}
 use Rattle.ill_schema.specs.Profiles.{profile_of}
 use Rattle.ill_read.specs.Answers.{IsNormalIn}
 use Rattle.ill_read.specs.code.Usual.{IsNormalFormOf}

@@ -1,4 +1,4 @@
-use Rattle.std.proofs.Common.{◌≡◌, subst}
+use Rattle.std.proofs.Common.{subst}
 use Rattle.ill_read.specs.code.UsualLevels.{IsReading}
 use Rattle.ill_read.proofs.UsualLevels.{level_ended}
 use Rattle.ill_read.proofs.usual.end_level.Goals as goal

@@ -1,4 +1,4 @@
-use Rattle.std.proofs.Common.{◌≡◌, ◌∙◌, ◌≤◌, length, refl, subst, arith}
+use Rattle.std.proofs.Common.{refl, arith}
 use Rattle.ber_tree.proofs.Octets.{octets_fit}
 use Rattle.ill_read.proofs.UsualLevels.{message_begins, message_ends}
 use Rattle.ill_read.proofs.usual.read_usual.Goals as goal

@@ -1,4 +1,4 @@
-use Rattle.std.proofs.Common.{◌≡◌, ◌∙◌, ◌≤◌, [], IsTrue, length, refl, sym, subst, arith}
+use Rattle.std.proofs.Common.{◌∙◌, length, sym, subst, arith}
 use Rattle.std.proofs.lemmas.Bool.{eqb-true}
 use Rattle.std.proofs.lemmas.List.{nil_from_length}
 use Rattle.ill_read.specs.code.UsualLevels.{IsReading}

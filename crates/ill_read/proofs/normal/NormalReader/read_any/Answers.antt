@@ -1,13 +1,11 @@
-use Rattle.std.proofs.Common.{◌≡◌, ◌∙◌, ◌≤◌, ℕ, List, Ok, length, length-take, take, refl, IfSome, subst, arith}
+use Rattle.std.proofs.Common.{◌≡◌, ◌∙◌, ℕ, List, Ok, length, subst}
 use Rattle.std.specs.Io.KnownBytes.{Appends}
 use Rattle.ill_schema.specs.Profiles.{profile_of}
 use Rattle.ill_read.specs.Answers.{IsNormalIn, ReadsNextIn}
 use Rattle.ill_read.specs.code.OctetDrafts.{AreNormal}
-use Rattle.ill_read.specs.code.Usual.{IsNormalFormOf}
 use Rattle.ill_read.specs.code.ReaderCode.{IsReadOf}
 use Rattle.ill_read.specs.declared.normal.NormalForm.{NormalForm}
 use Rattle.ill_read.proofs.NextRead.{reads_as, reads_fails, reads_none}
-use Rattle.ill_read.proofs.UsualMessages.{fewer_shown, fewer_unfinished, front_taken, reads_broken, reads_whole, short_enough}
 use Rattle.ill_read.proofs.normal.NormalReader.read_any.Goals as goal
 
 pub read_draft-requires : goal.read_draft-requires

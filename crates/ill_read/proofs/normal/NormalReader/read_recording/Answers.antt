@@ -1,4 +1,4 @@
-use Rattle.std.proofs.Common.{◌≡◌, ◌≤◌, ℕ, List, length, length-take, take, refl, IfSome, subst, arith}
+use Rattle.std.proofs.Common.{◌≤◌, ℕ, List, length, length-take, take, refl, IfSome, subst, arith}
 use Rattle.std.specs.Io.KnownBytes.{Appends}
 use Rattle.ill_schema.specs.Profiles.{profile_of}
 use Rattle.ill_read.specs.Answers.{IsNormalIn}

@@ -1,4 +1,4 @@
-use Rattle.std.proofs.Common.{◌+◌, ◌<◌, ◌≤◌, length, sym, subst, arith}
+use Rattle.std.proofs.Common.{sym, subst, arith}
 use Rattle.ill_grammar.specs.code.Spots.{IsUsualDue, spot_next}
 use Rattle.ill_read.proofs.UsualWrites.{one_octet, two_octets}
 use Rattle.ill_read.proofs.usual.header.begin.Goals as goal

@@ -1,4 +1,4 @@
-use Rattle.std.proofs.Common.{◌≡◌, ◌<◌, ◌≤◌, ◌∷◌, [], get_or, length, refl, sym, subst, arith}
+use Rattle.std.proofs.Common.{get_or, sym, subst, arith}
 use Rattle.ber_tree.specs.Length.{IsLength}
 use Rattle.ber_tree.specs.Length as lengths
 use Rattle.ill_read.proofs.UsualWrites.{one_octet}

@@ -1,4 +1,4 @@
-use Rattle.std.proofs.Common.{◌≡◌, ◌∙◌, ◌+◌, None, false, is_some, length, refl, sym}
+use Rattle.std.proofs.Common.{◌≡◌, ◌∙◌, ◌+◌, None, length, refl, sym}
 use Rattle.ber_leaf.specs.Leaf.{content_fault}
 use Rattle.ber_leaf.specs.Profile.{profile_two}
 use Rattle.ill_grammar.specs.LeafTypes.{leaf_is}

@@ -1,4 +1,4 @@
-use Rattle.std.proofs.Common.{◌≡◌, ◌∙◌, ◌≤◌, ◌∷◌, ◌++◌, [], ℕ, length, refl, sym, subst, arith}
+use Rattle.std.proofs.Common.{◌≡◌, ◌∙◌, ◌∷◌, ◌++◌, [], length, refl, sym, arith}
 use Rattle.ber_leaf.specs.Leaf.{boolean, normal_content, value}
 use Rattle.ber_tree.proofs.Octets.{octets_fit}
 use Rattle.ber_tree.specs.Length.{shortest_length}

@@ -1,4 +1,4 @@
-use Rattle.std.proofs.Common.{◌≡◌, ◌∙◌, ◌∷◌, ◌++◌, [], ◌≤◌, ℕ, length, refl, sym, ap, subst, arith}
+use Rattle.std.proofs.Common.{◌≡◌, ◌∙◌, ◌∷◌, ◌++◌, length, refl, sym, ap, arith}
 use Rattle.ber_tree.proofs.Octets.{octets_fit}
 use Rattle.ber_tree.specs.Length.{shortest_length}
 use Rattle.ill_tables.specs.declared.profile.Profile.TheVariants.{Two}

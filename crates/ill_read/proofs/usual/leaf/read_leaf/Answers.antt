@@ -1,4 +1,4 @@
-use Rattle.std.proofs.Common.{◌≡◌, ◌+◌, ◌-◌, ◌≤◌, ◌<◌, ℕ, subst, arith}
+use Rattle.std.proofs.Common.{◌≡◌, ◌+◌, ◌-◌, ◌≤◌, subst, arith}
 use Rattle.std.specs.List.{between}
 use Rattle.ber_tree.specs.Length.{IsLength}
 use Rattle.ill_read.proofs.UsualReads.{leaf_step}

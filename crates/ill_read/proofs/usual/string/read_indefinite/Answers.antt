@@ -1,5 +1,4 @@
-use Rattle.std.proofs.Common.{◌≡◌, ◌∙◌, ◌+◌, ◌-◌, ◌≤◌, ◌<◌, ◌∷◌, [], ℕ, false, ap, subst, arith}
-use Rattle.std.specs.List.{between}
+use Rattle.std.proofs.Common.{◌∙◌, ◌+◌, ◌-◌, ◌∷◌, [], false, ap, subst, arith}
 use Rattle.ill_grammar.specs.code.Spots.{IsOfKind, is_constructed, spot_next}
 use Rattle.ill_read.proofs.UsualReads.{marks_at, open_step}
 use Rattle.ill_read.proofs.UsualWrites.{one_octet}

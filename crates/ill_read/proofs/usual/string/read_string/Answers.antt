@@ -1,8 +1,8 @@
-use Rattle.std.proofs.Common.{◌≡◌, ◌∙◌, ◌+◌, ◌-◌, ◌≤◌, ◌<◌, ◌++◌, ◌∷◌, [], ℕ, List, get_or, length, refl, sym, ap, ap₂, subst, arith, inl, inr}
+use Rattle.std.proofs.Common.{◌≡◌, ◌∙◌, ◌+◌, ◌-◌, ◌≤◌, ◌++◌, ◌∷◌, get_or, length, refl, sym, ap, ap₂, subst, arith, inl, inr}
 use Rattle.std.specs.List.{between}
 use Rattle.std.proofs.lemmas.List.Edits.{length-between}
 use Rattle.ber_tree.specs.Length.{IsLength, shortest_length}
-use Rattle.ill_read.specs.code.Usual.{HasAll, IsStringType, Puts}
+use Rattle.ill_read.specs.code.Usual.{HasAll, IsStringType}
 use Rattle.ill_read.proofs.UsualElements.{string_all, string_octet}
 use Rattle.ill_read.proofs.UsualWrites.{between_split, one_octet, puts_as, puts_then}
 use Rattle.ill_read.proofs.usual.string.read_string.Goals as goal

@@ -1,11 +1,9 @@
-use Rattle.std.proofs.Common.{◌≡◌, ◌∙◌, ◌+◌, ◌-◌, ◌≤◌, ◌<◌, ℕ, true, length, sym, ap, subst, arith}
+use Rattle.std.proofs.Common.{◌≡◌, ◌∙◌, ◌+◌, ◌-◌, ◌≤◌, true, length, sym, ap, subst, arith}
 use Rattle.std.specs.List.{between}
 use Rattle.std.proofs.lemmas.List.Edits.{length-between}
 use Rattle.ber_tree.specs.Length.{IsLength}
-use Rattle.ill_tables.specs.declared.profile.Profile.{Profile as Named}
 use Rattle.ill_grammar.specs.code.Spots.{IsOfKind, is_constructed, spot_next}
-use Rattle.ill_read.specs.code.Usual.{HasAll, IsContentsRead}
-use Rattle.ill_read.specs.declared.usual.input.Reach.{Reach}
+use Rattle.ill_read.specs.code.Usual.{HasAll}
 use Rattle.ill_read.proofs.UsualReads.{marks_at, open_step}
 use Rattle.ill_read.proofs.usual.string.read_wrapped.Goals as goal
 

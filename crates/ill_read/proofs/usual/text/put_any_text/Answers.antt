@@ -1,7 +1,4 @@
 use Rattle.std.proofs.Common.{◌∙◌, ap, not, sym}
-use Rattle.ber_leaf.specs.Leaf.{content_fault}
-use Rattle.ber_leaf.specs.Profile.{profile_two}
-use Rattle.ill_grammar.specs.LeafTypes.{leaf_is}
 use Rattle.ill_read.proofs.UsualTexts.{nothing, right_in}
 use Rattle.ill_read.proofs.usual.text.put_any_text.Goals as goal
 

@@ -1,4 +1,4 @@
-use Rattle.std.proofs.Common.{◌≡◌, ◌+◌, ◌<◌, IsTrue, get_or, sym, refl, arith}
+use Rattle.std.proofs.Common.{◌+◌, sym, refl}
 use Rattle.std.specs.List.{between}
 use Rattle.ber_tree.proofs.Octets.{octets_fit}
 use Rattle.ill_read.proofs.UsualTexts.{graphic_text, right_in}

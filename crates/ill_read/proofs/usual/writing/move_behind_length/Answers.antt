@@ -1,6 +1,5 @@
-use Rattle.std.proofs.Common.{◌≡◌, ◌∙◌, ◌+◌, ◌-◌, ◌≤◌, ◌++◌, length, take, drop, sym, ap, ap₂, subst, arith, length-drop}
+use Rattle.std.proofs.Common.{◌≡◌, ◌∙◌, ◌+◌, ◌-◌, ◌++◌, length, take, drop, sym, ap, ap₂, subst, arith, length-drop}
 use Rattle.std.proofs.lemmas.List.{take_rest}
-use Rattle.std.specs.List.{between}
 use Rattle.ber_tree.specs.Length.{shortest_length}
 use Rattle.ill_read.specs.code.Usual.{Puts}
 use Rattle.ill_read.proofs.UsualWrites.{between_split}
