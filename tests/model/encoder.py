@@ -172,3 +172,32 @@ class Speller(Writer):
 
     def writes_bare(self):
         return self.chance.random() < 0.4
+
+
+class UsualSpeller(Speller):
+    """Any spelling in usual elements alone: strings in one piece, and no bare wrapper. `is_usual` tells whether the value had no other part."""
+
+    OTHERS = {"Any", "BitString", "Null", "ObjectDescriptor", "ObjectIdentifier", "OctetString"}
+
+    def __init__(self, chance):
+        super().__init__(chance)
+        self.is_usual = True
+
+    def text(self, tag, octets):
+        return self.element(tag, False, octets)
+
+    def writes_bare(self):
+        return False
+
+    def value(self, node, value, tag):
+        self.is_usual = self.is_usual and node not in self.OTHERS
+        return super().value(node, value, tag)
+
+
+def spelled_usually(chance, root, random_value):
+    """A random value of the root, and a spelling of it in usual elements alone."""
+    while True:
+        value, speller = random_value(chance, root), UsualSpeller(chance)
+        octets = speller.value(root, value, None)
+        if speller.is_usual:
+            return value, octets

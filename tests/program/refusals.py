@@ -1,5 +1,6 @@
 #!/usr/bin/env python3
 """Spelled APDUs are changed at random, and `illcanon check` has to refuse each at the offset and for the cause that the judge of judge.py gives.
+Every second one is spelled in usual elements alone.
 
 Needs the program built. Usage: refusals.py [SEED [COUNT [PROFILE]]], PROFILE being `2`, the default, or `module`. Prints the seed, with which a
 run is made again.
@@ -12,7 +13,7 @@ from pathlib import Path
 
 sys.path.insert(0, str(Path(__file__).resolve().parents[1]))
 
-from model.encoder import Speller
+from model.encoder import Speller, spelled_usually
 from model.judge import Judge, Refused
 from model.tables import PROGRAM, ROOTS, Tree, profile_and_words, random_value, seed_and_count
 
@@ -79,8 +80,10 @@ def changed(chance, octets):
     return bytes(octets)
 
 
-def misspelled(chance, root, profile):
+def misspelled(chance, root, profile, usually):
     """An APDU that is spelled and then changed, or that is not spelled well to begin with."""
+    if usually:
+        return changed(chance, spelled_usually(chance, root, random_value)[1])
     apdu = random_value(chance, root)
     if profile == "module" and chance.random() < 0.5:
         return Misspeller(chance).value(root, apdu, None)
@@ -93,8 +96,8 @@ def main():
     root = ROOTS[profile]
     chance = random.Random(seed)
     causes, wrong = Counter(), 0
-    for _ in range(count):
-        octets = misspelled(chance, root, profile)
+    for number in range(count):
+        octets = misspelled(chance, root, profile, number % 2 == 1)
         line = wanted(octets, profile)
         causes[line.split()[7] if line else "none"] += 1
         done = subprocess.run([PROGRAM, "check", *words, "-"], input=octets, capture_output=True)

@@ -104,8 +104,8 @@ pub(super) fn close(out: &mut [u8], written: Written) -> Option<usize>
     move_behind_length(out, written.length_at, written.start, size)
 }
 
-/// Does the same where the length takes another number of octets than were left for it, or more than one. The contents are so many octets
-/// from `from` on.
+/// Does the same where the length takes another number of octets than were left for it, or more than one. The contents are `size` octets from
+/// the offset `from` on.
 #[inline(never)]
 fn move_behind_length(out: &mut [u8], length_at: usize, from: usize, size: usize) -> Option<usize>
     requires order { length_at ≤ from }
@@ -125,7 +125,7 @@ fn move_behind_length(out: &mut [u8], length_at: usize, from: usize, size: usize
     Some(start + size)
 }
 
-/// Moves contents of so many octets to another offset.
+/// Moves contents of `size` octets from one offset to another.
 #[inline(always)]
 fn move_to(out: &mut [u8], from: usize, size: usize, to: usize)
     requires room { (from + size ≤ length out.old) × (to + size ≤ length out.old) }
