@@ -9,19 +9,19 @@ use Rattle.ill_c.proofs.front.read_front.Goals as goal
 pub returns-in-Ok-None : goal.returns-in-Ok-None
 returns-in-Ok-None c =
     let p = profile_of c.args.profile in
-    let h = rw c.in-Ok-None.field-0-is at c.in-Ok-None.ensures.next in
-    let part = none_part c.args.profile c.new-source.result c.read.new.source h.none.0 h.none.1 in
+    let h = rw c.in-Ok-None.field-0-is at c.in-Ok-None.ensures in
+    let part = none_part c.args.profile c.new-source.result c.read_normal.new.source h.none.0 h.none.1 in
     subst (IsPartIn p) c.new-source.ensures part
 
 pub returns-in-Truncated : goal.returns-in-Truncated
 returns-in-Truncated c =
     let p = profile_of c.args.profile in
-    let h = rw c.in-Err-Refused.field-0-is at c.in-Err-Refused.ensures.next in
+    let h = rw c.in-Err-Refused.field-0-is at c.in-Err-Refused.ensures in
     let part = truncated_part c.args.profile c.new-source.result c.in-Err-Refused.it h.refused.1 c.in-Truncated.is in
     subst (IsPartIn p) c.new-source.ensures part
 
-pub returns-in-Err-Refused : goal.returns-in-Err-Refused
-returns-in-Err-Refused c =
-    let h = rw c.in-Err-Refused.field-0-is at c.in-Err-Refused.ensures.next in
+pub returns-in_default : goal.returns-in_default
+returns-in_default c =
+    let h = rw c.in-Err-Refused.field-0-is at c.in-Err-Refused.ensures in
     let fault = fault_of c.in-Err-Refused.it in
     (subst (λ s. OnlyRefuses (profile_of c.args.profile) s fault) c.new-source.ensures h.refused.1, c.in_default.not-Truncated)
