@@ -1,7 +1,8 @@
 #!/usr/bin/env python3
-"""Instructions an octet, for messages of a megabyte beside messages of a kilobyte: lists of the smallest items of each kind.
+"""Instructions an octet, for large messages beside smaller ones that are read the same way: lists of the smallest items of each kind.
 
-Prints how many times as many a large message takes, by callgrind, without the start of the program, and fails where that is more than RATE.
+Those that are at hand whole have a kilobyte and eight, others 200,000 octets and a megabyte. Prints how many times as many a large message takes,
+by callgrind, without the start of the program, and fails where that is more than RATE.
 Needs the program built, and valgrind. Usage: linear.py [all]: the least item of each list, or all small items of each, which takes long.
 """
 import re
@@ -13,9 +14,11 @@ from pathlib import Path
 sys.path.insert(0, str(Path(__file__).resolve().parents[1]))
 
 from model.tables import PROGRAM
-from worst import lists
+from worst import LIMIT, lists
 
 RATE = 1.5
+# The sizes of the smaller and the larger messages, and how many of the larger ones are read.
+SIZES = (1_024, 8_000, 64), (200_000, LIMIT, 1)
 
 
 def instructions(command, octets, folder):
@@ -28,13 +31,14 @@ def instructions(command, octets, folder):
 
 
 def pairs():
-    """A small and a large message of each kind, with the title of the large one."""
-    before = None
-    for (_, small, _), (title, large, _) in zip(lists(1024), lists()):
-        node = title.split()[0]
-        if node != before or "all" in sys.argv:
-            yield small, large, title
-        before = node
+    """Small and large messages of each kind, of as many octets, with the title of a large one."""
+    for less, more, count in SIZES:
+        before = None
+        for (_, small, _), (title, large, _) in zip(lists(less), lists(more)):
+            node = title.split()[0]
+            if node != before or "all" in sys.argv:
+                yield small * (count * len(large) // len(small)), large * count, title
+            before = node
 
 
 def main():
@@ -44,9 +48,8 @@ def main():
         for command in ("check", "show", "canonicalise"):
             start = instructions(command, b"", folder)
             for small, large, title in pairs():
-                many = small * (len(large) // len(small))
-                one = (instructions(command, large, folder) - start) / len(large)
-                rate = one / ((instructions(command, many, folder) - start) / len(many))
+                one, other = ((instructions(command, octets, folder) - start) / len(octets) for octets in (large, small))
+                rate = one / other
                 slow += rate > RATE
                 print(f"{rate:.2f} {command:12} {title}{'  FAILED' if rate > RATE else ''}")
     sys.exit(1 if slow else 0)
