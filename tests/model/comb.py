@@ -4,12 +4,13 @@
 
 The tables are one comb: the entry of an element lies at the offset of its spot plus the key of its identifier, between those of other spots,
 and says whose it is. `rt check` proves each entry, so that a wrong one is refused there."""
+import re
 import sys
-from pathlib import Path
 
 from .tables import ALL_LISTS, ALL_ROWS, CHOICES, ROOTS, TOP
 
 CRATE = TOP / "crates/ill_grammar"
+LEVELS = TOP / "crates/ill_read/src/usual/level.rt"
 CLASSES = {"universal": 0, "application": 1, "context": 2}
 # the kinds of leaves, and the numbers of their universal tags
 KINDS = {
@@ -96,6 +97,17 @@ def reached():
     return {spot: due(spot) for spot in spots}
 
 
+def most_levels(spots):
+    """The number of constructed elements that are open at once in the deepest usual message."""
+    most, before = dict.fromkeys(spots, 0), None
+    while most != before:
+        before = dict(most)
+        for spot, (elements, _) in spots.items():
+            for _, kind, first, after, _ in elements:
+                most[spot] = max(most[spot], most[after], 1 + most[first] if kind == "Constructed" else 0)
+    return max(most.values())
+
+
 def lay(spots):
     """The offsets of the spots, those where an element may end last, and the first of these."""
     offsets, taken = {}, set()
@@ -143,11 +155,11 @@ def entries_file(spots, offsets, start):
         "    () => { e!(65535, 0, 0, Constructed, 255) };",
         "    ($spot:literal, $after:literal, $first:literal, $kind:ident, $default:literal) => {",
         "        SpotEntry {",
-        "            spot: $spot,",
         "            after: $after,",
         "            first: $first,",
         "            kind: UsualKind::$kind,",
         "            default: $default,",
+        "            spot: $spot,",
         "        }",
         "    };",
         "}",
@@ -228,6 +240,9 @@ def main():
             path.write_text(text)
         elif path.read_text() != text:
             sys.exit(f"{path.relative_to(TOP)}: not what comb.py writes")
+    levels = re.search(r"MAX_LEVELS: usize = (\d+);", LEVELS.read_text())[1]
+    if int(levels) != most_levels(spots):
+        sys.exit(f"{LEVELS.relative_to(TOP)}: MAX_LEVELS is not {most_levels(spots)}")
     elements = sum(len(elements) for elements, _ in spots.values())
     print(f"{len(spots)} spots, {elements} entries, {max(offsets.values()) + 1} offsets")
 

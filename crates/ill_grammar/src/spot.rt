@@ -28,13 +28,13 @@ pub enum UsualKind {
 /// A usual element that is due at a spot, as it lies between those of other spots.
 #[derive(Clone, Copy)]
 pub struct SpotEntry {
-    /// The offset of the spot; 65535 where the entry is nobody's.
-    pub spot: u16,
     pub after: u16,
     pub first: u16,
     pub kind: UsualKind,
     /// The number of its row's default, or [`NO_DEFAULT`].
     pub default: u8,
+    /// The offset of the spot; 65535 where the entry is nobody's.
+    pub spot: u16,
 }
 
 /// A place where usual elements begin. Its entries lie from an offset on.
@@ -47,11 +47,11 @@ pub struct Spot {
 /// A usual element that is due.
 #[derive(Clone, Copy, Debug, PartialEq, Eq)]
 pub struct UsualElement {
-    pub kind: UsualKind,
     /// The spot after it.
     pub after: Spot,
     /// The spot in it, once it is open; of a leaf, and of a string in its tag, any spot.
     pub first: Spot,
+    pub kind: UsualKind,
     /// The number of its row's default, or [`NO_DEFAULT`].
     pub default: u8,
 }

@@ -16,11 +16,11 @@ macro_rules! e {
     () => { e!(65535, 0, 0, Constructed, 255) };
     ($spot:literal, $after:literal, $first:literal, $kind:ident, $default:literal) => {
         SpotEntry {
-            spot: $spot,
             after: $after,
             first: $first,
             kind: UsualKind::$kind,
             default: $default,
+            spot: $spot,
         }
     };
 }

@@ -19,12 +19,13 @@ use Rattle.ill_grammar.specs.declared.element.Element.{Element as CodeElement}
 use Rattle.ill_grammar.specs.declared.element.Element.TheVariants.{Wrapper}
 use Rattle.ill_grammar.specs.declared.spot.UsualKind.TheVariants as kind
 use Rattle.ill_read.specs.code.Usual.{EndsAt, HasAll, HasRead, IsElementRead, IsHeaded, IsNormalFormOf, IsSized, IsStep, Puts, mark_of}
-use Rattle.ill_read.specs.code.UsualLevels.{IsIn, IsReading, IsRound, OpensIn}
+use Rattle.ill_read.specs.code.UsualLevels.{IsIn, IsReading, IsRound, OpensIn, level_after}
 use Rattle.ill_read.specs.declared.usual.header.Header.{Header}
 use Rattle.ill_read.specs.declared.usual.input.Input.{Input}
 use Rattle.ill_read.specs.declared.usual.input.Reach.{Reach}
 use Rattle.ill_read.specs.declared.usual.level.Level.{Level}
 use Rattle.ill_read.specs.declared.usual.level.Standing.{Standing}
+use Rattle.ill_read.specs.declared.usual.writing.TheConstants.{FREE_LEN}
 use Rattle.ill_read.proofs.UsualElements.{all_there, message_read, none_read, top_first}
 use Rattle.ill_read.proofs.UsualReads.{marks_at, open_step}
 use Rattle.ill_read.proofs.UsualWrites.{between_kept, between_split, kept_before, puts_kept}
@@ -107,14 +108,14 @@ round_next p input out (o ∷ outer) l l' e k begin es el eb ed r =
     )
 
 -- in levels so few
-deep_enough : (k n : ℕ) → k + n ≡ 32 → n ≤ 10 → 1 < k
+deep_enough : (k n : ℕ) → k + n ≡ 32 → n ≤ 11 → 1 < k
 deep_enough k n deep few = omega (arith, deep, few)
 
 -- an element more was read in the innermost level
 pub element_read : (p : Named) (input inside : Input) (outer : List Level) (at : Standing) (h : Header) (out mid new : List ℕ) (to : Reach) → inside.octets.now ≡ input.octets.now → inside.bound ≡ at.level.bound
-    → length mid ≡ length out → take at.reach.written mid ≡ take at.reach.written out → h.from ≡ at.reach → IsHeaded (spot_next at.level.spot) inside h mid → IsElementRead inside h mid new to → IsReading p input outer at out
-    → IsReading p input outer (record { level = record { spot = h.element.after; is_definite = at.level.is_definite; bound = at.level.bound; length_at = at.level.length_at; start = at.level.start }; reach = to }) new
-element_read p input inside outer at h out mid new to octets bound long before from headed read was =
+    → length mid ≡ length out → take at.reach.written mid ≡ take at.reach.written out → h.from ≡ at.reach → IsHeaded (spot_next at.level.spot) inside h mid → IsElementRead inside h mid new to → to.written + FREE_LEN ≤ length new → IsReading p input outer at out
+    → IsReading p input outer (record { level = level_after at.level h.element.after; reach = to }) new
+element_read p input inside outer at h out mid new to octets bound long before from headed read free was =
     let r = reading_kept p input outer at out mid long before was in
     let got = read (spot_next at.level.spot) headed in
     let step : IsStep p (spot_next at.level.spot) (spot_next h.element.after) r.levels input.octets.now mid new at.reach to =
@@ -126,7 +127,7 @@ element_read p input inside outer at h out mid new to octets bound long before f
       begin = r.begin;
       read = step_read p r.element _ _ r.levels r.begin at.level.start input.octets.now mid new at.reach to r.taken.0 r.written.1 step r.read;
       taken = (omega (arith, r.taken, step.taken), omega (arith, got.0, bound), r.taken.2);
-      written = (r.written.0, omega (arith, r.written, step.put.forward), step.put.forward.1);
+      written = (r.written.0, omega (arith, r.written, step.put.forward), free);
       deep = r.deep;
       round = round_next p input new (reverse outer) at.level _ r.element r.levels r.begin refl refl refl refl
           (round_kept p input mid new (reverse outer) at.level r.element r.levels r.begin (kept_before mid new at.level.start at.reach.written r.written.1 step.put.before) r.round);
@@ -141,13 +142,13 @@ element_taken inside at h mid new to from headed read =
     (omega (arith, step.taken, from_taken), got.0)
 
 -- a constructed element opened in the innermost level
-pub element_opened : (p : Named) (input inside : Input) (outer : List Level) (at to : Standing) (h : Header) (out mid : List ℕ) → inside.octets.now ≡ input.octets.now → inside.bound ≡ at.level.bound → length outer < 10
+pub element_opened : (p : Named) (input inside : Input) (outer : List Level) (at to : Standing) (h : Header) (out mid : List ℕ) → inside.octets.now ≡ input.octets.now → inside.bound ≡ at.level.bound → length outer < 11
     → length mid ≡ length out → take at.reach.written mid ≡ take at.reach.written out → h.from ≡ at.reach → IsHeaded (spot_next at.level.spot) inside h mid → (h.from.taken < h.length.taken) × (h.from.written < h.length.written)
     → h.element.kind ≡ kind.Constructed → OpensIn inside h mid to → IsReading p input outer at out
-    → IsReading p input (outer ++ record { spot = h.element.after; is_definite = at.level.is_definite; bound = at.level.bound; length_at = at.level.length_at; start = at.level.start } ∷ []) to mid
+    → IsReading p input (outer ++ level_after at.level h.element.after ∷ []) to mid
 element_opened p input inside outer at to h out mid octets bound few long before from headed order constructed opens was =
     let r = reading_kept p input outer at out mid long before was in
-    let level : Level = record { spot = h.element.after; is_definite = at.level.is_definite; bound = at.level.bound; length_at = at.level.length_at; start = at.level.start } in
+    let level = level_after at.level h.element.after in
     let due = subst (λ x. IsUsualDue (between h.from.taken h.length.taken x) (spot_next at.level.spot) h.element) octets headed.0 in
     let e = due.element in
     let k = r.levels - 1 in
@@ -204,14 +205,14 @@ sized_ended false octets os begin at bound ends le few sized = sized
 pub level_ended : (p : Named) (input : Input) (outer : List Level) (level : Level) (at : Standing) (out new : List ℕ) (to : Reach) → EndsAt at.level.is_definite input.octets.now at.reach.taken at.level.bound
     → missing profile_two (next_is (spot_next at.level.spot)) ≡ None → is_either (spot_next at.level.spot) ≡ false → to.taken ≡ at.reach.taken + length (mark_of at.level.is_definite)
     → Puts out new at.level.length_at to.written (shortest_length (at.reach.written - at.level.start) ++ between at.level.start at.reach.written out)
-    → IsReading p input (outer ++ level ∷ []) at out → IsReading p input outer (record { level = level; reach = to }) new
-level_ended p input outer level at out new to ends complete sequence taken put was =
+    → to.written + FREE_LEN ≤ length new → IsReading p input (outer ++ level ∷ []) at out → IsReading p input outer (record { level = level; reach = to }) new
+level_ended p input outer level at out new to ends complete sequence taken put free was =
     let octets = input.octets.now in
     let round : IsRound p input out (level ∷ reverse outer) at.level was.element was.levels was.begin = subst (λ xs. IsRound p input out xs at.level was.element was.levels was.begin) (reverse-append outer (level ∷ [])) was.round in
     let i = round.0 in
     let h = i.header in
     let k = was.levels in
-    let few : length outer < 10 = omega (arith, was.deep, length-append outer (level ∷ [])) in
+    let few : length outer < 11 = omega (arith, was.deep, length-append outer (level ∷ [])) in
     let deep : k + (length outer + 1) ≡ 32 = omega (arith, was.deep, length-append outer (level ∷ [])) in
     let whole = all_there p was.element (spot_next at.level.spot) k _ _ was.read complete sequence in
     let all : HasAll p i.headed.0.element (suc k - 1) (between was.begin at.reach.taken octets) (between at.level.start at.reach.written out) =
@@ -222,7 +223,7 @@ level_ended p input outer level at out new to ends complete sequence taken put w
     let at_length = subst (λ n. Puts out new n to.written (shortest_length (at.reach.written - at.level.start) ++ between at.level.start at.reach.written out)) (sym i.written.2) put in
     let step = open_step p octets out out new h i.next at.level.is_definite (suc k) was.begin at.reach.taken to.taken at.level.start at.reach.written to.written i.headed.0 i.headed.1
     (i.taken.1, i.taken.2, was.taken.0, omega (arith, taken)) (i.written.1, omega (arith, i.written), was.written.1) (omega (arith, deep, few)) i.opens
-    (puts_kept out at.level.start at.reach.written was.written.1 was.written.2) at_length all
+    (puts_kept out at.level.start at.reach.written was.written.1 (omega (arith, was.written.2))) at_length all
     (sized_ended at.level.is_definite octets _ was.begin at.reach.taken at.level.bound ends was.taken.0 known i.sized)
     (marks_at at.level.is_definite octets at.reach.taken at.level.bound ends to.taken taken) in
     record {
@@ -232,14 +233,14 @@ level_ended p input outer level at out new to ends complete sequence taken put w
       read = subst (λ n. HasRead p i.round n (suc k) (between i.round_begin to.taken octets) (between level.start to.written new)) i.after
           (step_read p i.round i.next (spot_next h.element.after) (suc k) i.round_begin level.start octets out new h.from to i.taken.0 i.written.0 step i.read);
       taken = (omega (arith, i.taken, was.taken, taken), omega (arith, taken, within, i.bound), i.bound.1);
-      written = (i.ordered, omega (arith, i.written, put.forward), put.forward.1);
+      written = (i.ordered, omega (arith, i.written, put.forward), free);
       deep = (omega (arith, deep), omega (arith, few));
       round = round_kept p input out new (reverse outer) level i.round (suc k) i.round_begin (kept_before out new level.start at.level.length_at (omega (arith, i.written)) put.before) round.1;
     }
 
 -- nothing is read of a message yet
-pub message_begins : (p : Named) (input : Input) (at : Standing) (out : List ℕ) → spot_next at.level.spot ≡ next_at_top p → at.level.start ≡ 0 → at.level.length_at ≡ 0 → at.reach.taken ≡ 0 → at.reach.written ≡ 0 → at.level.bound ≤ input.bound → IsReading p input [] at out
-message_begins p input at out top start length_at taken written bound = record {
+pub message_begins : (p : Named) (input : Input) (at : Standing) (out : List ℕ) → spot_next at.level.spot ≡ next_at_top p → at.level.start ≡ 0 → at.level.length_at ≡ 0 → at.reach.taken ≡ 0 → at.reach.written ≡ 0 → at.level.bound ≤ input.bound → FREE_LEN ≤ length out → IsReading p input [] at out
+message_begins p input at out top start length_at taken written bound free = record {
   element = Wrapper (top_part p);
   levels = 32;
   begin = 0;
@@ -247,7 +248,7 @@ message_begins p input at out top start length_at taken written bound = record {
       (subst (λ n. HasRead p (Wrapper (top_part p)) (spot_next at.level.spot) 32 [] (between n at.reach.written out)) (sym start)
       (subst (λ n. HasRead p (Wrapper (top_part p)) (spot_next at.level.spot) 32 [] (between 0 n out)) (sym written) (none_read p (Wrapper (top_part p)) (spot_next at.level.spot) 32 (top ∙ top_first p) refl)));
   taken = (omega (arith, taken), omega (arith, taken), bound);
-  written = (omega (arith, start, length_at), omega (arith, start, written), omega (arith, written));
+  written = (omega (arith, start, length_at), omega (arith, start, written), omega (arith, written, free));
   deep = (refl, omega arith);
   round = (refl, refl, start);
 }
@@ -266,5 +267,5 @@ message_ends p input at out complete sequence few r =
     let whole = subst (λ n. HasRead p (Wrapper (top_part p)) (spot_next at.level.spot) 32 b (between n at.reach.written out)) r.round.2 front in
     let all = all_there p (Wrapper (top_part p)) (spot_next at.level.spot) 32 b w whole complete sequence in
     let short : length b ≤ 1_048_576 = omega (arith, r.taken, input.few, length-between octets 0 at.reach.taken (omega (arith, r.taken, input.within))) in
-    let normal : length w ≤ 1_048_576 = omega (arith, few, length-between out 0 at.reach.written r.written.2) in
+    let normal : length w ≤ 1_048_576 = omega (arith, few, length-between out 0 at.reach.written (omega (arith, r.written.2))) in
     subst (λ x. IsNormalFormOf (profile_of p) x (take at.reach.taken octets)) (between_from_start out at.reach.written) (subst (IsNormalFormOf (profile_of p) w) (between_from_start octets at.reach.taken) (message_read p b w all short normal))

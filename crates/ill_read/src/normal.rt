@@ -126,8 +126,10 @@ impl NormalReader {
                 Err(Broken) => Err(ReadFailure::ReadFault),
             };
         }
-        // The next message may be a usual one that is longer than this window.
-        self.window_len = self.window_len.saturating_mul(8).min(MAX_WINDOW_LEN);
+        // It may be a usual one that is longer than the window.
+        if window.len() < hand.len() {
+            self.window_len = self.window_len.saturating_mul(8).min(MAX_WINDOW_LEN);
+        }
         self.read_any(profile, source, buffer, recorded)
     }
 

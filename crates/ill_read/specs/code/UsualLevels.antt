@@ -7,17 +7,19 @@ use Rattle.ill_grammar.specs.code.Spots.{is_constructed, spot_next}
 use Rattle.ill_grammar.specs.declared.due.Next.{Next}
 use Rattle.ill_grammar.specs.declared.element.Element.{Element as CodeElement}
 use Rattle.ill_grammar.specs.declared.element.Element.TheVariants.{Wrapper}
+use Rattle.ill_grammar.specs.declared.spot.Spot.{Spot}
 use Rattle.ill_read.specs.code.Usual.{HasRead, IsHeaded, IsSized}
 use Rattle.ill_read.specs.declared.usual.header.Header.{Header}
 use Rattle.ill_read.specs.declared.usual.input.Input.{Input}
 use Rattle.ill_read.specs.declared.usual.level.Level.{Level}
 use Rattle.ill_read.specs.declared.usual.level.Standing.{Standing}
+use Rattle.ill_read.specs.declared.usual.writing.TheConstants.{FREE_LEN}
 
 -- an element opens behind its header
 pub record OpensIn (input : Input) (h : Header) (out : List ℕ) (to : Standing) : Type 0 where
   pub spot : to.level.spot ≡ h.element.first
   pub taken : (h.length.taken < to.reach.taken) × (to.reach.taken ≤ to.level.bound) × (to.level.bound ≤ input.bound)
-  pub written : (to.level.length_at ≡ h.length.written) × (h.length.written < to.level.start) × (to.reach.written ≡ to.level.start) × (to.level.start ≤ length out)
+  pub written : (to.level.length_at ≡ h.length.written) × (h.length.written < to.level.start) × (to.reach.written ≡ to.level.start) × (to.level.start + FREE_LEN ≤ length out)
   pub sized : IsSized to.level.is_definite (to.level.bound - to.reach.taken) (between h.length.taken to.reach.taken input.octets.now)
 
 -- an element whose contents begin at an offset is open in another, of which all before its header was read
@@ -49,9 +51,13 @@ pub record IsReading (p : Named) (input : Input) (outer : List Level) (at : Stan
   pub begin : ℕ
   pub read : HasRead p element (spot_next at.level.spot) levels (between begin at.reach.taken input.octets.now) (between at.level.start at.reach.written out)
   pub taken : (begin ≤ at.reach.taken) × (at.reach.taken ≤ at.level.bound) × (at.level.bound ≤ input.bound)
-  pub written : (at.level.length_at ≤ at.level.start) × (at.level.start ≤ at.reach.written) × (at.reach.written ≤ length out)
-  pub deep : (levels + length outer ≡ 32) × (length outer ≤ 10)
+  pub written : (at.level.length_at ≤ at.level.start) × (at.level.start ≤ at.reach.written) × (at.reach.written + FREE_LEN ≤ length out)
+  pub deep : (levels + length outer ≡ 32) × (length outer ≤ 11)
   pub round : IsRound p input out (reverse outer) at.level element levels begin
+
+-- a level behind an element that was read in it
+abbrev pub level_after : Level → Spot → Level
+level_after l spot = record { spot = spot; is_definite = l.is_definite; bound = l.bound; length_at = l.length_at; start = l.start }
 
 -- what is left to read: two for each octet, and one for each level that ends
 abbrev pub to_read : Input → List Level → Standing → ℕ

@@ -6,7 +6,7 @@ ghost use Rattle.ill_grammar.specs.code.Spots.{IsUsualDue, spot_next};
 ghost use Rattle.ill_read.specs.code.Usual.{EndsAt, IsHeaded, IsOrdered};
 
 use super::input::{Input, Reach};
-use super::writing::{copy_two, has_room};
+use super::writing::{FREE_LEN, copy_two};
 use ber_core::{Len, LengthRead, length_after};
 use ill_grammar::{Spot, UsualElement};
 
@@ -66,7 +66,8 @@ pub(super) fn read_identifier(
     spot: Spot,
     out: &mut [u8],
 ) -> Option<Header>
-    requires within { (from.taken ≤ input.bound) × (from.written ≤ length out.old) }
+    requires within { from.taken ≤ input.bound }
+    requires free { from.written + FREE_LEN ≤ length out.old }
     ensures room { length out.new ≡ length out.old }
     ensures before { take from.written out.new ≡ take from.written out.old }
     ensures from { IfSome result (λ h. h.from ≡ from) }
@@ -74,7 +75,7 @@ pub(super) fn read_identifier(
         × IsOrdered h 0 out.new) }
     ensures headed { IfSome result (λ h. IsHeaded (spot_next spot) input.entry h out.new) }
 {
-    if input.bound - from.taken < 2 || !has_room(out, from.written, 0) {
+    if input.bound - from.taken < 2 {
         return None;
     }
     let begun = begin(input, from.taken, spot)?;

@@ -2,6 +2,8 @@
 ghost use Rattle.std.specs.Prelude.{◌≡◌, ◌≤◌, IsTrue, length};
 ghost use Rattle.ber_tree.specs.Octets.{are_octets};
 
+use ill_schema::LIMIT;
+
 /// The octets at hand, and where those of the open element end at the latest.
 #[derive(Clone, Copy)]
 pub(super) struct Input<'a> {
@@ -13,6 +15,17 @@ pub(super) struct Input<'a> {
 }
 
 impl<'a> Input<'a> {
+    /// The octets at hand, of which a message has no more than the limit.
+    #[inline(always)]
+    pub fn front_of(octets: &'a [u8]) -> Input<'a>
+        ensures { result.octets.now ≡ octets.now }
+    {
+        Input {
+            octets,
+            bound: octets.len().min(LIMIT as usize),
+        }
+    }
+
     /// The same octets, up to an earlier bound.
     #[inline(always)]
     pub fn up_to(self, bound: usize) -> Input<'a>

@@ -9,7 +9,7 @@ ghost use Rattle.ill_read.specs.code.Usual.{IsElementRead, IsLeafPut, IsNumberTy
 
 use super::header::{Header, Length, length_at};
 use super::input::{Input, Reach};
-use super::writing::{copy, has_room, put_octet, write_length};
+use super::writing::{FREE_LEN, copy, has_room, put_octet, write_length};
 use ill_grammar::{LeafType, NO_DEFAULT, UsualKind};
 use ill_schema::Profile;
 
@@ -18,6 +18,7 @@ use ill_schema::Profile;
 fn put_flag(header: Header, content: &[u8], out: &mut [u8]) -> Option<usize>
     requires order { IsOrdered header (length content.now) out.old }
     ensures room { length out.new ≡ length out.old }
+    ensures few { IfSome result (λ end. end ≤ header.length.written + length content.now + 9) }
     ensures put { IfSome result (IsLeafPut LeafType.Boolean header content.now
         out.old out.new) }
 {
@@ -37,6 +38,7 @@ fn put_number(header: Header, leaf: LeafType, content: &[u8], out: &mut [u8]) ->
     requires number { IsNumberType leaf }
     requires order { IsOrdered header (length content.now) out.old }
     ensures room { length out.new ≡ length out.old }
+    ensures few { IfSome result (λ end. end ≤ header.length.written + length content.now + 9) }
     ensures put { IfSome result (IsLeafPut leaf header content.now out.old out.new) }
 {
     let [octet] = content else {
@@ -52,6 +54,7 @@ fn put_number(header: Header, leaf: LeafType, content: &[u8], out: &mut [u8]) ->
 #[inline(always)]
 fn put_single(out: &mut [u8], to: usize, octet: u8) -> usize
     requires { to + 2 ≤ length out.old }
+    ensures few { result ≡ to + 2 }
     ensures put { Puts out.old out.new to result (1 ∷ octet ∷ []) }
 {
     put_octet(out, to, 1);
@@ -65,6 +68,7 @@ fn put_other(header: Header, leaf: LeafType, content: &[u8], out: &mut [u8]) -> 
     requires other { leaf ≡ LeafType.Boolean → ⊥ }
     requires order { IsOrdered header (length content.now) out.old }
     ensures room { length out.new ≡ length out.old }
+    ensures few { IfSome result (λ end. end ≤ header.length.written + length content.now + 9) }
     ensures put { IfSome result (IsLeafPut leaf header content.now out.old out.new) }
 {
     if header.element.default != NO_DEFAULT {
@@ -80,6 +84,7 @@ fn put_content(leaf: LeafType, content: &[u8], out: &mut [u8], to: usize) -> Opt
     requires other { leaf ≡ LeafType.Boolean → ⊥ }
     requires room { to + length content.now + 9 ≤ length out.old }
     ensures room { length out.new ≡ length out.old }
+    ensures few { IfSome result (λ end. end ≤ to + length content.now + 9) }
     ensures right { IfSome result (λ end. (p : Named)
         → IsContentIn p (leaf_is leaf) content.now) }
     ensures put { IfSome result (λ end. Puts out.old out.new to end (shortest_length
@@ -99,6 +104,7 @@ fn put_content(leaf: LeafType, content: &[u8], out: &mut [u8], to: usize) -> Opt
 fn put_leaf(header: Header, content: &[u8], out: &mut [u8]) -> Option<usize>
     requires order { IsOrdered header (length content.now) out.old }
     ensures room { length out.new ≡ length out.old }
+    ensures few { IfSome result (λ end. end ≤ header.length.written + length content.now + 9) }
     ensures put { IfSome result (λ end. (l : Leaf) × (kind_leaf header.element.kind ≡ Some l)
         × IsLeafPut l header content.now out.old out.new end) }
 {
@@ -118,6 +124,7 @@ fn put_leaf(header: Header, content: &[u8], out: &mut [u8]) -> Option<usize>
 pub(super) fn read_leaf(input: Input<'_>, header: Header, out: &mut [u8]) -> Option<Reach>
     requires within { (header.length.taken < input.bound) × IsOrdered header 0 out.old }
     ensures room { length out.new ≡ length out.old }
+    ensures free { IfSome result (λ r. r.written + FREE_LEN ≤ length out.new) }
     ensures read { IfSome result (IsElementRead input.entry header out.old out.new) }
 {
     let Length { size, contents } = length_at(input, header.length.taken)?;

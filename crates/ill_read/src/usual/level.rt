@@ -11,11 +11,11 @@ ghost use Rattle.ill_read.specs.code.UsualLevels.{OpensIn};
 
 use super::header::{Header, Length, length_at};
 use super::input::{Input, Reach};
-use super::writing::{Written, close, has_room};
+use super::writing::{FREE_LEN, Written, close, has_room};
 use ill_grammar::Spot;
 use ill_schema::Profile;
 
-/// The number of elements that may be open in a usual message. None of the tables has more.
+/// The number of elements that are open at once in the deepest usual message. A message with more of them is left to the reader.
 pub(super) const MAX_LEVELS: usize = 10;
 
 /// An element that is open, and what may come next in it. The message itself is in a level that has no header.
@@ -25,8 +25,9 @@ pub(super) struct Level {
     pub is_definite: bool,
     /// The offset that its contents don't pass. Those of a definite length end there.
     pub bound: u32,
-    /// Where its length is to stand in the output, before its contents.
+    /// The offset in the output where its length is to stand.
     pub length_at: u32,
+    /// The offset in the output where its contents begin, until their length is known.
     pub start: u32,
 }
 
@@ -83,6 +84,9 @@ pub(super) fn open_level(input: Input<'_>, header: Header, out: &[u8]) -> Option
     let length = header.length;
     let spot = header.element.first;
     if input.octets[length.taken] == 0x80 {
+        if !has_room(out, length.written, 0) {
+            return None;
+        }
         let start = length.written + 1;
         return Some(Standing {
             level: Level {
@@ -123,9 +127,10 @@ pub(super) fn open_level(input: Input<'_>, header: Header, out: &[u8]) -> Option
 pub(super) fn close_level(standing: Standing, out: &mut [u8]) -> Option<Reach>
     requires order { (standing.level.length_at ≤ standing.level.start)
         × (standing.level.start ≤ standing.reach.written) }
-    requires room { standing.reach.written ≤ length out.old }
+    requires free { standing.reach.written + FREE_LEN ≤ length out.old }
     requires taken { standing.reach.taken ≤ 1_048_576 }
     ensures room { length out.new ≡ length out.old }
+    ensures free { IfSome result (λ r. r.written + FREE_LEN ≤ length out.new) }
     ensures complete { IfSome result (λ r. (missing profile_two
         (next_is (spot_next standing.level.spot)) ≡ None)
         × (is_either (spot_next standing.level.spot) ≡ false)) }

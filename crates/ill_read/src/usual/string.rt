@@ -9,7 +9,7 @@ ghost use Rattle.ill_read.specs.code.Usual.{HasAll, IsContentsRead, IsElementRea
 use super::header::{Header, Length, ends_at, length_at};
 use super::input::{Input, Reach};
 use super::text::put_text;
-use super::writing::{Written, close, has_room, put_octet, write_length};
+use super::writing::{FREE_LEN, Written, close, has_room, put_octet, write_length};
 use ill_grammar::LeafType;
 
 /// Reads the one string in the tag of an ILL-String, whose contents begin at the offset.
@@ -17,8 +17,9 @@ use ill_grammar::LeafType;
 fn read_string(input: Input<'_>, from: Reach, is_definite: bool, out: &mut [u8]) -> Option<Reach>
     requires order { (from.taken ≤ input.bound) × (from.written ≤ length out.old) }
     requires room { IsTrue is_definite
-        → from.written + (input.bound - from.taken) + 39 ≤ length out.old }
+        → from.written + (input.bound - from.taken) + 63 ≤ length out.old }
     ensures room { length out.new ≡ length out.old }
+    ensures free { IfSome result (λ r. r.written + FREE_LEN ≤ length out.new) }
     ensures read { IfSome result (IsContentsRead input.entry is_definite from out.old out.new) }
     ensures all { (p : Named) (e : CodeElement) (k : ℕ) → IsStringTag e → 0 < k
         → IfSome result (λ r. HasAll p e k (between from.taken r.taken input.entry.octets.now)
@@ -62,6 +63,7 @@ pub(super) fn read_wrapped(input: Input<'_>, header: Header, out: &mut [u8]) -> 
     requires kind { header.element.kind ≡ StringWrapper }
     requires within { (header.length.taken < input.bound) × IsOrdered header 0 out.old }
     ensures room { length out.new ≡ length out.old }
+    ensures free { IfSome result (λ r. r.written + FREE_LEN ≤ length out.new) }
     ensures read { IfSome result (IsElementRead input.entry header out.old out.new) }
 {
     if input.octets[header.length.taken] == 0x80 {
@@ -98,6 +100,7 @@ fn read_indefinite(input: Input<'_>, header: Header, out: &mut [u8]) -> Option<R
     requires within { (header.length.taken < input.bound) × IsOrdered header 0 out.old }
     requires mark { get_or input.octets.now header.length.taken 0 ≡ 128 }
     ensures room { length out.new ≡ length out.old }
+    ensures free { IfSome result (λ r. r.written + FREE_LEN ≤ length out.new) }
     ensures read { IfSome result (IsElementRead input.entry header out.old out.new) }
 {
     let length_at = header.length.written;

@@ -7,17 +7,19 @@ ghost use Rattle.ill_read.specs.code.Usual.{Puts};
 use der_buffer::put_length;
 use std::simd::prelude::*;
 
-/// The number of octets that an element may take in the output beside its contents, or a text beyond its end.
-pub(super) const ROOM: usize = 40;
+/// The number of octets that are free behind what was written, where an element begins.
+pub(super) const FREE_LEN: usize = 40;
+
+/// The number of octets that an element may take in the output beside its contents, with those that are free behind it.
+pub(super) const ROOM: usize = 64;
 
 /// Tells whether contents of this size fit from an offset on, with what an element takes beside them.
 #[inline(always)]
 pub(super) fn has_room(out: &[u8], to: usize, size: usize) -> bool
-    requires { to ≤ length out.now }
+    requires { (to ≤ length out.now) × (size ≤ 1_048_576) }
     ensures { IsTrue result → to + size + ROOM ≤ length out.now }
 {
-    let room = out.len() - to;
-    room >= ROOM && room - ROOM >= size
+    out.len() - to >= size + ROOM
 }
 
 /// Writes one octet.
@@ -90,8 +92,9 @@ pub(super) struct Written {
 #[inline(always)]
 pub(super) fn close(out: &mut [u8], written: Written) -> Option<usize>
     requires order { (written.length_at ≤ written.start) × (written.start ≤ written.end) }
-    requires room { written.end ≤ length out.old }
+    requires free { written.end + FREE_LEN ≤ length out.old }
     ensures room { length out.new ≡ length out.old }
+    ensures free { IfSome result (λ end. end + FREE_LEN ≤ length out.new) }
     ensures put { IfSome result (λ end. Puts out.old out.new written.length_at end
         (shortest_length (written.end - written.start)
         ++ between written.start written.end out.old)) }
@@ -111,13 +114,14 @@ fn move_behind_length(out: &mut [u8], length_at: usize, from: usize, size: usize
     requires order { length_at ≤ from }
     requires room { from + size ≤ length out.old }
     ensures room { length out.new ≡ length out.old }
+    ensures free { IfSome result (λ end. end + FREE_LEN ≤ length out.new) }
     ensures put { IfSome result (λ end. Puts out.old out.new length_at end
         (shortest_length size ++ between from (from + size) out.old)) }
 {
     let mut room = [0; 9];
     let first = put_length(size, &mut room);
     let start = length_at + (9 - first);
-    if out.len() - size < start {
+    if out.len() - size < start + FREE_LEN {
         return None;
     }
     move_to(out, from, size, start);

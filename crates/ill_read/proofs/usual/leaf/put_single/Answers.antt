@@ -8,6 +8,7 @@ returns c =
     let to = c.args.to in
     let next : to + 1 + 1 ≡ to + 2 = omega arith in
     record {
+      few = refl;
       put = puts_as c.args.out.now c.put_octet-2.new.out to (to + 1 + 1) (to + 2) _ _
           (puts_then c.args.out.now c.put_octet.new.out c.put_octet-2.new.out to (to + 1) (to + 1 + 1) _ _ c.put_octet.ensures.put c.put_octet-2.ensures.put) next refl;
     }
