@@ -162,7 +162,7 @@ class Messages(unittest.TestCase):
             for _ in range(COUNT // 4):
                 octets = b""
                 while not octets:
-                    octets = misspelled(chance, root, profile)
+                    octets = misspelled(chance, root, profile, chance.random() < 0.5)
                     octets = octets[: framed(octets)]
                 text, refusal = illcanon.dump(octets, profile=profile)
                 self.assertEqual(text, dump_of_model(octets, profile)[0], octets.hex())
@@ -415,7 +415,7 @@ class Profiles(unittest.TestCase):
         for profile, root in ROOTS.items():
             chance = random.Random(8)
             for _ in range(COUNT):
-                octets = misspelled(chance, root, profile)
+                octets = misspelled(chance, root, profile, chance.random() < 0.5)
                 wanted, found = [], []
                 try:
                     rest = octets

@@ -13,6 +13,9 @@ import { showRefusal } from "./refusal_box.js";
 
 const TABS = ["elements", "text", "normal", "same"];
 
+/** The most messages that the list of those to compare with has. */
+const MOST_OFFERED = 2000;
+
 /** The most characters of a value that the details have. */
 const MOST_IN_DETAIL = 20000;
 
@@ -27,6 +30,10 @@ export class MessageView {
     $("open-all").addEventListener("click", () => this.tree.toggleAll(false));
     $("close-all").addEventListener("click", () => this.tree.toggleAll(true));
     $("other").addEventListener("input", () => page.guarded(() => this.#compare()));
+    $("others").addEventListener("change", () => {
+      $("other").value = $("others").value;
+      page.guarded(() => this.#compare());
+    });
     for (const tab of TABS) this.#listen(tab);
   }
 
@@ -192,7 +199,15 @@ export class MessageView {
     const { messages } = this.page, at = messages.indexOf(this.message), number = Number($("other").value);
     $("other").max = String(messages.length);
     if (!messages[number - 1] || number === at + 1) $("other").value = String(at + 1 < messages.length ? at + 2 : 1);
+    this.#offerOthers();
     this.#compare();
+  }
+
+  /** Lists the messages that one can compare with. */
+  #offerOthers() {
+    const { page } = this;
+    const described = (it, at) => make("option", "", `${at + 1}: ${page.nameOf(it)}, ${counted(it.size, "octet")}, ${it.file}`, { value: at + 1 });
+    $("others").replaceChildren(...page.messages.slice(0, MOST_OFFERED).map(described));
   }
 
   #compare() {
@@ -200,6 +215,7 @@ export class MessageView {
     const described = (it, place) => ({ at: place, name: page.nameOf(it), octets: it.octets, refusal: it.refusal });
     const nameOf = ({ size, number, file }) => `${page.nameOf(other)}, ${counted(size, "octet")}, message ${number} of ${file}`;
     $("other-name").textContent = other ? nameOf(other) : "";
+    $("others").value = $("other").value;
     showComparison(page.calls, page.options, described(message, page.messages.indexOf(message)), other && described(other, at));
   }
 

@@ -15,8 +15,8 @@ const MOST_READ = 268435456;
 /** The most characters of a file of text, and the most messages: those that the program reads of an input. */
 const MOST_TEXT = 67108864, MOST_MESSAGES = 1000000;
 
-/** The milliseconds that reading takes before the page may draw. */
-const SLICE = 40;
+/** The milliseconds that reading takes before the page may draw, and before the list is drawn for a file more. */
+const SLICE = 40, PAUSE = 500;
 
 /** The octets that the name of an APDU is looked for in. */
 const FRONT = 64;
@@ -25,7 +25,7 @@ const DECODER = new TextDecoder("latin1");
 
 class Page {
   constructor(calls) {
-    Object.assign(this, { calls, inputs: [], messages: [], current: -1, work: 0, clears: 0, turn: Promise.resolve() });
+    Object.assign(this, { calls, inputs: [], messages: [], current: -1, work: 0, clears: 0, drawn: 0, turn: Promise.resolve() });
     this.list = new MessageList($("list"), (at) => this.choose(at), (message) => this.nameOf(message));
     this.view = new MessageView(this);
   }
@@ -55,6 +55,16 @@ class Page {
 
   /** Reads an input, and shows its first message. */
   async read(octets, name) {
+    const begin = this.messages.length, { work } = this;
+    try {
+      await this.take(octets, name);
+    } finally {
+      if (work === this.work) this.showFrom(begin);
+    }
+  }
+
+  /** Reads an input, and shows none of its messages. */
+  async take(octets, name) {
     if (!octets.length) throw new Error("there are no octets");
     const input = { octets, name };
     this.inputs.push(input);
@@ -63,11 +73,7 @@ class Page {
 
   async #read(input) {
     const begin = this.messages.length, mine = this.work;
-    try {
-      await this.#take(input);
-    } finally {
-      if (mine === this.work && this.messages.length > begin) this.#show(begin);
-    }
+    await this.#take(input);
     if (mine === this.work) say(`${counted(this.messages.length - begin, "message")} read of ${input.name}`);
   }
 
@@ -75,33 +81,35 @@ class Page {
   async #take(input) {
     const mine = this.work;
     let until = performance.now() + SLICE, next = 0;
-    try {
-      for (const found of this.calls.messages(input.octets, this.options)) {
-        if (this.messages.length === MOST_MESSAGES) throw new Error(`only the first ${counted(MOST_MESSAGES, "message")} are read`);
-        this.messages.push(new Message(input, found));
-        if (performance.now() <= until) continue;
-        if (this.messages.length >= next) {
-          this.#summarise(true);
-          next = 1.5 * this.messages.length;
-        }
-        await new Promise((done) => setTimeout(done));
-        if (mine !== this.work) return false;
-        until = performance.now() + SLICE;
+    for (const found of this.calls.messages(input.octets, this.options)) {
+      if (this.messages.length === MOST_MESSAGES) throw new Error(`only the first ${counted(MOST_MESSAGES, "message")} are read`);
+      this.messages.push(new Message(input, found));
+      if (performance.now() <= until) continue;
+      if (this.messages.length >= next) {
+        this.#summarise(true);
+        next = 1.5 * this.messages.length;
       }
-    } finally {
-      if (mine === this.work && this.messages.length) this.#summarise(false);
+      await new Promise((done) => setTimeout(done));
+      if (mine !== this.work) return false;
+      until = performance.now() + SLICE;
     }
+    if (performance.now() > this.drawn + PAUSE) this.#summarise(true);
     return true;
   }
 
   #summarise(isReading) {
+    this.drawn = performance.now();
     showWork();
     this.list.summarise(this.messages, this.inputs.map(({ name }) => name), isReading);
   }
 
-  #show(at) {
+  /** Shows the first of the messages that were read from this place on, if there is one. Keys go to it then. */
+  showFrom(begin) {
+    if (this.messages.length) this.#summarise(false);
+    if (this.messages.length <= begin) return;
     drawer(false);
-    this.choose(at);
+    this.choose(begin);
+    $("main").focus({ preventScroll: true });
   }
 
   /** Shows a message, by its place. */
@@ -127,7 +135,9 @@ class Page {
   /** Reads inputs again, and shows the message that has this place. */
   async #readAgain(inputs, at) {
     for (const input of inputs) if (!(await this.#take(input))) return;
-    if (this.messages.length) this.choose(Math.min(Math.max(0, at), this.messages.length - 1));
+    if (!this.messages.length) return;
+    this.#summarise(false);
+    this.choose(Math.min(Math.max(0, at), this.messages.length - 1));
   }
 
   /** The name of a message's APDU, which `dump` writes on its second line, or in the path of a refusal. */
@@ -188,27 +198,38 @@ async function readFile(page, file) {
   const { clears } = page, name = shownName(file.name), octets = new Uint8Array(await file.arrayBuffer()), kind = kindOfFile(octets);
   if (clears !== page.clears) return;
   if (kind !== "octets" && octets.length > MOST_TEXT) throw new Error(`it is text of more than ${counted(MOST_TEXT, "character")}`);
-  if (kind === "octets") await page.read(octets, name);
-  else await page.read(octetsOfText(DECODER.decode(octets)), `${name} (${kind})`);
+  if (kind === "octets") await page.take(octets, name);
+  else await page.take(octetsOfText(DECODER.decode(octets)), `${name} (${kind})`);
 }
 
+/** Reads files, and shows the first message of them once all are read. */
 async function readFiles(page, files) {
   showFault("");
-  const faults = [];
+  const faults = [], begin = page.messages.length, { work } = page;
   for (const file of files) {
     try {
-      await readFile(page, file);
+      if (file.size) await readFile(page, file);
+      else faults.push(`${shownName(file.name)} is empty.`);
     } catch (error) {
       faults.push(`${shownName(file.name)} was not read to its end: ${error.message}.`);
     }
   }
+  if (work === page.work) page.showFrom(begin);
   if (faults.length) showFault(faults.join(" "));
+}
+
+/** A name for an input that no other has. */
+function freshName(page, name) {
+  const names = new Set(page.inputs.map((input) => input.name));
+  let fresh = name;
+  for (let number = 2; names.has(fresh); number++) fresh = `${name} ${number}`;
+  return fresh;
 }
 
 async function readText(page, text, name) {
   showFault("");
   try {
-    await page.read(octetsOfText(text), name);
+    await page.read(octetsOfText(text), freshName(page, name));
   } catch (error) {
     showFault(`The text was not read: ${error.message}.`);
   }

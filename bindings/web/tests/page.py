@@ -394,7 +394,7 @@ def try_file_names(page):
         check(f"a name is shown by its octets{end}", page.text("#summary") == f"1 message in {shown}{end}")
         check("no hidden letter is in the page", page.run(in_page, hidden) == [])
     page.drop(b"", f"a{hidden}b.ber")
-    check("so is the name of a file that is not read", page.text("#fault") == f"{shown} was not read to its end: there are no octets.")
+    check("so is the name of a file that is not read", page.text("#fault") == f"{shown} is empty.")
     check("no hidden letter is in the words", page.run(in_page, hidden) == [])
     page.paste("74\u202e")
     check("nor in those of a text", "“$'\\342\\200\\256'” comes after 2 digits" in page.text("#fault") and page.run(in_page.replace("outerHTML", "innerText"), hidden) == [])
@@ -525,6 +525,57 @@ def try_narrow():
     page.quit()
 
 
+def try_widths():
+    """Names and values are in sight in windows of each width; in narrow ones, where lines are drawn aside, they are in the lines."""
+    for size in (390, 844), (768, 1024), (1024, 768), (1181, 800), (1280, 800), (1366, 768), (1440, 900), (1920, 1080):
+        page = Session(size)
+        page.drop(EVERY, "every-part.ber")
+        cut, seen = page.run("""const tree = document.getElementById("tree"), end = tree.getBoundingClientRect().right, aside = innerWidth <= 900 ? tree.scrollWidth - tree.clientWidth : 0;
+            const parts = [...tree.querySelectorAll(".v .name, .v .value")];
+            return [parts.filter((it) => it.getBoundingClientRect().right > end + aside + 1).map((it) => it.textContent), parts.length]""")
+        check(f"{seen} names and values are in sight at {size[0]} by {size[1]} {cut or ''}", seen > 10 and not cut)
+        top = page.run("return document.getElementById('tree').getBoundingClientRect().top")
+        check(f"the elements begin in the upper part of the screen: {round(top)} of {size[1]}", top < 0.75 * size[1])
+        page.quit()
+
+
+def try_others(page):
+    """Texts that are pasted have names of their own, and the message to compare with is chosen from a list."""
+    page.paste(EXPIRED.hex())
+    page.run("document.getElementById('read').click()")
+    names = page.wait("while (page.messages.length < 2) await new Promise((next) => setTimeout(next, 5)); return page.messages.map((message) => message.file)")
+    check("two pasted texts have two names", names == ["pasted", "pasted 2"])
+    page.drop(EVERY, "every-part.ber")
+    offered, chosen, said = page.run("""page.choose(0);
+        document.getElementById('tab-same').click();
+        const others = document.getElementById('others');
+        others.value = '5';
+        others.dispatchEvent(new Event('change'));
+        return [[...others.options].map((it) => it.textContent), document.getElementById('other').value, document.getElementById('other-name').textContent]""")
+    wanted = [re.sub(r"^message (\d+): (.*? octets).*", r"\1: \2, every-part.ber", line) for line in CHECK]
+    check("the list to compare with has every message", offered == wanted)
+    check("the one that is chosen is compared", chosen == "5" and said.endswith("message 5 of every-part.ber"))
+    page.run("document.getElementById('tab-elements').click(); page.clear()")
+
+
+def try_many_files(page):
+    """The first message of many files is shown, once, and the keys go to it; an empty one among them is named."""
+    count, fault, shown, taken = page.wait("""page.clear();
+        const octets = Uint8Array.from(atob(words[0]), (it) => it.charCodeAt(0)), transfer = new DataTransfer(), show = page.view.show, begin = performance.now();
+        for (let i = 0; i < 226; i++) transfer.items.add(new File([octets], `${i}.ber`));
+        transfer.items.add(new File([], "none.ber"));
+        let shown = 0;
+        page.view.show = function (message) { shown++; show.call(this, message); };
+        dispatchEvent(new DragEvent('drop', { dataTransfer: transfer }));
+        const fault = document.getElementById('fault');
+        while (fault.hidden) await new Promise((next) => setTimeout(next, 5));
+        page.view.show = show;
+        return [page.messages.length, fault.textContent, shown, Math.round(performance.now() - begin)]""", base64.b64encode(EVERY).decode())
+    check(f"226 files are read: {taken} ms", count == 226 * 24 and shown == 1 and taken < 2000 and fault == "none.ber is empty.")
+    check("the first of them is shown, and has the keys", page.run("return [page.current, document.activeElement.id]") == [0, "main"])
+    page.run("page.clear()")
+
+
 def try_without_webassembly():
     """A browser that can't run the module says so."""
     browser = without_webassembly(NAME)
@@ -553,10 +604,11 @@ def try_old_browser():
 
 def main():
     page = Session()
-    for part in (try_start, try_messages, try_elements, try_views, try_refusals, try_texts, try_file_names, try_controls, try_links, try_faults, try_printing, try_large, try_policy):
+    for part in (try_start, try_messages, try_elements, try_views, try_refusals, try_texts, try_file_names, try_others, try_many_files, try_controls, try_links, try_faults, try_printing, try_large, try_policy):
         part(page)
     page.quit()
     try_narrow()
+    try_widths()
     try_without_webassembly()
     try_old_browser()
     print(f"{len(failed)} failed")
