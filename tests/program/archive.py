@@ -4,7 +4,8 @@
 The messages are valid test vectors of vectors/worked.json or, in the module profile, of vectors/module_worked.json, in an order that the seed
 says; what each command has to write is known from the vectors. `check`, `digest` and `canonicalise` go through all files in one process each: which messages are not
 in normal form, which are refused and where, the digests and the copies, the normal forms of all good ones, and the numbers of --summary.
-With valgrind, the instructions of each command over a smaller archive are compared with those of `canonicalise` on the same octets.
+With valgrind, the instructions of each command over a smaller archive are compared with those of `canonicalise` on the same octets, and those of
+`canonicalise` for usual elements with those for strings in segments, which have no path of their own.
 Needs the program built.
 Usage: archive.py [SEED [COUNT [PROFILE]]], COUNT being the messages, and PROFILE `2`, the default, or `module`. Prints the seed, with which a run
 is made again.
@@ -21,7 +22,8 @@ from pathlib import Path
 
 sys.path.insert(0, str(Path(__file__).resolve().parents[1]))
 
-from model.tables import PROGRAM, TOP, profile_and_words
+from model.encoder import Writer, spelled_usually
+from model.tables import PROGRAM, ROOTS, TOP, profile_and_words, random_value
 
 PROFILE, PROFILE_WORDS = profile_and_words()
 WORKED = {"2": "worked", "module": "module_worked"}
@@ -32,7 +34,9 @@ BAD = 50
 REFUSED = bytes.fromhex("7400")
 CAUSE = "refused at 2 in message {}: Missing Expired.protocol-version-num"
 # how many instructions each command may take for one of `canonicalise`
-LIMITS = {"check": 1.5, "digest": 2.5, "canonicalise": 1.5}
+LIMITS = {"check": 2.0, "digest": 4.0, "canonicalise": 1.5}
+# how many instructions messages of usual elements may take for one of those with their strings in segments
+USUAL_LIMIT = 0.75
 
 
 def expect(condition, *what):
@@ -50,6 +54,15 @@ def known_messages():
                 found.append((bytes.fromhex(vector["octets"]), bytes.fromhex(vector["normal"]), vector["apdu"]))
     expect(len(found) > 20, "the vectors have only", len(found), "short messages")
     return found
+
+
+def instructions(folder, words):
+    """How many instructions a command takes in the folder."""
+    counted = ["valgrind", "--tool=callgrind", "--callgrind-out-file=/dev/null", PROGRAM, words[0], *PROFILE_WORDS, *words[1:]]
+    done = subprocess.run(counted, cwd=folder, capture_output=True, check=False)
+    found = [line for line in done.stderr.decode().splitlines() if "refs:" in line]
+    expect(found, words, "isn't counted by valgrind")
+    return int(found[0].split()[-1].replace(",", ""))
 
 
 class Archive:
@@ -95,13 +108,6 @@ class Archive:
         expect(errors == [*self.refusals, self.summary()], words, "standard error", errors[-3:])
         return done.stdout
 
-    def instructions(self, words, names):
-        counted = ["valgrind", "--tool=callgrind", "--callgrind-out-file=/dev/null", PROGRAM, words[0], *PROFILE_WORDS, *words[1:], *names]
-        done = subprocess.run(counted, cwd=self.folder, capture_output=True, check=False)
-        found = [line for line in done.stderr.decode().splitlines() if "refs:" in line]
-        expect(found, words, "isn't counted by valgrind")
-        return int(found[0].split()[-1].replace(",", ""))
-
 
 def check_results(archive):
     expect(archive.run("check", "--keep-going", "--summary").decode().splitlines() == archive.lines, "check: the lines differ")
@@ -120,15 +126,38 @@ def check_instructions(folder, chance):
     half, whole = archive.names[:10], archive.names
 
     def cost(*words):
-        return archive.instructions(words, whole) - archive.instructions(words, half)
+        return instructions(folder, [*words, *whole]) - instructions(folder, [*words, *half])
 
     for file, names in ("half", half), ("whole", whole):
         (folder / file).write_bytes(b"".join((folder / name).read_bytes() for name in names))
-    plain = archive.instructions(["canonicalise"], ["whole", "/dev/null"]) - archive.instructions(["canonicalise"], ["half", "/dev/null"])
+    plain = instructions(folder, ["canonicalise", "whole", "/dev/null"]) - instructions(folder, ["canonicalise", "half", "/dev/null"])
     for words in (["check", "--keep-going"], ["digest", "--keep-going"], ["canonicalise", "--keep-going", "-o", "/dev/null"]):
         ratio = cost(*words) / plain
         print(f"{' '.join(words)}: {ratio:.2f} times the instructions of canonicalise")
         expect(ratio <= LIMITS[words[0]], words, "takes more than", LIMITS[words[0]], "times")
+
+
+class InSegments(Writer):
+    """The normal form, but for each string, which is in one segment."""
+
+    def text(self, tag, octets):
+        return self.element(tag, True, self.element(("universal", 4), False, octets))
+
+
+def check_usual(folder, chance):
+    """The instructions of `canonicalise` for messages of usual elements, beside those for the same APDUs with strings in segments."""
+    root = ROOTS[PROFILE]
+    apdus = [spelled_usually(chance, root, random_value)[0] for _ in range(1000)]
+    costs = []
+    for writer in Writer(), InSegments():
+        messages = [writer.value(root, apdu, None) for apdu in apdus]
+        for file, count in ("half", 500), ("whole", 1000):
+            (folder / file).write_bytes(b"".join(messages[:count]))
+        whole, half = (instructions(folder, ["canonicalise", file, "/dev/null"]) for file in ("whole", "half"))
+        costs.append(whole - half)
+    ratio = costs[0] / costs[1]
+    print(f"usual elements: {ratio:.2f} times the instructions of strings in segments")
+    expect(ratio <= USUAL_LIMIT, "usual elements take more than", USUAL_LIMIT, "times")
 
 
 def main():
@@ -143,6 +172,7 @@ def main():
     elif shutil.which("valgrind"):
         with tempfile.TemporaryDirectory() as name:
             check_instructions(Path(name), random.Random(seed))
+            check_usual(Path(name), random.Random(seed))
     else:
         print("archive.py: no valgrind, so no instructions are compared")
 
