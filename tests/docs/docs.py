@@ -5,7 +5,7 @@ facts.py numbers, exit statuses, commands and options against the code. Of the s
 Usage: tests/docs/docs.py [PROGRAM]
 
 A block ```console holds commands, each after `$ `, and after each the lines that it prints (standard output and standard
-error together). They run one after the other, by bash, in a new folder that has the files of examples/, with `illcanon` on
+error together). They run one after the other, by bash, in a new folder that has the files of examples/, also below `examples/`, with `illcanon` on
 the path. A block ```sh is run, too, unless it is marked `no-run`, and has to end with status 0. A block ```console jq is run
 where jq is installed. PROGRAM is the built program (else crates/illcanon/out/illcanon); without it no example is run, and
 that is a fault.
@@ -226,6 +226,7 @@ def run_examples(path, text, program):
     with tempfile.TemporaryDirectory() as folder:
         work = pathlib.Path(folder) / "work"
         shutil.copytree(ROOT / "examples", work)
+        os.symlink(".", work / "examples")
         (pathlib.Path(folder) / "bin").mkdir()
         os.symlink(program, pathlib.Path(folder) / "bin/illcanon")
         environment = {**os.environ, "PATH": f"{folder}/bin:{os.environ['PATH']}", "ILLCANON": str(ROOT), "LC_ALL": "C.UTF-8"}
