@@ -1,6 +1,7 @@
 pub mod Content
 pub mod TableFacts
 pub mod Presence
+pub mod Begun
 pub mod Causes
 pub mod Tagging
 pub mod Profiles

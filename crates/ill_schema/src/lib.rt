@@ -10,6 +10,7 @@
 //! ```
 #![tactic(auto)]
 
+mod begun;
 mod entry;
 mod equality;
 mod hexadecimal;
@@ -25,6 +26,7 @@ mod tagging;
 mod unfit;
 mod value;
 
+pub use begun::apdu_begun;
 pub use entry::{is_carried, is_default, may_lack};
 pub use equality::equal;
 pub use hexadecimal::hexadecimal_digits;

@@ -59,7 +59,7 @@ pub enum Cause {
 
 impl Cause {
     ghost use Rattle.std.specs.Prelude.{◌≡◌, ◌≢◌, IfNone, IfSome, MatchOption, None, Some};
-    ghost use Rattle.ill_schema.specs.Causes.{cause_name, cause_number, cause_text};
+    ghost use Rattle.ill_schema.specs.Causes.{cause_clause, cause_name, cause_number, cause_text};
     ghost use Rattle.ill_schema.specs.Names.{cause_part_name_of};
     ghost use Rattle.ill_schema.specs.declared.refusal.Cause.{Cause as Reason};
 
@@ -197,12 +197,12 @@ impl Cause {
             Cause::TooLong => "the message would have more than 1,048,576 octets",
             Cause::Overrun => "the element would go past the end of an element round it",
             Cause::TooDeep => "more than 32 elements would be open",
-            Cause::UnexpectedTag => "the tag is not due there",
+            Cause::UnexpectedTag => "this tag is not expected here",
             Cause::LeftOut(_) => "this part is not read",
-            Cause::WrongForm => "it is primitive where it has to be constructed, or the reverse",
+            Cause::WrongForm => "its form, primitive or constructed, is not the one expected here",
             Cause::Missing(_) => "the element ends before a mandatory part",
             Cause::BadEnd => "the second octet of an end mark is not 00",
-            Cause::BadBoolean => "a BOOLEAN has one octet",
+            Cause::BadBoolean => "the BOOLEAN does not have exactly one octet",
             Cause::BadInteger => "the number has no octet, or one more than it needs",
             Cause::IntegerTooLong => "the number has more than eight octets",
             Cause::BadText => "an octet is not in the alphabet of the string",
@@ -210,9 +210,52 @@ impl Cause {
             Cause::BadTime => "it is not six digits of a time of day",
             Cause::TrailingBytes => "octets follow the message",
             Cause::NormalTooLong => "the normal form would have more than 1,048,576 octets",
-            Cause::BadNull => "a NULL has no octets",
+            Cause::BadNull => "the NULL has octets",
             Cause::BadOid => "the identifier has no octet, one more than it needs, or no end",
             Cause::BadBits => "the first octet is not the number of unused bits",
+        }
+    }
+
+    /// The clause that the cause enforces, of X.690, X.680 or ISO 10161-1, for a date or a time with the words of its type; or
+    /// `limit of illcanon`, where no standard is broken.
+    ///
+    /// ```text
+    /// Cause::BadEnd.clause() // "X.690, 8.1.5"
+    /// ```
+    pub fn clause(self) -> &'static str
+        ensures { result.now ≡ cause_clause self }
+    {
+        match self {
+            Cause::Truncated => "X.690, 8.1.1",
+            Cause::BadTag => {
+                "X.690, 8.1.2; for a number of more than four octets, limit of illcanon"
+            }
+            Cause::BadLength => "X.690, 8.1.3.2 and 8.1.3.5",
+            Cause::TooLong => "limit of illcanon",
+            Cause::Overrun => "X.690, 8.1.3.3",
+            Cause::TooDeep => "limit of illcanon",
+            Cause::UnexpectedTag => {
+                "X.690, 8.9.2, 8.10.2, 8.13 and 8.14, with the types of ISO 10161-1"
+            }
+            Cause::LeftOut(_) => "limit of illcanon",
+            Cause::WrongForm => "X.690, 8.2.1, 8.3.1, 8.8.1, 8.9.1, 8.10.1, 8.14 and 8.19.1",
+            Cause::Missing(_) => "X.690, 8.9.3 and 8.14, with the types of ISO 10161-1",
+            Cause::BadEnd => "X.690, 8.1.5",
+            Cause::BadBoolean => "X.690, 8.2.1",
+            Cause::BadInteger => "X.690, 8.3.1 and 8.3.2",
+            Cause::IntegerTooLong => "limit of illcanon",
+            Cause::BadText => "X.690, 8.23, and X.680, 41",
+            Cause::BadDate => {
+                "ISO 10161-1: ISO-Date ::= VisibleString -- conforms to ISO 8601, length = 8, fixed, YYYYMMDD"
+            }
+            Cause::BadTime => {
+                "ISO 10161-1: ISO-Time ::= VisibleString -- conforms to ISO 8601, length = 6, fixed, HHMMSS"
+            }
+            Cause::TrailingBytes => "limit of illcanon",
+            Cause::NormalTooLong => "limit of illcanon",
+            Cause::BadNull => "X.690, 8.8.2",
+            Cause::BadOid => "X.690, 8.19.2",
+            Cause::BadBits => "X.690, 8.6.2",
         }
     }
 }
