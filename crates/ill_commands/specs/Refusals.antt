@@ -1,8 +1,8 @@
 -- What is said of a message that is refused.
-use Rattle.std.specs.Prelude.{◌≡◌, ◌⊎◌, ℕ, ◌<◌, ◌==◌, ◌/◌, ◌%◌, Bool, true, false, List, [], ◌∷◌, length, Option, None, if◌then◌else◌}
+use Rattle.std.specs.Prelude.{◌≡◌, ◌≢◌, ◌⊎◌, ℕ, ◌<◌, Bool, true, false, List, length, None}
 use Rattle.ber_leaf.specs.Profile.{Profile}
 use Rattle.ill_schema.specs.Apdu.{Apdu, Accepts}
-use Rattle.ill_schema.specs.Names.{apdu_name_in}
+use Rattle.ill_schema.specs.Begun.{apdu_begun}
 use Rattle.ill_schema.specs.Profiles.{profile_of}
 use Rattle.ill_tables.specs.declared.profile.Profile.{Profile as Named}
 use Rattle.ill_schema.specs.declared.refusal.Cause.{Cause}
@@ -16,15 +16,11 @@ use Rattle.ill_normal.specs.declared.report.RefusalReport.{RefusalReport}
 use Rattle.ill_commands.specs.Output.{file_of}
 use Rattle.ill_commands.specs.declared.job.JobOptions.{JobOptions}
 
--- the name of the APDU whose tag the first octet begins, [APPLICATION n], where n is at most 30
-abbrev pub apdu_begun : List ℕ → Option (List ℕ)
-apdu_begun [] = None
-apdu_begun (octet ∷ octets) = if octet / 64 == 1 then apdu_name_in (profile_of Named.Module) (octet % 32) else None
-
--- the cause says that a limit of the reader is passed, which neither X.690 nor ISO 10161-1 has
+-- the cause says that a limit of the reader is passed, or that the profile leaves a part out: neither is a rule of X.690 or ISO 10161-1
 abbrev pub is_limit : Cause → Bool
 is_limit Cause.TooLong = true
 is_limit Cause.TooDeep = true
+is_limit (Cause.LeftOut part) = true
 is_limit Cause.IntegerTooLong = true
 is_limit Cause.NormalTooLong = true
 is_limit _ = false
@@ -37,9 +33,16 @@ IsReadPast p octets at = (0 < length octets) × (((a : Apdu) × (n : ℕ) × Acc
 abbrev pub IsNotRead : Named → List ℕ → Refusal → Type 0
 IsNotRead profile octets refusal = (is_limit refusal.cause ≡ true) ⊎ ((profile ≡ Named.Two) × IsReadPast (profile_of Named.Module) octets refusal.at)
 
+-- a statement holds, or does not
+abbrev pub Says : Bool → Type 0 → Type 0
+Says true A = A
+Says false A = A → ⊥
+
+-- the kind of a refusal of octets in the profile: no message begins there, or one does, and is only not read, or is wrong
 abbrev pub HasKind : Named → List ℕ → Refusal → RefusalKind → Type 0
-HasKind profile octets refusal RefusalKind.NotRead = IsNotRead profile octets refusal
-HasKind profile octets refusal RefusalKind.Invalid = IsNotRead profile octets refusal → ⊥
+HasKind profile octets refusal RefusalKind.NoMessage = apdu_begun octets ≡ None
+HasKind profile octets refusal RefusalKind.NotRead = (apdu_begun octets ≢ None) × IsNotRead profile octets refusal
+HasKind profile octets refusal RefusalKind.Invalid = (apdu_begun octets ≢ None) × (IsNotRead profile octets refusal → ⊥)
 
 abbrev pub refused_head : RefusalReport → RefusalKind → RefusedHead
 refused_head r kind = record { number = r.message; offset = r.offset; octets = r.octets; refusal = r.refusal; kind = kind }

@@ -26,6 +26,6 @@ pub use lines::{
     AnswerLines, LineJob, LineOptions, LineVerdict, answer_lines, run_lines, run_lines_as,
 };
 pub use messages::{run, run_as, run_job, run_with};
-pub use refused::{RefusedLine, refused_json};
+pub use refused::{RefusedLine, refusal_kind, refused_json};
 pub use same::{run_same, run_same_as};
 pub use write_job::WriteJob;

@@ -1,14 +1,14 @@
 //! The lines of JSON of messages that are refused.
-ghost use Rattle.std.specs.Prelude.{◌≡◌, false, IfOk, option_map};
+ghost use Rattle.std.specs.Prelude.{◌≡◌, false, IfOk};
 ghost use Rattle.ill_tables.specs.declared.profile.Profile.{Profile as Named};
-ghost use Rattle.ill_commands.specs.Refusals.{apdu_begun, is_limit, HasKind, IsRefusedLine};
+ghost use Rattle.ill_commands.specs.Refusals.{is_limit, HasKind, IsNotRead, IsRefusedLine, Says};
 
 use crate::job::JobOptions;
 use crate::piece::file_of;
 use ber_core::FromSlice;
 use ill_json::{RefusalKind, RefusalPlace, RefusedHead, refused_line};
-use ill_normal::{Profile, ReadFailure, RefusalReport, apdu_name_as, read_normal};
-use ill_schema::{Cause, Refusal};
+use ill_normal::{Profile, ReadFailure, RefusalReport, read_normal};
+use ill_schema::{Cause, Refusal, apdu_begun};
 use std::alloc::{AllocError, Global};
 
 /// The line of JSON of a message that is refused, and the kind of its refusal.
@@ -48,7 +48,7 @@ pub fn refused_json(
         refusal,
         octets: size,
     } = report;
-    let kind = kind_of(alloc, work.profile, octets, refusal)?;
+    let kind = refusal_kind(alloc, work.profile, octets, refusal)?;
     let head = RefusedHead {
         number: message,
         offset,
@@ -67,18 +67,19 @@ pub fn refused_json(
     Ok(RefusedLine { line, kind })
 }
 
-/// The name of the APDU whose tag the octets begin with.
-fn apdu_begun(octets: &[u8]) -> Option<&'static str>
-    ensures { option_map (λ name. name.now) result ≡ apdu_begun octets.now }
-{
-    match octets {
-        [first, ..] if first / 64 == 1 => apdu_name_as(Profile::Module, first % 32),
-        _ => None,
-    }
-}
-
-/// The kind of a refusal of octets in the profile.
-fn kind_of(
+/// The kind of a refusal of these octets in the profile.
+///
+/// # Errors
+///
+/// Only out of memory.
+///
+/// # Examples
+///
+/// ```
+/// // RefusalKind::NoMessage
+/// let kind = refusal_kind(alloc, Profile::Two, b"From: library", refusal)?;
+/// ```
+pub fn refusal_kind(
     alloc: Global,
     profile: Profile,
     octets: &[u8],
@@ -86,37 +87,60 @@ fn kind_of(
 ) -> Result<RefusalKind, AllocError>
     ensures { IfOk result (HasKind profile octets.now refusal) }
 {
-    if is_limit(refusal.cause) {
-        return Ok(RefusalKind::NotRead);
+    if apdu_begun(octets).is_none() {
+        return Ok(RefusalKind::NoMessage);
     }
-    match profile {
-        Profile::Module => Ok(RefusalKind::Invalid),
-        Profile::Two => kind_in_two(alloc, octets, refusal),
+    if is_not_read(alloc, profile, octets, refusal)? {
+        Ok(RefusalKind::NotRead)
+    } else {
+        Ok(RefusalKind::Invalid)
     }
 }
 
-/// The kind of a refusal of octets in profile 2 that passes no limit.
-fn kind_in_two(alloc: Global, octets: &[u8], refusal: Refusal) -> Result<RefusalKind, AllocError>
+/// Tells whether a refusal of octets in the profile says only that they are not read.
+fn is_not_read(
+    alloc: Global,
+    profile: Profile,
+    octets: &[u8],
+    refusal: Refusal,
+) -> Result<bool, AllocError>
+    ensures { IfOk result (λ yes. Says yes (IsNotRead profile octets.now refusal)) }
+{
+    if is_limit(refusal.cause) {
+        return Ok(true);
+    }
+    match profile {
+        Profile::Module => Ok(false),
+        Profile::Two => is_read_past(alloc, octets, refusal),
+    }
+}
+
+/// Tells whether the module profile reads octets past the place where profile 2 refuses them, for a cause that is no limit.
+fn is_read_past(alloc: Global, octets: &[u8], refusal: Refusal) -> Result<bool, AllocError>
     requires { is_limit refusal.cause ≡ false }
-    ensures { IfOk result (HasKind Named.Two octets.now refusal) }
+    ensures { IfOk result (λ yes. Says yes (IsNotRead Named.Two octets.now refusal)) }
 {
     let mut source = FromSlice::new(octets);
     match read_normal(alloc, Profile::Module, &mut source) {
-        Ok(Some(_)) => Ok(RefusalKind::NotRead),
-        Ok(None) => Ok(RefusalKind::Invalid),
-        Err(ReadFailure::Refused(other)) if other.at > refusal.at => Ok(RefusalKind::NotRead),
-        Err(ReadFailure::Refused(_)) => Ok(RefusalKind::Invalid),
+        Ok(Some(_)) => Ok(true),
+        Ok(None) => Ok(false),
+        Err(ReadFailure::Refused(other)) if other.at > refusal.at => Ok(true),
+        Err(ReadFailure::Refused(_)) => Ok(false),
         Err(ReadFailure::OutOfMemory) => Err(AllocError),
         Err(ReadFailure::ReadFault) => unreachable!(),
     }
 }
 
-/// Tells whether a cause is that a limit is passed.
+/// Tells whether a cause is that a limit is passed, or that the profile leaves a part out.
 fn is_limit(cause: Cause) -> bool
     ensures { result ≡ is_limit cause }
 {
     matches!(
         cause,
-        Cause::TooLong | Cause::TooDeep | Cause::IntegerTooLong | Cause::NormalTooLong
+        Cause::TooLong
+            | Cause::TooDeep
+            | Cause::LeftOut(_)
+            | Cause::IntegerTooLong
+            | Cause::NormalTooLong
     )
 }

@@ -1,7 +1,7 @@
 -- The lines of JSON of results: of a message without its value, and of one that is refused.
 use Rattle.std.specs.Prelude.{false, ℕ, List, [], ◌∷◌, map, codes, decimal, string_bytes, Option, Some, None, option_map}
 use Rattle.json.specs.Json.{Json, number, string, array, object, Items, no_items, item, Members, no_members, member}
-use Rattle.ill_schema.specs.Causes.{cause_name}
+use Rattle.ill_schema.specs.Causes.{cause_clause, cause_name}
 use Rattle.ill_schema.specs.Names.{cause_part_name_of, dotted_name}
 use Rattle.ill_schema.specs.declared.refusal.Refusal.{Refusal}
 use Rattle.ill_schema.specs.Texts.{hexadecimal}
@@ -41,6 +41,7 @@ result_json file head apdu digest =
     object (with_file file (head_members false head apdu (with_text (codes "digest") (option_map hexadecimal digest) no_members)))
 
 abbrev pub kind_name : RefusalKind → List ℕ
+kind_name RefusalKind.NoMessage = codes "no message"
 kind_name RefusalKind.NotRead = codes "not read"
 kind_name RefusalKind.Invalid = codes "invalid"
 
@@ -51,13 +52,14 @@ place_members place =
     (with_words (codes "found") (string_bytes place.found)
     (with_list (codes "due") (map string_bytes place.due.items) no_members))
 
--- why a message is refused: the cause, its offset in the message, its kind, its part, and its place
+-- why a message is refused: the cause, its offset in the message, its kind, its clause, its part, and its place
 abbrev pub why_json : Refusal → RefusalKind → RefusalPlace → Json
 why_json refusal kind place = object
     (member (codes "cause") (string (cause_name refusal.cause))
     (member (codes "offset") (number (decimal refusal.at))
     (member (codes "kind") (string (kind_name kind))
-    (with_text (codes "part") (option_map dotted_name (cause_part_name_of refusal.cause)) (place_members place)))))
+    (member (codes "clause") (string (cause_clause refusal.cause))
+    (with_text (codes "part") (option_map dotted_name (cause_part_name_of refusal.cause)) (place_members place))))))
 
 -- a message that is refused, with the name of its APDU, where that is known
 abbrev pub refused_json : Option (List ℕ) → RefusedHead → Option (List ℕ) → RefusalPlace → Json

@@ -16,6 +16,8 @@ use std::alloc::{AllocError, Global};
 /// The kind of a refusal: what it says of the message.
 #[derive(Clone, Copy, Debug, PartialEq, Eq)]
 pub enum RefusalKind {
+    /// No message begins there: the octets begin no APDU.
+    NoMessage,
     /// ISO 10161-1 allows what is there, and the profile doesn't read it, or a limit of the reader is passed.
     NotRead,
     /// It is no message of ISO 10161-1.
@@ -23,11 +25,12 @@ pub enum RefusalKind {
 }
 
 impl RefusalKind {
-    /// The name of the kind: `not read` or `invalid`.
+    /// The name of the kind: `no message`, `not read` or `invalid`.
     pub fn name(self) -> &'static str
         ensures { result.now ≡ kind_name self }
     {
         match self {
+            RefusalKind::NoMessage => "no message",
             RefusalKind::NotRead => "not read",
             RefusalKind::Invalid => "invalid",
         }
@@ -85,9 +88,9 @@ pub fn result_line(
 /// - `number`, `offset`: those of the head
 /// - `octets`: the number of its octets, where its end is known
 /// - `apdu`: the name of the APDU, where it is given
-/// - `refused`: an object of `cause`, its name; `offset`, that of the refusal in the message; `kind`, `not read` or `invalid`; `part`, the
-///   names of the node and the row that the cause is about, where it is about one; and `path`, `found` and `due`, an array, those of the
-///   place that say something
+/// - `refused`: an object of `cause`, its name; `offset`, that of the refusal in the message; `kind`, `no message`, `not read` or `invalid`;
+///   `clause`, that of the cause; `part`, the names of the node and the row that the cause is about, where it is about one; and `path`,
+///   `found` and `due`, an array, those of the place that say something
 ///
 /// # Errors
 ///
@@ -96,7 +99,7 @@ pub fn result_line(
 /// # Examples
 ///
 /// ```text
-/// // {"number":2,"offset":44,"octets":2,"apdu":"Expired","refused":{"cause":"Missing","offset":2,"kind":"invalid",..}}
+/// // {"number":2,"offset":44,"octets":2,"apdu":"Expired","refused":{"cause":"Missing","offset":2,"kind":"invalid","clause":..}}
 /// let line = refused_line(alloc, Vec::new(alloc), None, head, Some("Expired"), &place)?;
 /// ```
 pub fn refused_line(
@@ -183,6 +186,8 @@ fn put_why(refusal: Refusal, kind: RefusalKind, place: &RefusalPlace, out: &mut 
     out.count(refusal.at as u64);
     out.put(Token::Key("kind"));
     out.put(Token::String(kind.name()));
+    out.put(Token::Key("clause"));
+    out.put(Token::String(refusal.cause.clause()));
     put_part_name(refusal.cause, out);
     put_place(place, out);
     out.put(Token::EndObject);

@@ -5,7 +5,7 @@ use Rattle.ill_tables.specs.declared.profile.Profile.{Profile as Named}
 use Rattle.ill_refusals.specs.Fault.{fault_of}
 use Rattle.ill_refusals.specs.Outcome.{OnlyRefuses}
 use Rattle.ill_commands.proofs.RefusalKinds.{reads_message, reads_no_further}
-use Rattle.ill_commands.proofs.refused.kind_in_two.Goals as goal
+use Rattle.ill_commands.proofs.refused.is_read_past.Goals as goal
 
 pub returns-in-Ok-Some : goal.returns-in-Ok-Some
 returns-in-Ok-Some c =
