@@ -42,12 +42,12 @@ TEXTS = {
     "TooLong": "the message would have more than 1,048,576 octets",
     "Overrun": "the element would go past the end of an element round it",
     "TooDeep": "more than 32 elements would be open",
-    "UnexpectedTag": "the tag is not due there",
+    "UnexpectedTag": "this tag is not expected here",
     "LeftOut": "this part is not read",
-    "WrongForm": "it is primitive where it has to be constructed, or the reverse",
+    "WrongForm": "its form, primitive or constructed, is not the one expected here",
     "Missing": "the element ends before a mandatory part",
     "BadEnd": "the second octet of an end mark is not 00",
-    "BadBoolean": "a BOOLEAN has one octet",
+    "BadBoolean": "the BOOLEAN does not have exactly one octet",
     "BadInteger": "the number has no octet, or one more than it needs",
     "IntegerTooLong": "the number has more than eight octets",
     "BadText": "an octet is not in the alphabet of the string",
@@ -55,23 +55,52 @@ TEXTS = {
     "BadTime": "it is not six digits of a time of day",
     "TrailingBytes": "octets follow the message",
     "NormalTooLong": "the normal form would have more than 1,048,576 octets",
-    "BadNull": "a NULL has no octets",
+    "BadNull": "the NULL has octets",
     "BadOid": "the identifier has no octet, one more than it needs, or no end",
     "BadBits": "the first octet is not the number of unused bits",
 }
 # as many octets a header has at most
 MOST_HEADER = 132
-OUR_LIMIT = "    a limit of illcanon, not of ISO 10161-1\n"
+# the clauses of the causes, by the standards
+OUR_LIMIT = "limit of illcanon"
+CLAUSES = {
+    "Truncated": "X.690, 8.1.1",
+    "BadTag": f"X.690, 8.1.2; for a number of more than four octets, {OUR_LIMIT}",
+    "BadLength": "X.690, 8.1.3.2 and 8.1.3.5",
+    "TooLong": OUR_LIMIT,
+    "Overrun": "X.690, 8.1.3.3",
+    "TooDeep": OUR_LIMIT,
+    "UnexpectedTag": "X.690, 8.9.2, 8.10.2, 8.13 and 8.14, with the types of ISO 10161-1",
+    "LeftOut": OUR_LIMIT,
+    "WrongForm": "X.690, 8.2.1, 8.3.1, 8.8.1, 8.9.1, 8.10.1, 8.14 and 8.19.1",
+    "Missing": "X.690, 8.9.3 and 8.14, with the types of ISO 10161-1",
+    "BadEnd": "X.690, 8.1.5",
+    "BadBoolean": "X.690, 8.2.1",
+    "BadInteger": "X.690, 8.3.1 and 8.3.2",
+    "IntegerTooLong": OUR_LIMIT,
+    "BadText": "X.690, 8.23, and X.680, 41",
+    "BadDate": "ISO 10161-1: ISO-Date ::= VisibleString -- conforms to ISO 8601, length = 8, fixed, YYYYMMDD",
+    "BadTime": "ISO 10161-1: ISO-Time ::= VisibleString -- conforms to ISO 8601, length = 6, fixed, HHMMSS",
+    "TrailingBytes": OUR_LIMIT,
+    "NormalTooLong": OUR_LIMIT,
+    "BadNull": "X.690, 8.8.2",
+    "BadOid": "X.690, 8.19.2",
+    "BadBits": "X.690, 8.6.2",
+}
+NO_MESSAGE = "    no ILL message begins here\n"
+TEXT = "    it looks like text\n"
 MARKED = "    --profile module reads what is marked as not read\n"
 READS_PART = "    --profile module reads this part\n"
 OTHER_TAGS = "    --profile module has other tags here\n"
 ESCAPES = "    --profile module reads escape sequences\n"
 # the hints that each run has to meet
-HINTS = {"2": [OUR_LIMIT, MARKED, READS_PART, OTHER_TAGS, ESCAPES], "module": [OUR_LIMIT]}
+HINTS = {"2": [NO_MESSAGE, TEXT, MARKED, READS_PART, OTHER_TAGS, ESCAPES], "module": [NO_MESSAGE, TEXT]}
 # a version, an identifier and a time, with which most APDUs begin
 HEAD = "800102a10aa1031b0147a2031b0151a20ca00a80083230323430323239"
 # Messages that each run has, since random ones seldom are like these. Profile 2 refuses them.
 FIXED = [
+    # a text
+    b"From: library\r\n".hex(),
     # tag numbers of five octets, and others that begin with ones
     "ffffffffff",
     "7405ffffffffff",
@@ -108,8 +137,6 @@ GOOD = [
     "7481253080800102a10aa1031b0147a2031b0151a210a00ea00c0404323032340404303232390000",
     f"741d{HEAD}",
 ]
-# the causes that are limits
-LIMITS = {"IntegerTooLong", "TooLong", "TooDeep"}
 LEVELS_TEXT = "a value of an open type would have more than 20 levels"
 # the causes that only the module profile has
 MODULE = {"BadNull", "BadOid", "BadBits"}
@@ -119,6 +146,15 @@ MODULE_NOTES = ["unused bits are not 0"]
 RETAGGED = {"UnitsPerMedium", "WillSupply", "Conditional"}
 TAG_ONLY = {"UnexpectedTag", "LeftOut", "WrongForm", "TooDeep"}
 HEADER_ONLY = {"BadLength", "Overrun", "TooLong"}
+
+
+def apdu_begun(octets):
+    """The name of the APDU that octets begin: by its identifier in either form, and by what begins in it, as far as there are octets."""
+    names = NAMES[ROOTS["module"]][1]
+    first, number = octets[0], octets[0] & 31
+    size = 1 if len(octets) < 2 or octets[1] <= 0x80 else 1 + (octets[1] & 0x7F)
+    begins = octets[1 + size : 2 + size] in (b"", b"\x30", b"\x80", b"\0")
+    return names[number - 1] if first >> 6 == 1 and 0 < number <= len(names) and begins else None
 
 
 def hexed(octets):
@@ -245,7 +281,7 @@ class Dumper(Judge):
         if size is None:
             return ["indefinite"]
         least, count = len(Writer().length(size)), body - begun
-        return [f"length in {count} octets where {least} {'does' if least == 1 else 'do'}"] if count > least else []
+        return [f"length in {count} octets; {least} {'is' if least == 1 else 'are'} enough"] if count > least else []
 
     def value_text(self, element, content):
         if element.node == "BitString":
@@ -327,8 +363,12 @@ class Dumper(Judge):
         part = f" {fault.part_name()}" if fault.part else ""
         text = LEVELS_TEXT if fault.cause == "TooDeep" and self.in_tree() else TEXTS[fault.cause]
         yield f"refused at {fault.at}: {fault.cause}{part}\n    {text}\n"
+        if apdu_begun(self.octets) is None:
+            yield NO_MESSAGE
+            if all(0x20 <= octet <= 0x7E or octet in b"\t\n\r" for octet in self.octets[:64]):
+                yield TEXT
+        yield f"    clause {self.clause(fault)}\n"
         if fault.cause == "NormalTooLong":
-            yield OUR_LIMIT
             return
         place = self.place(fault)
         yield f"    path {place.get('path', 'none')}\n    found {place['found']}\n"
@@ -364,13 +404,17 @@ class Dumper(Judge):
         if self.path and not missing(self.path[-1]):
             yield "the end of the element"
 
-    def hint(self, fault):
-        """That what is refused is not wrong by the module of ISO 10161-1, or may not be."""
+    def clause(self, fault):
+        """The clause that the cause enforces; of BadTag it is known which one."""
         start = self.octets[fault.at : fault.at + 5]
         has_long_number = len(start) == 5 and start[0] & 31 == 31 and start[1] != 0x80 and min(start[1:]) >= 0x80
-        if fault.cause in LIMITS or fault.cause == "BadTag" and has_long_number:
-            yield OUR_LIMIT
-        elif self.profile == "module":
+        if fault.cause == "BadTag":
+            return OUR_LIMIT if has_long_number else "X.690, 8.1.2"
+        return CLAUSES[fault.cause]
+
+    def hint(self, fault):
+        """That what is refused is not wrong by the module of ISO 10161-1, or may not be."""
+        if self.profile == "module":
             return
         if fault.cause == "LeftOut":
             yield READS_PART
@@ -506,6 +550,9 @@ def examples():
     for cause, meaning, lines in re.findall(r"^([A-Z]\w+) +(.*)\n((?:^    .*\n?)+)", text, re.M):
         if meaning != TEXTS.get(cause):
             sys.exit(f"dump.py: help causes says of {cause}: {meaning}")
+        clause, lines = re.fullmatch(r" {16}\((.*?)\)\n(    (?! ).*)", lines, re.S).groups()
+        if re.sub(r"\n +", " ", clause) != CLAUSES[cause]:
+            sys.exit(f"dump.py: help causes has for {cause} the clause {clause}")
         lines = [line.strip() for line in lines.splitlines()]
         if lines[0].startswith("$ "):
             script = "\n".join(lines)[2:]

@@ -93,7 +93,7 @@ dumped='refused
       2    30 1d  SEQUENCE
       4      80 01  protocol-version-num = 2
 refused at 7: UnexpectedTag
-    the tag is not due there
+    this tag is not expected here
     path Expired
     found [2] constructed: a2
     due [1] transaction-id

@@ -26,16 +26,16 @@ from pathlib import Path
 
 sys.path.insert(0, str(Path(__file__).resolve().parents[1]))
 
-from dump import Dumper
+from dump import CLAUSES, Dumper, apdu_begun
 from model.judge import Judge, Refused
 from model.schema import Schema
-from model.tables import NAMES, PROGRAM, ROOTS, TOP, profile_and_words
+from model.tables import PROGRAM, TOP, profile_and_words
 
 PROFILE, PROFILE_WORDS = profile_and_words()
 FILES = 45
 MESSAGES = int(sys.argv[2]) if len(sys.argv) > 2 else 20_000
-# causes that say that a limit of the program is passed
-LIMITS = {"TooLong", "TooDeep", "IntegerTooLong", "NormalTooLong"}
+# causes that say that a limit of the program is passed, or a part left out
+LIMITS = {"TooLong", "TooDeep", "LeftOut", "IntegerTooLong", "NormalTooLong"}
 NOBODY = 65534
 # Names like options and a formula. With the others they are in the order in which the shell expands `*`.
 NAMES_OF_FILES = sorted(["--files-from=l.ber", "--nope.ber", "=1+1.ber", *(f"{file:03}.ber" for file in range(FILES - 3))])
@@ -114,13 +114,6 @@ def place_of(octets):
     return {}
 
 
-def apdu_of(octets):
-    """The name of the APDU that the first octet begins, or None."""
-    names = NAMES[ROOTS["module"]][1]
-    number = octets[0] % 32
-    return names[number - 1] if octets[0] >> 6 == 1 and 0 < number <= len(names) else None
-
-
 def refused_messages():
     found = []
     for vector in vectors("causes.json"):
@@ -129,11 +122,12 @@ def refused_messages():
             continue
         cause, at = vector["cause"], vector["offset"]
         not_read = cause in LIMITS or (PROFILE == "2" and is_read_past(octets, at))
-        refused = {"cause": cause, "offset": at, "kind": "not read" if not_read else "invalid"}
+        apdu = apdu_begun(octets)
+        kind = "no message" if apdu is None else "not read" if not_read else "invalid"
+        refused = {"cause": cause, "offset": at, "kind": kind, "clause": CLAUSES[cause]}
         if "part" in vector:
             refused["part"] = vector["part"]
         refused.update(place_of(octets))
-        apdu = apdu_of(octets)
         found.append((octets, {**({"apdu": apdu} if apdu else {}), "refused": refused}, None))
     return [entry for entry in found if entry[1]["refused"]["cause"] != "TrailingBytes"]
 
@@ -163,10 +157,10 @@ class Archive:
     def summary(self):
         kinds = Counter(refused["kind"] for _, refused in self.refused)
         normal = sum(line.get("normal", False) for line in self.checked)
-        refused = len(self.refused)
+        refused = len(self.refused) - kinds["no message"]
         return {"summary": {
-            "files": FILES, "messages": len(self.checked), "normal": normal, "not_normal": len(self.checked) - refused - normal, "refused": refused,
-            "not_read": kinds["not read"], "invalid": kinds["invalid"], "octets": sum(line["octets"] for line in self.checked), "not_opened": 0, "left": 0,
+            "files": FILES, "messages": len(self.checked) - kinds["no message"], "normal": normal, "not_normal": len(self.checked) - len(self.refused) - normal, "refused": refused,
+            "not_read": kinds["not read"], "invalid": kinds["invalid"], "no_message": kinds["no message"], "octets": sum(line["octets"] for line in self.checked), "not_opened": 0, "left": 0,
         }}
 
     def run(self, *words, status=1, **how):

@@ -90,7 +90,7 @@ WRONG_TAG_TEXT = """message 3: refused
       0  74 04  Expired
       2    30 02  SEQUENCE
 refused at 4: UnexpectedTag
-    the tag is not due there
+    this tag is not expected here
     path Expired
     found [UNIVERSAL 5] primitive: 05
     due [0] protocol-version-num

@@ -306,7 +306,7 @@ const DUMP: &str = "\
 Each message has the line that `check` writes, and then a line for each element as it is
 spelled: its offset in the message, its identifier and length octets, its name in the
 tables, and the value of a leaf; and in brackets what is not normal in its spelling, as
-`indefinite`, `length in 3 octets where 1 does`, `segment`, `default written`,
+`indefinite`, `length in 3 octets; 1 is enough`, `segment`, `default written`,
 `TRUE as 01` or `without inner SEQUENCE`. Where a message is refused, the elements
 before the place have their lines, and then comes the refusal: the cause in words, the
 names of the elements around the place, what was found there, and which tags were due.

@@ -4,50 +4,73 @@
 pub const CAUSES: &str = "\
 Why a message is refused. Each message has at most one cause, at one offset: octets
 from the first one of the message. `illcanon dump` writes what was found there, and
-what was due. After each cause is an example, in hexadecimal digits or as a command
-that prints its octets. To see one:
+what was due. After each cause comes the clause that the message breaks, or `limit of
+illcanon` where it breaks none, and then an example, in hexadecimal digits or as a
+command that prints its octets. To see one:
 
     echo 7400 | illcanon dump --hex -
 
 Truncated       the input ends inside the message
+                (X.690, 8.1.1)
     7401
 BadTag          no identifier begins so, or the tag number has more than four octets
+                (X.690, 8.1.2; for a number of more than four octets, limit of
+                 illcanon)
     7f14
 BadLength       the first length octet is FF, or 80 in a primitive element
+                (X.690, 8.1.3.2 and 8.1.3.5)
     74ff
 TooLong         the message would have more than 1,048,576 octets
+                (limit of illcanon)
     748400100000
 Overrun         the element would go past the end of an element round it
+                (X.690, 8.1.3.3)
     74023001
 TooDeep         more than 32 elements would be open
+                (limit of illcanon)
     $ printf '\\164\\200\\060\\200\\200\\001\\002\\241\\200\\241\\200\\073\\200'
     for i in $(seq 28); do printf '\\044\\200'; done
-UnexpectedTag   the tag is not due there
+UnexpectedTag   this tag is not expected here
+                (X.690, 8.9.2, 8.10.2, 8.13 and 8.14, with the types of ISO 10161-1)
     740430020500
 LeftOut         this part is not read
+                (limit of illcanon)
     6200
-WrongForm       it is primitive where it has to be constructed, or the reverse
+WrongForm       its form, primitive or constructed, is not the one expected here
+                (X.690, 8.2.1, 8.3.1, 8.8.1, 8.9.1, 8.10.1, 8.14 and 8.19.1)
     5400
 Missing         the element ends before a mandatory part
+                (X.690, 8.9.3 and 8.14, with the types of ISO 10161-1)
     7400
 BadEnd          the second octet of an end mark is not 00
+                (X.690, 8.1.5)
     74800001
-BadBoolean      a BOOLEAN has one octet
+BadBoolean      the BOOLEAN does not have exactly one octet
+                (X.690, 8.2.1)
     6580800102a10aa1031b0147a2031b0151a20ca00a800832303234303232399f2300
 BadInteger      the number has no octet, or one more than it needs
+                (X.690, 8.3.1 and 8.3.2)
     740430028000
 IntegerTooLong  the number has more than eight octets
+                (limit of illcanon)
     740d300b8009010000000000000000
 BadText         an octet is not in the alphabet of the string
+                (X.690, 8.23, and X.680, 41)
     7480800102a180a1801b010e
 BadDate         it is not eight digits of a day that exists
+                (ISO 10161-1: ISO-Date ::= VisibleString -- conforms to ISO 8601,
+                 length = 8, fixed, YYYYMMDD)
     7480800102a10aa1031b0147a2031b0151a20ca00a80083230323430323330
 BadTime         it is not six digits of a time of day
+                (ISO 10161-1: ISO-Time ::= VisibleString -- conforms to ISO 8601,
+                 length = 6, fixed, HHMMSS)
     7480800102a10aa1031b0147a2031b0151a214a0128008323032343032323981063235
     30303030
 TrailingBytes   octets follow the message
+                (limit of illcanon)
     741f301d800102a10aa1031b0147a2031b0151a20ca00a8008323032343032323900
 NormalTooLong   the normal form would have more than 1,048,576 octets
+                (limit of illcanon)
     $ printf '\\161\\200\\200\\001\\002\\241\\012\\241\\003\\033\\001G\\242\\003\\033\\001Q'
     printf '\\242\\014\\240\\012\\200\\01020240229\\277\\056\\200\\033\\203\\017\\377\\325'
     head -c 1048533 /dev/zero | tr '\\0' A
@@ -63,11 +86,14 @@ five rows that are WrongForm or UnexpectedTag there (`illcanon help profile`).
 With it TooDeep is also an element at level 21 of a foreign tree, and there are
 three more causes. `illcanon dump --profile module --hex -` shows examples:
 
-BadNull         a NULL has no octets
+BadNull         the NULL has octets
+                (X.690, 8.8.2)
     7080800102a10aa1031b0147a2031b0151a20ca00a80083230323430323239a580810100
 BadOid          the identifier has no octet, one more than it needs, or no end
+                (X.690, 8.19.2)
     7080800102a10aa1031b0147a2031b0151a20ca00a80083230323430323239a580800180
 BadBits         the first octet is not the number of unused bits
+                (X.690, 8.6.2)
     6a80800102a10aa1031b0147a2031b0151a20ca00a80083230323430323239b1802880820108";
 
 /// The parts of a message that each profile reads, and those that it doesn't.

@@ -5,8 +5,14 @@ use Rattle.ill_normal.specs.Messages.{counted}
 use Rattle.ill_normal.specs.declared.report.RefusalReport.{RefusalReport}
 use Rattle.ill_normal.specs.declared.counts.Counts.{Counts}
 use Rattle.ill_cli.specs.declared.build.BuildCounts.{BuildCounts}
+use Rattle.ill_json.specs.declared.result.RefusalKind.{RefusalKind}
+use Rattle.ill_cli.specs.declared.summary.KindCounts.{KindCounts}
 use Rattle.ill_cli.specs.declared.summary.LeftAt.{LeftAt}
 use Rattle.ill_cli.specs.declared.summary.Summary.{Summary}
+
+-- a number of messages of one input, or 4,294,967,295 where it would be more
+abbrev pub counted_messages : ℕ → ℕ
+counted_messages n = min n 4_294_967_295
 
 -- a file more that was opened
 abbrev pub with_file : Summary → Summary
@@ -44,9 +50,18 @@ with_lines s counts = record s {
   octets = counted (s.octets + counts.octets);
 }
 
--- so many of the refused messages more are only not read
-abbrev pub with_not_read : Summary → ℕ → Summary
-with_not_read s count = record s { not_read = counted (s.not_read + count) }
+-- a refusal of a kind more; one that is invalid is in no count
+abbrev pub with_kind : KindCounts → RefusalKind → KindCounts
+with_kind k RefusalKind.NoMessage = record k { no_message = counted_messages (k.no_message + 1) }
+with_kind k RefusalKind.NotRead = record k { not_read = counted_messages (k.not_read + 1) }
+with_kind k RefusalKind.Invalid = k
+
+-- so many of what is refused are only not read, and at so many places no message begins
+abbrev pub with_kinds : Summary → KindCounts → Summary
+with_kinds s kinds = record s {
+  not_read = counted (s.not_read + kinds.not_read);
+  no_message = counted (s.no_message + kinds.no_message);
+}
 
 -- messages more, of which some are refused
 abbrev pub with_counts : Summary → Counts → Summary
@@ -60,17 +75,21 @@ octets_of_report report = elim report.octets as (λ _. ℕ) [ Some n ↦ n | Non
 abbrev pub with_report : Summary → RefusalReport → Summary
 with_report s report = record (with_refused s 1) { octets = counted (s.octets + octets_of_report report) }
 
+-- how many messages are refused: at the other places no message begins
+abbrev pub refused_messages_of : Summary → ℕ
+refused_messages_of s = s.refused - s.no_message
+
+-- how many of these are not only not read
+abbrev pub invalid_of : Summary → ℕ
+invalid_of s = refused_messages_of s - s.not_read
+
 -- how many messages there are
 abbrev pub messages_of : Summary → ℕ
-messages_of s = counted (s.normal + s.not_normal + s.refused)
+messages_of s = counted (s.normal + s.not_normal + refused_messages_of s)
 
 -- where a refused message is
 abbrev pub place_of_report : RefusalReport → LeftAt
 place_of_report report = record { message = report.message; offset = report.offset }
-
--- a number of messages of one input, or 4,294,967,295 where it would be more
-abbrev pub counted_messages : ℕ → ℕ
-counted_messages n = min n 4_294_967_295
 
 -- the message at which a fault ended the work on an input whose messages are counted so; a fault of the output has no such place
 abbrev pub left_after : RunFault → Counts → Option LeftAt

@@ -32,6 +32,7 @@ where
 {
     let end = run_job(reports.rt.alloc(), work, source, sink, &mut reports);
     let last = reports.kept.end(tally);
+    tally.summary.add_kinds(reports.kinds);
     job_verdict(work.job, tally.add_input(end, work.on_refusal, last))
 }
 
@@ -65,6 +66,7 @@ where
 {
     let end = run_dump(reports.rt.alloc(), dump, source, sink, &mut reports);
     let last = reports.kept.end(tally);
+    tally.summary.add_kinds(reports.kinds);
     dump_verdict(dump.only, tally.add_input(end, dump.on_refusal, last))
 }
 

@@ -11,6 +11,7 @@ use ill_files::{
 };
 use ill_inputs::Verdict;
 use ill_normal::RefusalReport;
+use ill_schema::apdu_begun;
 use std::io::{Printer, Write};
 use std::rt::Files;
 use std::{fs, str};
@@ -155,8 +156,12 @@ impl<'o, P: Write + Drop, Q: Write + Drop> KeepRefused<'o, P, Q> {
         }
     }
 
-    /// Writes the octets of a message if they are complete and its end is known, so that the next one begins after it.
+    /// Writes the octets of a message if they are complete and its end is known, so that the next one begins after it. Octets that begin
+    /// no message are not kept.
     pub fn keep(&mut self, report: RefusalReport, octets: &[u8]) {
+        if apdu_begun(octets).is_none() {
+            return;
+        }
         if report.octets == Some(octets.len() as u64) {
             self.write(octets);
         } else {

@@ -3,10 +3,14 @@ ghost use Rattle.std.specs.Prelude.{◌≡◌};
 
 use crate::limit::RefusalLimit;
 use crate::refused::KeepRefused;
+use crate::summary::KindCounts;
 use crate::tally::Tally;
+use ill_commands::{Profile, refusal_kind};
 use ill_files::{FileNameRef, ProgressLine, RunLine};
 use ill_inputs::RunFault;
 use ill_normal::{RefusalReport, ReportRefusals};
+use ill_schema::Refusal;
+use std::alloc::AllocError;
 use std::fmt;
 use std::io::Write;
 
@@ -79,7 +83,7 @@ impl<P: Write + Drop, Q: Write + Drop> ReportRefusals for KeepReports<'_, P, Q> 
     }
 }
 
-/// Prints a line for each refused message, with the name of its file where there are several, and keeps the messages.
+/// Prints a line for each refused message, with the name of its file where there are several, keeps the messages, and counts their kinds.
 #[derive(Drop)]
 pub struct PrintReports<'a, R, P: Write + Drop, Q: Write + Drop> {
     pub rt: &'a R,
@@ -88,9 +92,29 @@ pub struct PrintReports<'a, R, P: Write + Drop, Q: Write + Drop> {
     pub is_raw: bool,
     pub progress: &'a ProgressLine,
     pub kept: KeepReports<'a, P, Q>,
+    /// The profile in which messages are read.
+    pub profile: Profile,
+    /// True if the kinds of the refusals are counted.
+    pub is_counted: bool,
+    pub kinds: KindCounts,
 }
 
-impl<R: Eprint, P: Write + Drop, Q: Write + Drop> ReportRefusals for PrintReports<'_, R, P, Q> {
+impl<R: AllocGlobal, P: Write + Drop, Q: Write + Drop> PrintReports<'_, R, P, Q> {
+    /// Counts the kind of a refusal of these octets, if kinds are counted.
+    fn count(&mut self, refusal: Refusal, octets: &[u8]) -> Result<(), RunFault> {
+        if self.is_counted {
+            match refusal_kind(self.rt.alloc(), self.profile, octets, refusal) {
+                Ok(kind) => self.kinds.add(kind),
+                Err(AllocError) => return Err(RunFault::OutOfMemory),
+            }
+        }
+        Ok(())
+    }
+}
+
+impl<R: Eprint + AllocGlobal, P: Write + Drop, Q: Write + Drop> ReportRefusals
+    for PrintReports<'_, R, P, Q>
+{
     ghost use Rattle.std.specs.Prelude.{None};
 
     ghost reported = { λ _. None };
@@ -106,6 +130,7 @@ impl<R: Eprint, P: Write + Drop, Q: Write + Drop> ReportRefusals for PrintReport
             Some(name) => eprintln!(self.rt; "illcanon: {name}: {line}"),
             None => eprintln!(self.rt; "illcanon: {line}"),
         };
+        self.count(report.refusal, octets)?;
         self.kept.report(report, octets)
     }
 }

@@ -11,10 +11,11 @@ ghost use Rattle.ill_cli.specs.Plans.{is_json_result};
 
 use crate::input::job_verdict;
 use crate::report_lines::KeepReports;
+use crate::summary::KindCounts;
 use crate::tally::Tally;
 use ber_core::{Sink, Source, put_all};
 use ill_commands::{
-    Job, JobOptions, RefusalKind, RefusalReport, RefusedLine, Verdict, WriteJob, refused_json,
+    Job, JobOptions, RefusalReport, RefusedLine, Verdict, WriteJob, refused_json,
 };
 use ill_dump::place_of_refusal;
 use ill_files::ProgramError;
@@ -41,8 +42,8 @@ pub(crate) struct WriteResults<'a> {
     job: WriteJob<'a>,
     /// Memory for the line of a refused message.
     buffer: Vec<u8>,
-    /// The number of messages that are only not read.
-    not_read: u32,
+    /// The kinds of the refused messages.
+    kinds: KindCounts,
 }
 
 impl<'a> WriteResults<'a> {
@@ -54,7 +55,7 @@ impl<'a> WriteResults<'a> {
             alloc,
             job: WriteJob::new(alloc, work),
             buffer: Vec::new(alloc),
-            not_read: 0,
+            kinds: KindCounts::NONE,
         }
     }
 }
@@ -114,9 +115,7 @@ impl<'a> WriteItems for WriteResults<'a> {
             Ok(refused) => refused,
             Err(AllocError) => return Err(PutError::OutOfMemory),
         };
-        if kind == RefusalKind::NotRead {
-            self.not_read = self.not_read.saturating_add(1);
-        }
+        self.kinds.add(kind);
         let put = put_all(sink, &line);
         let len = line.len() as u64;
         self.buffer = line;
@@ -165,6 +164,6 @@ where
     };
     let end = read_input(reading, &mut writer, source, sink, &mut reports);
     let last = reports.end(tally);
-    tally.summary.add_not_read(writer.not_read);
+    tally.summary.add_kinds(writer.kinds);
     job_verdict(work.job, tally.add_input(end, work.on_refusal, last))
 }

@@ -11,6 +11,7 @@ use crate::plan::{Action, InputAction};
 use crate::refused::RefusedFile;
 use crate::report_lines::{KeepReports, PrintReports};
 use crate::results::{WriteResults, has_json_result, put_results};
+use crate::summary::KindCounts;
 use crate::tally::Tally;
 use ber_core::{Source, ToWrite};
 use ill_commands::{JobOptions, OnRefusal, Verdict};
@@ -87,6 +88,9 @@ impl<'a, 'r, 'p, R: Print + Eprint + Files + AllocGlobal> Run<'a, 'r, 'p, R> {
                     is_raw: work.job.is_json(),
                     progress: self.tally.progress,
                     kept: KeepReports::new(self.refused.keeper(), self.tally.limit),
+                    profile: work.profile,
+                    is_counted: self.tally.is_counted,
+                    kinds: KindCounts::NONE,
                 };
                 let sink = &mut sink_to(output);
                 put_messages(work, source, sink, reports, &mut self.tally)
@@ -98,6 +102,9 @@ impl<'a, 'r, 'p, R: Print + Eprint + Files + AllocGlobal> Run<'a, 'r, 'p, R> {
                     is_raw: false,
                     progress: self.tally.progress,
                     kept: KeepReports::new(self.refused.keeper(), self.tally.limit),
+                    profile: dump.profile,
+                    is_counted: self.tally.is_counted,
+                    kinds: KindCounts::NONE,
                 };
                 let sink = &mut sink_to(output);
                 put_elements(dump, source, sink, reports, &mut self.tally)

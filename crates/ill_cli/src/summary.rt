@@ -1,8 +1,9 @@
 //! The line of numbers at the end of a command.
 ghost use Rattle.std.specs.Prelude.{◌≡◌};
-ghost use Rattle.ill_cli.specs.Counts.{left_after, messages_of, place_of_report, with_counts, with_file, with_left, with_lines, with_not_read, with_report, with_unopened, without_file};
+ghost use Rattle.ill_cli.specs.Counts.{invalid_of, left_after, messages_of, place_of_report, refused_messages_of, with_counts, with_file, with_kind, with_kinds, with_left, with_lines, with_report, with_unopened, without_file};
 
 use crate::build::BuildCounts;
+use ill_commands::RefusalKind;
 use ill_files::Count;
 use ill_inputs::RunFault;
 use ill_normal::{Counts, RefusalReport};
@@ -17,10 +18,12 @@ pub struct Summary {
     pub normal: u64,
     /// Messages that are spelled in another way.
     pub not_normal: u64,
-    /// Messages that are refused.
+    /// What is refused: messages, and places where no message begins.
     pub refused: u64,
-    /// Those of them that are only not read, where lines of JSON say so.
+    /// The messages of them that are only not read.
     pub not_read: u64,
+    /// The places where no message begins.
+    pub no_message: u64,
     /// Octets of the messages, those that are refused too, where their ends are known.
     pub octets: u64,
     /// Files that could not be opened.
@@ -37,6 +40,7 @@ impl Summary {
         not_normal: 0,
         refused: 0,
         not_read: 0,
+        no_message: 0,
         octets: 0,
         unopened: 0,
         left: 0,
@@ -100,43 +104,90 @@ impl Summary {
         self.octets = self.octets.saturating_add(counts.octets);
     }
 
-    /// Counts refused messages that are only not read.
-    pub fn add_not_read(&mut self, count: u32)
-        ensures { self.new ≡ with_not_read self.old count }
+    /// Counts the kinds of refusals.
+    pub fn add_kinds(&mut self, kinds: KindCounts)
+        ensures { self.new ≡ with_kinds self.old kinds }
     {
-        self.not_read = self.not_read.saturating_add(u64::from(count));
+        self.not_read = self.not_read.saturating_add(u64::from(kinds.not_read));
+        self.no_message = self.no_message.saturating_add(u64::from(kinds.no_message));
     }
 
-    /// The number of messages.
+    /// The number of messages, refused ones too.
     pub fn messages(&self) -> u64
         ensures { result ≡ messages_of self.now }
     {
         self.normal
             .saturating_add(self.not_normal)
-            .saturating_add(self.refused)
+            .saturating_add(self.refused_messages())
+    }
+
+    /// The number of messages that are refused.
+    pub fn refused_messages(&self) -> u64
+        ensures { result ≡ refused_messages_of self.now }
+    {
+        self.refused.saturating_sub(self.no_message)
+    }
+
+    /// The number of messages that are refused and not only not read.
+    pub fn invalid(&self) -> u64
+        ensures { result ≡ invalid_of self.now }
+    {
+        self.refused_messages().saturating_sub(self.not_read)
     }
 }
 
 impl fmt::Display for Summary {
     fn fmt<W: fmt::Write>(&self, f: &mut fmt::Formatter<W>) -> fmt::Result {
-        let messages = self.messages();
+        let refused = self.refused_messages();
         let Summary {
             files,
             normal,
             not_normal,
-            refused,
-            not_read: _,
+            not_read,
+            no_message,
             octets,
             ..
         } = *self;
         let files = Count(files, "file");
-        let messages = Count(messages, "message");
-        let octets = Count(octets, "octet");
+        let messages = Count(self.messages(), "message");
         write!(
             f,
-            "{files}, {messages}, {normal} normal, {not_normal} not normal, {refused} refused, {octets}"
+            "{files}, {messages}, {normal} normal, {not_normal} not normal, {refused} refused"
         )?;
+        if refused > 0 {
+            write!(f, " ({not_read} not read, {} invalid)", self.invalid())?;
+        }
+        write!(f, ", {}", Count(octets, "octet"))?;
+        if no_message > 0 {
+            write!(f, ", {} without a message", Count(no_message, "place"))?;
+        }
         fmt_unread(*self, f)
+    }
+}
+
+/// The kinds of refusals, counted. A count that would overflow stays at the greatest number.
+#[derive(Clone, Copy)]
+pub struct KindCounts {
+    pub not_read: u32,
+    pub no_message: u32,
+}
+
+impl KindCounts {
+    /// Nothing was refused yet.
+    pub const NONE: KindCounts = KindCounts {
+        not_read: 0,
+        no_message: 0,
+    };
+
+    /// Counts a refusal of this kind.
+    pub fn add(&mut self, kind: RefusalKind)
+        ensures { self.new ≡ with_kind self.old kind }
+    {
+        match kind {
+            RefusalKind::NoMessage => self.no_message = self.no_message.saturating_add(1),
+            RefusalKind::NotRead => self.not_read = self.not_read.saturating_add(1),
+            RefusalKind::Invalid => {}
+        }
     }
 }
 
@@ -183,16 +234,18 @@ impl fmt::Display for JsonSummary {
     fn fmt<W: fmt::Write>(&self, f: &mut fmt::Formatter<W>) -> fmt::Result {
         let JsonSummary(summary) = *self;
         let messages = summary.messages();
-        let invalid = summary.refused.saturating_sub(summary.not_read);
+        let refused = summary.refused_messages();
+        let invalid = summary.invalid();
         let Summary {
             files,
             normal,
             not_normal,
-            refused,
             not_read,
+            no_message,
             octets,
             unopened,
             left,
+            ..
         } = summary;
         f.write_str("{\"summary\":{")?;
         write!(
@@ -202,8 +255,9 @@ impl fmt::Display for JsonSummary {
         write!(f, "\"not_normal\":{not_normal},\"refused\":{refused},")?;
         write!(
             f,
-            "\"not_read\":{not_read},\"invalid\":{invalid},\"octets\":{octets},"
+            "\"not_read\":{not_read},\"invalid\":{invalid},\"no_message\":{no_message},"
         )?;
+        write!(f, "\"octets\":{octets},")?;
         write!(f, "\"not_opened\":{unopened},\"left\":{left}")?;
         f.write_str("}}")
     }

@@ -57,9 +57,9 @@ impl DerNotes {
         self.begin(lines)?;
         lines.text("length in ")?;
         lines.count(octets)?;
-        lines.text(" octets where ")?;
+        lines.text(" octets; ")?;
         lines.count(least)?;
-        lines.text(if least == 1 { " does" } else { " do" })
+        lines.text(if least == 1 { " is enough" } else { " are enough" })
     }
 
     /// Notes a BOOLEAN.

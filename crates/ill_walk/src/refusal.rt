@@ -5,11 +5,11 @@ use crate::lines::LineBuffer;
 use crate::refused_place::{RefusedPlace, first_of};
 use crate::walk::ElementWalk;
 use ill_grammar::{Element, LeafType};
-use ill_schema::{Cause, NodeId, Profile, Refusal};
+use ill_schema::{Cause, NodeId, Profile, Refusal, apdu_begun};
 use std::alloc::{AllocError, Global};
 
-/// The line for what is refused by a limit.
-const OUR_LIMIT: &str = "    a limit of illcanon, not of ISO 10161-1\n";
+/// The number of octets that are looked at to say that octets look like text.
+const TEXT_LOOK: usize = 64;
 
 /// The number of octets that an identifier has at most: the first one, and four of the tag number.
 const MAX_IDENTIFIER: usize = 5;
@@ -28,12 +28,45 @@ pub fn put_refusal_lines(
     lines.text("    ")?;
     lines.text(text_of(walk, refusal.cause))?;
     lines.text("\n")?;
-    if refusal.cause == Cause::NormalTooLong {
-        lines.text(OUR_LIMIT)?;
-    } else {
+    put_no_message(lines, octets)?;
+    put_clause(lines, octets, refusal)?;
+    if refusal.cause != Cause::NormalTooLong {
         put_place(alloc, lines, walk, octets, refusal)?;
     }
     lines.tags("</div>")
+}
+
+/// The lines that say that no message begins with the octets, where none does, and that they look like text, where they do.
+fn put_no_message(lines: &mut LineBuffer, octets: &[u8]) -> Result<(), AllocError> {
+    if apdu_begun(octets).is_some() {
+        return Ok(());
+    }
+    lines.text("    no ILL message begins here\n")?;
+    if first_of(octets, TEXT_LOOK).iter().all(|octet| is_text(*octet)) {
+        lines.text("    it looks like text\n")?;
+    }
+    Ok(())
+}
+
+/// Tells whether an octet is a printable character of ASCII, a tab or the end of a line.
+fn is_text(octet: u8) -> bool {
+    matches!(octet, b' '..=b'~' | b'\t' | b'\n' | b'\r')
+}
+
+/// The line of the clause that the cause of a refusal enforces.
+fn put_clause(
+    lines: &mut LineBuffer,
+    octets: &[u8],
+    refusal: Refusal,
+) -> Result<(), AllocError> {
+    let rest = octets.get(refusal.at as usize..).unwrap_or(&[]);
+    lines.text("    clause ")?;
+    lines.text(match refusal.cause {
+        Cause::BadTag if has_long_number(rest) => "limit of illcanon",
+        Cause::BadTag => "X.690, 8.1.2",
+        cause => cause.clause(),
+    })?;
+    lines.text("\n")
 }
 
 /// `refused at`, the offset, and the cause with the part that it is about.
@@ -109,11 +142,6 @@ fn put_hint(
     rest: &[u8],
     cause: Cause,
 ) -> Result<(), AllocError> {
-    match cause {
-        Cause::IntegerTooLong | Cause::TooLong | Cause::TooDeep => return lines.text(OUR_LIMIT),
-        Cause::BadTag if has_long_number(rest) => return lines.text(OUR_LIMIT),
-        _ => {}
-    }
     if walk.profile() != Profile::Two {
         return Ok(());
     }

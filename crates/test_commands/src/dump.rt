@@ -18,7 +18,7 @@ const SPELLED: &str =
 
 /// Its dump.
 const NOTED: &str = "message 1: Expired, 40 octets, not normal, normal form 33 octets
-      0  74 81 25  Expired  (length in 2 octets where 1 does)
+      0  74 81 25  Expired  (length in 2 octets; 1 is enough)
       3    30 80  SEQUENCE  (indefinite)
       5      80 01  protocol-version-num = 2
       8      a1 0a  transaction-id
@@ -293,7 +293,7 @@ const UNITS: &str =
     "63323030800102a10aa1031b0147a2031b0151a20ca00a800832303234303232399b0101bd0ea80c300aa0030a0101a103020101";
 
 const UNITS_LINES: &str = "refused at 42: WrongForm
-    it is primitive where it has to be constructed, or the reverse
+    its form, primitive or constructed, is not the one expected here
     path Shipped.supply-details.no-of-units-per-medium.item[0].medium
     found [0] constructed: a0
     due [0] primitive: 80
@@ -309,7 +309,7 @@ const REASON: &str =
     "642f302d800102a10aa1031b0147a2031b0151a20ca00a800832303234303232399f1f0105bf2009a5073005a0030a0101";
 
 const REASON_LINES: &str = "refused at 44: WrongForm
-    it is primitive where it has to be constructed, or the reverse
+    its form, primitive or constructed, is not the one expected here
     path ILL-Answer.results-explanation.will-supply-results.reason-will-supply
     found [0] constructed: a0
     due [0] primitive: 80
@@ -323,7 +323,7 @@ const SERVICE: &str =
     "64353033800102a10aa1031b0147a2031b0151a20ca00a800832303234303232399f1f0101bf200fa10d300b800101a7061b04706f7374";
 
 const SERVICE_LINES: &str = "refused at 47: UnexpectedTag
-    the tag is not due there
+    this tag is not expected here
     path ILL-Answer.results-explanation.conditional-results
     found [7] constructed: a7
     due [1] date-for-reply

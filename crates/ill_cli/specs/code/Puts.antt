@@ -19,7 +19,7 @@ use Rattle.ill_normal.specs.declared.counts.Counts.{Counts}
 use Rattle.ill_normal.specs.declared.messages.OnRefusal.{OnRefusal}
 use Rattle.ill_normal.specs.declared.messages.StreamEnd.{StreamEnd}
 use Rattle.ill_cli.specs.Builds.{BuildAnswers}
-use Rattle.ill_cli.specs.Counts.{with_not_read}
+use Rattle.ill_cli.specs.Counts.{with_kinds}
 use Rattle.ill_cli.specs.Limit.{line_error_at}
 use Rattle.ill_cli.specs.Plans.{is_json_result}
 use Rattle.ill_cli.specs.code.Results.{RunsResults}
@@ -27,6 +27,7 @@ use Rattle.ill_cli.specs.code.Tallied.{Tallies}
 use Rattle.ill_cli.specs.declared.build.BuildOptions.{BuildOptions}
 use Rattle.ill_cli.specs.declared.limit.RefusalLimit.{RefusalLimit}
 use Rattle.ill_cli.specs.declared.plan.InputAction.{InputAction}
+use Rattle.ill_cli.specs.declared.summary.KindCounts.{KindCounts}
 use Rattle.ill_cli.specs.declared.summary.Summary.{Summary}
 use Rattle.ill_cli.specs.declared.tally.Tally.{Tally}
 
@@ -69,16 +70,17 @@ lines_verdict (Ok good) = Ok (verdict_if good)
 lines_verdict (Err (RunFault.WriteFault n)) = Err ProgramError.Flush
 lines_verdict (Err fault) = Err (ProgramError.Run (record { 0 = fault }))
 
--- a job was done with the messages of an input
+-- a job was done with the messages of an input; the kinds of those that are refused are counted, where counts are wanted
 abbrev pub IsJobPut : JobOptions → Taking → Summary → Tally → Result Verdict ProgramError → Type 0
 IsJobPut work source summary new done =
-    (counted : Result Counts ProgramError) × Tallies (IsJobEnd work source) work.on_refusal summary new counted × (done ≡ job_verdict work.job counted)
+    (counted : Result Counts ProgramError) × (kinds : KindCounts)
+    × Tallies (IsJobEnd work source) work.on_refusal (with_kinds summary kinds) new counted × (done ≡ job_verdict work.job counted)
 
--- a job was done whose results are lines of JSON, of refused messages, too; some of these are only not read
+-- a job was done whose results are lines of JSON, of refused messages, too
 abbrev pub AreLinesPut : JobOptions → Taking → Summary → Tally → Result Verdict ProgramError → Type 0
 AreLinesPut work source summary new done =
-    (counted : Result Counts ProgramError) × (not_read : ℕ)
-    × Tallies (IsResultsEnd work source) work.on_refusal (with_not_read summary not_read) new counted × (done ≡ job_verdict work.job counted)
+    (counted : Result Counts ProgramError) × (kinds : KindCounts)
+    × Tallies (IsResultsEnd work source) work.on_refusal (with_kinds summary kinds) new counted × (done ≡ job_verdict work.job counted)
 
 abbrev pub AreResultsPut : JobOptions → Taking → Summary → Tally → Result Verdict ProgramError → Type 0
 AreResultsPut work source summary new done =
@@ -92,7 +94,8 @@ AreMessagesPut false work source summary new done = IsJobPut work source summary
 -- the elements of the messages were written
 abbrev pub AreElementsPut : DumpOptions → Taking → Summary → Tally → Result Verdict ProgramError → Type 0
 AreElementsPut dump source summary new done =
-    (counted : Result Counts ProgramError) × Tallies (IsDumpEnd dump source) dump.on_refusal summary new counted × (done ≡ dump_verdict dump.only counted)
+    (counted : Result Counts ProgramError) × (kinds : KindCounts)
+    × Tallies (IsDumpEnd dump source) dump.on_refusal (with_kinds summary kinds) new counted × (done ≡ dump_verdict dump.only counted)
 
 -- the lines of an input were done, or the work on them failed
 abbrev pub LinesAnswer : LineOptions → Taking → Result Bool RunFault → Type 0

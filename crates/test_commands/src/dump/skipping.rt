@@ -32,7 +32,7 @@ const MIXED: &str =
 
 const FIRST: &str = "message 1: refused
 refused at 0: UnexpectedTag
-    the tag is not due there
+    this tag is not expected here
     path none
     found [UNIVERSAL 5] primitive: 05
 ";
@@ -40,7 +40,7 @@ refused at 0: UnexpectedTag
 const SECOND: &str = "message 2: refused
       0  74 0e  Expired
 refused at 2: UnexpectedTag
-    the tag is not due there
+    this tag is not expected here
     path Expired
     found [2] constructed: a2
 ";

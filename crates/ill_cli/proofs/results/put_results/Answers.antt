@@ -1,20 +1,20 @@
 use Rattle.std.proofs.Common.{ap, ◌∙◌}
 use Rattle.ill_normal.specs.Calls.{putting}
-use Rattle.ill_cli.specs.Counts.{with_not_read}
+use Rattle.ill_cli.specs.Counts.{with_kinds}
 use Rattle.ill_cli.proofs.results.put_results.Goals as goal
 
 pub returns : goal.returns
 returns g c =
     let output = putting (g.W.Sink.contents c.args.sink.now) (g.W.Sink.contents c.read_input-end.new.sink) (g.W.Sink.is_broken c.read_input-end.new.sink) in
-    let not_read = c.read_input-end.new.writer.not_read in (
+    let kinds = c.read_input-end.new.writer.kinds in (
       c.add_input.result,
-      not_read,
+      kinds,
       record {
         end = c.read_input-end.result;
         last = c.end-last.result;
-        before = record c.end-last.new.tally { summary = c.add_not_read.new.self };
+        before = record c.end-last.new.tally { summary = c.add_kinds.new.self };
         is_end = (output, c.read_input-end.ensures.reads);
-        same = c.add_not_read.ensures ∙ ap (λ s. with_not_read s not_read) c.end-last.ensures;
+        same = c.add_kinds.ensures ∙ ap (λ s. with_kinds s kinds) c.end-last.ensures;
         adds = c.add_input.ensures.counts;
         answers = c.add_input.ensures.answer;
       },
