@@ -363,7 +363,7 @@ class Dumper(Judge):
         part = f" {fault.part_name()}" if fault.part else ""
         text = LEVELS_TEXT if fault.cause == "TooDeep" and self.in_tree() else TEXTS[fault.cause]
         yield f"refused at {fault.at}: {fault.cause}{part}\n    {text}\n"
-        if apdu_begun(self.octets) is None:
+        if not self.is_begun():
             yield NO_MESSAGE
             if all(0x20 <= octet <= 0x7E or octet in b"\t\n\r" for octet in self.octets[:64]):
                 yield TEXT
@@ -371,18 +371,23 @@ class Dumper(Judge):
         if fault.cause == "NormalTooLong":
             return
         place = self.place(fault)
-        yield f"    path {place.get('path', 'none')}\n    found {place['found']}\n"
+        if self.is_begun():
+            yield f"    path {place.get('path', 'none')}\n"
+        yield f"    found {place['found']}\n"
         due = place.get("due", [])
         yield from (f"    due {text}\n" for text in due)
         if any(text.endswith(" (not read)") for text in due):
             yield MARKED
-        yield from self.hint(fault)
+        if self.is_begun():
+            yield from self.hint(fault)
         yield from self.unjudged(fault)
 
     def place(self, fault):
         """The place of a fault in words, as lines of JSON have it."""
         if fault.cause == "NormalTooLong":
             return {}
+        if not self.is_begun():
+            return {"found": self.found(fault)}
         path, due = ".".join(label for label in self.labels if label), list(self.due_texts(fault))
         return {**({"path": path} if path else {}), "found": self.found(fault), **({"due": due} if due else {})}
 
@@ -403,6 +408,10 @@ class Dumper(Judge):
                 yield f"{tag_text(tag)} {self.label(element, tag)[0]}{' (not read)' if element.kind == 'left out' else ''}"
         if self.path and not missing(self.path[-1]):
             yield "the end of the element"
+
+    def is_begun(self):
+        """Whether an APDU begins here, by the octets up to the end of the outermost element, as far as it is known."""
+        return apdu_begun(self.octets[: framed(self.octets)]) is not None
 
     def clause(self, fault):
         """The clause that the cause enforces; of BadTag it is known which one."""

@@ -50,16 +50,17 @@ with_lines s counts = record s {
   octets = counted (s.octets + counts.octets);
 }
 
--- a refusal of a kind more; one that is invalid is in no count
+-- a refusal of a kind more
 abbrev pub with_kind : KindCounts → RefusalKind → KindCounts
 with_kind k RefusalKind.NoMessage = record k { no_message = counted_messages (k.no_message + 1) }
 with_kind k RefusalKind.NotRead = record k { not_read = counted_messages (k.not_read + 1) }
-with_kind k RefusalKind.Invalid = k
+with_kind k RefusalKind.Invalid = record k { invalid = counted_messages (k.invalid + 1) }
 
--- so many of what is refused are only not read, and at so many places no message begins
+-- so many refused messages are only not read, so many are wrong, and at so many places no message begins
 abbrev pub with_kinds : Summary → KindCounts → Summary
 with_kinds s kinds = record s {
   not_read = counted (s.not_read + kinds.not_read);
+  invalid = counted (s.invalid + kinds.invalid);
   no_message = counted (s.no_message + kinds.no_message);
 }
 
@@ -78,10 +79,6 @@ with_report s report = record (with_refused s 1) { octets = counted (s.octets + 
 -- how many messages are refused: at the other places no message begins
 abbrev pub refused_messages_of : Summary → ℕ
 refused_messages_of s = s.refused - s.no_message
-
--- how many of these are not only not read
-abbrev pub invalid_of : Summary → ℕ
-invalid_of s = refused_messages_of s - s.not_read
 
 -- how many messages there are
 abbrev pub messages_of : Summary → ℕ

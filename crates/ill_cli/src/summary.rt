@@ -1,6 +1,6 @@
 //! The line of numbers at the end of a command.
 ghost use Rattle.std.specs.Prelude.{◌≡◌};
-ghost use Rattle.ill_cli.specs.Counts.{invalid_of, left_after, messages_of, place_of_report, refused_messages_of, with_counts, with_file, with_kind, with_kinds, with_left, with_lines, with_report, with_unopened, without_file};
+ghost use Rattle.ill_cli.specs.Counts.{left_after, messages_of, place_of_report, refused_messages_of, with_counts, with_file, with_kind, with_kinds, with_left, with_lines, with_report, with_unopened, without_file};
 
 use crate::build::BuildCounts;
 use ill_commands::RefusalKind;
@@ -20,8 +20,10 @@ pub struct Summary {
     pub not_normal: u64,
     /// What is refused: messages, and places where no message begins.
     pub refused: u64,
-    /// The messages of them that are only not read.
+    /// The messages of them that are only not read, as far as kinds were counted.
     pub not_read: u64,
+    /// The messages of them that are wrong.
+    pub invalid: u64,
     /// The places where no message begins.
     pub no_message: u64,
     /// Octets of the messages, those that are refused too, where their ends are known.
@@ -40,6 +42,7 @@ impl Summary {
         not_normal: 0,
         refused: 0,
         not_read: 0,
+        invalid: 0,
         no_message: 0,
         octets: 0,
         unopened: 0,
@@ -109,6 +112,7 @@ impl Summary {
         ensures { self.new ≡ with_kinds self.old kinds }
     {
         self.not_read = self.not_read.saturating_add(u64::from(kinds.not_read));
+        self.invalid = self.invalid.saturating_add(u64::from(kinds.invalid));
         self.no_message = self.no_message.saturating_add(u64::from(kinds.no_message));
     }
 
@@ -127,13 +131,6 @@ impl Summary {
     {
         self.refused.saturating_sub(self.no_message)
     }
-
-    /// The number of messages that are refused and not only not read.
-    pub fn invalid(&self) -> u64
-        ensures { result ≡ invalid_of self.now }
-    {
-        self.refused_messages().saturating_sub(self.not_read)
-    }
 }
 
 impl fmt::Display for Summary {
@@ -144,6 +141,7 @@ impl fmt::Display for Summary {
             normal,
             not_normal,
             not_read,
+            invalid,
             no_message,
             octets,
             ..
@@ -154,8 +152,8 @@ impl fmt::Display for Summary {
             f,
             "{files}, {messages}, {normal} normal, {not_normal} not normal, {refused} refused"
         )?;
-        if refused > 0 {
-            write!(f, " ({not_read} not read, {} invalid)", self.invalid())?;
+        if refused > 0 && refused == not_read.saturating_add(invalid) {
+            write!(f, " ({not_read} not read, {invalid} invalid)")?;
         }
         write!(f, ", {}", Count(octets, "octet"))?;
         if no_message > 0 {
@@ -169,6 +167,7 @@ impl fmt::Display for Summary {
 #[derive(Clone, Copy)]
 pub struct KindCounts {
     pub not_read: u32,
+    pub invalid: u32,
     pub no_message: u32,
 }
 
@@ -176,6 +175,7 @@ impl KindCounts {
     /// Nothing was refused yet.
     pub const NONE: KindCounts = KindCounts {
         not_read: 0,
+        invalid: 0,
         no_message: 0,
     };
 
@@ -186,7 +186,7 @@ impl KindCounts {
         match kind {
             RefusalKind::NoMessage => self.no_message = self.no_message.saturating_add(1),
             RefusalKind::NotRead => self.not_read = self.not_read.saturating_add(1),
-            RefusalKind::Invalid => {}
+            RefusalKind::Invalid => self.invalid = self.invalid.saturating_add(1),
         }
     }
 }
@@ -235,12 +235,12 @@ impl fmt::Display for JsonSummary {
         let JsonSummary(summary) = *self;
         let messages = summary.messages();
         let refused = summary.refused_messages();
-        let invalid = summary.invalid();
         let Summary {
             files,
             normal,
             not_normal,
             not_read,
+            invalid,
             no_message,
             octets,
             unopened,

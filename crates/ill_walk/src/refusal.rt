@@ -28,7 +28,9 @@ pub fn put_refusal_lines(
     lines.text("    ")?;
     lines.text(text_of(walk, refusal.cause))?;
     lines.text("\n")?;
-    put_no_message(lines, octets)?;
+    if apdu_begun(octets).is_none() {
+        put_no_message(lines, octets)?;
+    }
     put_clause(lines, octets, refusal)?;
     if refusal.cause != Cause::NormalTooLong {
         put_place(alloc, lines, walk, octets, refusal)?;
@@ -36,11 +38,8 @@ pub fn put_refusal_lines(
     lines.tags("</div>")
 }
 
-/// The lines that say that no message begins with the octets, where none does, and that they look like text, where they do.
+/// The lines that say that no message begins with the octets, and that they look like text, where they do.
 fn put_no_message(lines: &mut LineBuffer, octets: &[u8]) -> Result<(), AllocError> {
-    if apdu_begun(octets).is_some() {
-        return Ok(());
-    }
     lines.text("    no ILL message begins here\n")?;
     if first_of(octets, TEXT_LOOK).iter().all(|octet| is_text(*octet)) {
         lines.text("    it looks like text\n")?;
@@ -86,7 +85,7 @@ fn put_refusal(lines: &mut LineBuffer, refusal: Refusal) -> Result<(), AllocErro
     lines.text("\n")
 }
 
-/// The lines for the place of a refusal, and for what is there.
+/// The lines for the place of a refusal, and for what is there. Where no message begins, nothing is expected.
 fn put_place<'a>(
     alloc: Global,
     lines: &mut LineBuffer,
@@ -95,12 +94,18 @@ fn put_place<'a>(
     refusal: Refusal,
 ) -> Result<(), AllocError> {
     let place = RefusedPlace::new(walk, octets, refusal);
-    lines.text("    path ")?;
-    let some = place.put_path(lines)?;
-    lines.text(if some { "\n" } else { "none\n" })?;
+    let is_begun = apdu_begun(octets).is_some();
+    if is_begun {
+        lines.text("    path ")?;
+        let some = place.put_path(lines)?;
+        lines.text(if some { "\n" } else { "none\n" })?;
+    }
     lines.text("    found ")?;
     place.put_found(lines)?;
     lines.text("\n")?;
+    if !is_begun {
+        return Ok(());
+    }
     put_due(lines, &place.due(alloc)?)?;
     if refusal.cause == Cause::WrongForm {
         lines.text("    due ")?;

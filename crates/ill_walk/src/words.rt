@@ -4,11 +4,11 @@ use crate::markup::DumpFormat;
 use crate::refused_place::RefusedPlace;
 use crate::walk::{ElementWalk, Steps};
 use ill_inputs::RefusalPlace;
-use ill_schema::{Cause, Profile, Refusal};
+use ill_schema::{Cause, Profile, Refusal, apdu_begun};
 use std::alloc::{AllocError, Global};
 
 /// The place of a refusal of the octets in the profile, in the words of a dump: the names round it, what was found there,
-/// and what was due. Of a message that is only too long in normal form it has no words.
+/// and what was due. Of a message that is only too long in normal form it has no words, and where no message begins only what was found.
 ///
 /// # Errors
 ///
@@ -38,11 +38,18 @@ pub fn place_of_refusal(
     let mut walk = ElementWalk::new(alloc, profile, refusal.at as usize);
     walk_all(&mut walk, octets, &mut lines)?;
     let place = RefusedPlace::new(&walk, octets, refusal);
-    let _ = place.put_path(&mut lines)?;
-    let path = take_text(alloc, &mut lines)?;
     place.put_found(&mut lines)?;
     let found = take_text(alloc, &mut lines)?;
     let mut due = Vec::new(alloc);
+    if apdu_begun(octets).is_none() {
+        return Ok(RefusalPlace {
+            path: String::new(alloc),
+            found,
+            due,
+        });
+    }
+    let _ = place.put_path(&mut lines)?;
+    let path = take_text(alloc, &mut lines)?;
     for one in place.due(alloc)? {
         one.put(&mut lines)?;
         due.push(take_text(alloc, &mut lines)?)?;
