@@ -130,7 +130,7 @@ struct illcanon_refusal {
 uint32_t illcanon_normalise(const uint8_t *octets, size_t octets_size, uint8_t *buffer, size_t buffer_size, size_t *size,
                             struct illcanon_refusal *refusal);
 
-/* Says whether the octets are the normal form of the message that they are.
+/* Says whether the message is in normal form.
  *
  *   DONE           *normal is 1 where they are, and 0 where the message is spelled in another way.
  *   REFUSED        *refusal says why the octets are not exactly one message.
@@ -255,6 +255,10 @@ uint32_t illcanon_frame(const uint8_t *octets, size_t octets_size, size_t *size)
  */
 uint32_t illcanon_cause_name(uint32_t cause, uint8_t *buffer, size_t buffer_size, size_t *size);
 
+/* Writes the clause that a cause, an illcanon_cause, enforces, in ASCII, as illcanon_cause_name does: of X.690, X.680 or ISO 10161-1, such as
+ * "X.690, 8.2.1", or "limit of illcanon" where no standard is broken. It has at most 127 octets. */
+uint32_t illcanon_cause_clause(uint32_t cause, uint8_t *buffer, size_t buffer_size, size_t *size);
+
 /* Writes the name of a cause, an illcanon_build_cause, in ASCII, such as "NotJson", as illcanon_cause_name does. */
 uint32_t illcanon_build_cause_name(uint32_t cause, uint8_t *buffer, size_t buffer_size, size_t *size);
 
@@ -280,13 +284,13 @@ uint32_t illcanon_version(uint8_t *buffer, size_t buffer_size, size_t *size);
 uint32_t illcanon_normalise_as(uint32_t profile, const uint8_t *octets, size_t octets_size, uint8_t *buffer, size_t buffer_size,
                                size_t *size, struct illcanon_refusal *refusal);
 
-/* Says whether the octets are the normal form of the message in the profile that they are, as illcanon_check does. */
+/* Says whether the message is in normal form in the profile, as illcanon_check does. */
 uint32_t illcanon_check_as(uint32_t profile, const uint8_t *octets, size_t octets_size, uint32_t *normal,
                            struct illcanon_refusal *refusal);
 
-/* Says whether two messages in the profile are the same, as illcanon_same does. In the module profile 0 may be too fine: what an open
- * type holds is the same only if it is equal element by element, and text with escape sequences only if its octets are equal. 1 is
- * always right. */
+/* Says whether two messages in the profile are the same, as illcanon_same does. In the module profile 0 may be said of messages that mean
+ * the same: what an open type holds is the same only if it is equal element by element, and text with escape sequences only if its octets
+ * are equal. 1 is always right. */
 uint32_t illcanon_same_as(uint32_t profile, const uint8_t *first, size_t first_size, const uint8_t *second, size_t second_size,
                           uint32_t *same, struct illcanon_refusal *refusal);
 

@@ -112,7 +112,7 @@ export class Illcanon {
   private constructor();
   /** The normal form of the message that the octets are. Throws Refused. */
   normalise(octets: Octets, options?: Reading): Uint8Array;
-  /** Says whether the octets are the normal form of the message that they are. Throws Refused. */
+  /** Says whether the message is in normal form. Throws Refused. */
   check(octets: Octets, options?: Reading): boolean;
   /** Says whether two messages are the same, however each is spelled. Throws Refused, whose `number` is 1 or 2. */
   same(first: Octets, second: Octets, options?: Reading): boolean;

@@ -213,7 +213,7 @@ export class Illcanon {
     return this.#written("illcanon_normalise_as", view, readingNumber(options), [], view.length + 4096);
   }
 
-  /** Says whether the octets are the normal form of the message that they are. */
+  /** Says whether the message is in normal form. */
   check(octets, options) {
     return this.#answered("illcanon_check_as", [messageOf(octets)], readingNumber(options));
   }

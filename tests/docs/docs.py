@@ -187,7 +187,7 @@ def check_version():
 
 def check_causes():
     """`help causes` has a line for each cause, with its name and its text."""
-    texts = re.findall(r'Cause::(\w+)(?:\(_\))? => "([^"]+)"', (ROOT / "crates/ill_schema/src/refusal.rt").read_text().partition("fn text(")[2])
+    texts = re.findall(r'Cause::(\w+)(?:\(_\))? => "([^"]+)"', (ROOT / "crates/ill_schema/src/refusal.rt").read_text().partition("fn text(")[2].partition("fn clause(")[0])
     path = ROOT / "crates/ill_args/src/topics.rt"
     listed = re.findall(r"^([A-Z]\w+) {2,}(\S.*)$", path.read_text(), re.M)
     for name, text in texts:

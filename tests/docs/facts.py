@@ -212,7 +212,7 @@ def check_counts():
     wanted = f"{len(nodes)} nodes with {sum(len(ALL_ROWS.get(node, [])) for node in nodes)} rows"
     if wanted not in read(DEFINITIONS):
         fault(DEFINITIONS, f"the module profile has {wanted}")
-    causes = re.findall(r'Cause::(\w+)(?:\(_\))? => "', read(REFUSAL).partition("fn text(")[2])
+    causes = re.findall(r'Cause::(\w+)(?:\(_\))? => "', read(REFUSAL).partition("fn text(")[2].partition("fn clause(")[0])
     table = read(DEFINITIONS).partition("## The causes")[2]
     listed = [name for cell in re.findall(r"^([A-Z][\w, ]*) \|", table, re.M) for name in cell.split(", ") if name != "Cause"]
     if sorted(listed) != sorted(causes):
@@ -494,8 +494,8 @@ def objects_in(schema, at):
 RESULT_LINES = [
     {"file": "a", "number": 1, "offset": 0, "octets": 33, "apdu": "Expired", "normal": True, "digest": "0" * 64},
     {"file": "a", "number": 1, "offset": 0, "octets": 2, "apdu": "Expired", "refused": {
-        "cause": "Missing", "offset": 2, "kind": "invalid", "part": "Expired.protocol-version-num", "path": "Expired", "found": "the end of the element", "due": ["[0] protocol-version-num"]}},
-    {"summary": {"files": 1, "messages": 3, "normal": 1, "not_normal": 0, "refused": 2, "not_read": 1, "invalid": 1, "octets": 70, "not_opened": 0, "left": 0}},
+        "cause": "Missing", "offset": 2, "kind": "invalid", "clause": "X.690, 8.9.3 and 8.14, with the types of ISO 10161-1", "part": "Expired.protocol-version-num", "path": "Expired", "found": "the end of the element", "due": ["[0] protocol-version-num"]}},
+    {"summary": {"files": 1, "messages": 3, "normal": 1, "not_normal": 0, "refused": 2, "not_read": 1, "invalid": 1, "no_message": 0, "octets": 70, "not_opened": 0, "left": 0}},
 ]
 OPTIONAL = {"file", "digest", "part", "path", "found", "due"}
 
@@ -528,7 +528,7 @@ def check_results_schema(known):
                 fault(RESULTS, f"{'refuses' if is_right else 'accepts'} a line, {what}: {json.dumps(changed)}")
     definitions = made["$defs"]
     refused = definitions["refused"]["properties"]["refused"]["properties"]
-    causes = re.findall(r'Cause::(\w+)(?:\(_\))? => "', read(REFUSAL).partition("fn text(")[2])
+    causes = re.findall(r'Cause::(\w+)(?:\(_\))? => "', read(REFUSAL).partition("fn text(")[2].partition("fn clause(")[0])
     for place, found, wanted in [
         ("number", definitions["number"].get("maximum"), known["messages"]),
         ("octets", definitions["accepted"]["properties"]["octets"].get("maximum"), known["octets"]),

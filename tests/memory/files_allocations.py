@@ -43,7 +43,7 @@ COMMANDS = [
 ]
 BEFORE = b"what was there before"
 # what --summary says of a file that was left before its end
-LEFT = re.compile(r"illcanon: (\w+): left at message \d+, which begins at octet \d+")
+LEFT = re.compile(r"illcanon: (\w+): stopped at message \d+ \(octet \d+\)")
 
 
 def fail(*what):

@@ -65,7 +65,7 @@ MOST_HEADER = 132
 OUR_LIMIT = "limit of illcanon"
 CLAUSES = {
     "Truncated": "X.690, 8.1.1",
-    "BadTag": f"X.690, 8.1.2; for a number of more than four octets, {OUR_LIMIT}",
+    "BadTag": f"X.690, 8.1.2, or {OUR_LIMIT}",
     "BadLength": "X.690, 8.1.3.2 and 8.1.3.5",
     "TooLong": OUR_LIMIT,
     "Overrun": "X.690, 8.1.3.3",

@@ -94,6 +94,7 @@ dumped='refused
       4      80 01  protocol-version-num = 2
 refused at 7: UnexpectedTag
     this tag is not expected here
+    clause X.690, 8.9.2, 8.10.2, 8.13 and 8.14, with the types of ISO 10161-1
     path Expired
     found [2] constructed: a2
     due [1] transaction-id
@@ -241,13 +242,13 @@ row going-show 1 'message 2 Expired\nprotocol-version-num = 2\ntransaction-id.tr
 : >in
 
 # Numbers at the end. FIRST has 2, 33 and 47 octets; of ENDLESS those of the first message are known.
-numbers='1 file, 3 messages, 1 normal, 1 not normal, 1 refused, 82 octets\n'
+numbers='1 file, 3 messages, 1 normal, 1 not normal, 1 refused (0 not read, 1 invalid), 82 octets\n'
 row summary-of-check 1 "message 2: ${normal}message 3: $not_normal" "illcanon: refused at 2 in message 1: ${missing}illcanon: $numbers" check --keep-going --summary FIRST
 row summary-of-digest 1 "$digest  FIRST:2\n$digest  FIRST:3\n" "illcanon: refused at 2 in message 1: ${missing}illcanon: $numbers" digest --keep-going --summary FIRST
 row summary-of-canonicalise 1 '' "illcanon: refused at 2 in message 1: ${missing}illcanon: $numbers" canonicalise --keep-going --summary FIRST OUT
-row summary-up-to-a-refusal 1 "message 1: $normal" "illcanon: refused at 2 in message 2: ${missing}illcanon: left at message 2, which begins at octet 33\nillcanon: 1 file, 2 messages, 1 normal, 0 not normal, 1 refused, 33 octets, 1 left before the end\n" check --summary MIDDLE
+row summary-up-to-a-refusal 1 "message 1: $normal" "illcanon: refused at 2 in message 2: ${missing}illcanon: stopped at message 2 (octet 33)\nillcanon: 1 file, 2 messages, 1 normal, 0 not normal, 1 refused, 33 octets, 1 left before the end\n" check --summary MIDDLE
 row summary-of-files 3 "GOOD: message 1: ${normal}ENDLESS: message 1: $normal" \
-    "illcanon: cannot open ABSENT: no such file\nillcanon: ENDLESS: ${unknown}illcanon: ENDLESS: left at message 2, which begins at octet 33\nillcanon: 2 files, 3 messages, 2 normal, 0 not normal, 1 refused, 66 octets, 1 not opened, 1 left before the end\n" check --keep-going --summary GOOD ABSENT ENDLESS
+    "illcanon: cannot open ABSENT: no such file\nillcanon: ENDLESS: ${unknown}illcanon: ENDLESS: stopped at message 2 (octet 33)\nillcanon: 2 files, 3 messages, 2 normal, 0 not normal, 1 refused (0 not read, 1 invalid), 66 octets, 1 not opened, 1 left before the end\n" check --keep-going --summary GOOD ABSENT ENDLESS
 row summary-of-many-into-one 0 '' 'illcanon: 2 files, 2 messages, 2 normal, 0 not normal, 0 refused, 66 octets\n' canonicalise --summary -o OUT GOOD GOOD
 row summary-of-nothing 0 '' 'illcanon: 1 file, 0 messages, 0 normal, 0 not normal, 0 refused, 0 octets\n' show --summary NOTHING
 
@@ -255,7 +256,7 @@ row summary-of-nothing 0 '' 'illcanon: 1 file, 0 messages, 0 normal, 0 not norma
 value='"value":{"protocol-version-num":2,"transaction-id":{"transaction-group-qualifier":{"general":"G"},"transaction-qualifier":{"general":"Q"}},"service-date-time":{"date-time-of-this-service":{"date":"20240229"}}}}\n'
 row show-as-json 0 '{"number":1,"offset":0,"octets":33,"apdu":"Expired","normal":true,'"$value" '' show --json GOOD
 row show-many-as-json 1 '{"file":"FIRST","number":2,"offset":2,"octets":33,"apdu":"Expired","normal":true,'"$value"'{"file":"FIRST","number":3,"offset":35,"octets":47,"apdu":"Expired","normal":false,'"$value" \
-    "illcanon: FIRST: refused at 2 in message 1: ${missing}illcanon: 2 files, 3 messages, 1 normal, 1 not normal, 1 refused, 82 octets\n" show --json --keep-going --summary FIRST NOTHING
+    "illcanon: FIRST: refused at 2 in message 1: ${missing}illcanon: 2 files, 3 messages, 1 normal, 1 not normal, 1 refused (0 not read, 1 invalid), 82 octets\n" show --json --keep-going --summary FIRST NOTHING
 
 # -H names the one file, too.
 row name-of-one 1 "FIRST: message 2: ${normal}FIRST: message 3: ${not_normal}" "illcanon: FIRST: refused at 2 in message 1: ${missing}" check -H --keep-going FIRST
@@ -700,7 +701,7 @@ second="illcanon: refused at 2 in message 2: $missing"
 fourth="illcanon: refused at 2 in message 4: $missing"
 one='illcanon: stopped after 1 refused message\n'
 row max-refused 1 "message 1: $normal" "$second$one" check --keep-going --max-refused 1 TWICE
-row max-refused-summary 1 "message 1: $normal" "$second${one}illcanon: left at message 2, which begins at octet 33\nillcanon: 1 file, 2 messages, 1 normal, 0 not normal, 1 refused, 35 octets, 1 left before the end\n" \
+row max-refused-summary 1 "message 1: $normal" "$second${one}illcanon: stopped at message 2 (octet 33)\nillcanon: 1 file, 2 messages, 1 normal, 0 not normal, 1 refused (0 not read, 1 invalid), 35 octets, 1 left before the end\n" \
     check --keep-going --max-refused 1 --summary TWICE
 row max-refused-is-the-last 1 "message 1: ${normal}message 3: $normal" "$second${fourth}illcanon: stopped after 2 refused messages\n" check --keep-going --max-refused=2 TWICE
 row max-refused-is-more 1 "message 1: ${normal}message 3: ${normal}message 5: $normal" "$second$fourth" check --keep-going --max-refused 3 TWICE
@@ -718,9 +719,9 @@ printf "$second$one" >want-err
 "$program" dump --keep-going --max-refused 1 TWICE >out 2>err
 status=$?
 compare max-refused-dump 1
-refused_json='{"number":2,"offset":33,"octets":2,"apdu":"Expired","refused":{"cause":"Missing","offset":2,"kind":"invalid","part":"Expired.protocol-version-num","path":"Expired","found":"the end of the element","due":["[UNIVERSAL 16] SEQUENCE","[0] protocol-version-num"]}}\n'
-row max-refused-json 1 '{"number":1,"offset":0,"octets":33,"apdu":"Expired","normal":true}\n'"$refused_json"'{"summary":{"files":1,"messages":2,"normal":1,"not_normal":0,"refused":1,"not_read":0,"invalid":1,"octets":35,"not_opened":0,"left":1}}\n' \
-    "${one}illcanon: left at message 2, which begins at octet 33\n" check --json --keep-going --max-refused 1 --summary TWICE
+refused_json='{"number":2,"offset":33,"octets":2,"apdu":"Expired","refused":{"cause":"Missing","offset":2,"kind":"invalid","clause":"X.690, 8.9.3 and 8.14, with the types of ISO 10161-1","part":"Expired.protocol-version-num","path":"Expired","found":"the end of the element","due":["[UNIVERSAL 16] SEQUENCE","[0] protocol-version-num"]}}\n'
+row max-refused-json 1 '{"number":1,"offset":0,"octets":33,"apdu":"Expired","normal":true}\n'"$refused_json"'{"summary":{"files":1,"messages":2,"normal":1,"not_normal":0,"refused":1,"not_read":0,"invalid":1,"no_message":0,"octets":35,"not_opened":0,"left":1}}\n' \
+    "${one}illcanon: stopped at message 2 (octet 33)\n" check --json --keep-going --max-refused 1 --summary TWICE
 printf '%s\n' $EXPIRED $EMPTY $EXPIRED $EMPTY >in
 row max-refused-in-hexadecimal 1 "$EXPIRED\n" "$second$one" canonicalise --hex --keep-going --max-refused 1 - -
 : >in
@@ -754,21 +755,21 @@ for words in check digest show 'check --json' 'digest --json' 'canonicalise -o -
     case $words in
         check*--json* | digest*--json*)
             numbers=''
-            echo '{"summary":{"files":1,"messages":1000000,"normal":1000000,"not_normal":0,"refused":0,"not_read":0,"invalid":0,"octets":33000000,"not_opened":0,"left":1}}' >want-out
+            echo '{"summary":{"files":1,"messages":1000000,"normal":1000000,"not_normal":0,"refused":0,"not_read":0,"invalid":0,"no_message":0,"octets":33000000,"not_opened":0,"left":1}}' >want-out
             ;;
         *) cp out want-out ;;
     esac
-    printf "${more}illcanon: left at message 1000001, which begins at octet 33000000\n$numbers" >want-err
+    printf "${more}illcanon: stopped at message 1000001 (octet 33000000)\n$numbers" >want-err
     compare "left after a million: $words" 1
 done
 for words in 'check --keep-going' 'canonicalise --keep-going -o -' 'check --json --keep-going'; do
     "$program" $words --summary EMPTIES 2>&1 | tail -n 4 | grep -v 'refused at\|"refused":{' >out
     status=${PIPESTATUS[0]}
     case $words in
-        *--json*) numbers='{"summary":{"files":1,"messages":1000000,"normal":0,"not_normal":0,"refused":1000000,"not_read":0,"invalid":1000000,"octets":2000000,"not_opened":0,"left":1}}\n' ;;
-        *) numbers='illcanon: 1 file, 1000000 messages, 0 normal, 0 not normal, 1000000 refused, 2000000 octets, 1 left before the end\n' ;;
+        *--json*) numbers='{"summary":{"files":1,"messages":1000000,"normal":0,"not_normal":0,"refused":1000000,"not_read":0,"invalid":1000000,"no_message":0,"octets":2000000,"not_opened":0,"left":1}}\n' ;;
+        *) numbers='illcanon: 1 file, 1000000 messages, 0 normal, 0 not normal, 1000000 refused (0 not read, 1000000 invalid), 2000000 octets, 1 left before the end\n' ;;
     esac
-    printf "${more}illcanon: left at message 1000001, which begins at octet 2000000\n$numbers" >want-out
+    printf "${more}illcanon: stopped at message 1000001 (octet 2000000)\n$numbers" >want-out
     : >err && : >want-err
     compare "left after a million refused ones: $words" 1
 done

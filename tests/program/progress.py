@@ -71,7 +71,7 @@ def check_end_of_file():
         parts, status = run(["check", "--summary", "-", file.name], [EXPIRED] * 11 + [REFUSED], 0.25)
     text = "".join(part for _, part in parts)
     expect(status == 1 and parts[0][0] >= 2, "status", status, "and a line after", parts[0][0], "seconds")
-    fault = FAULT.format(12).replace("illcanon: ", "illcanon: -: ") + "illcanon: -: left at message 12, which begins at octet 363\r\n"
+    fault = FAULT.format(12).replace("illcanon: ", "illcanon: -: ") + "illcanon: -: stopped at message 12 (octet 363)\r\n"
     expect(text.count(ERASE + fault) == 1, "no line of the fault in", repr(text))
     rest = text.replace(fault, "").rpartition("illcanon: 2 files, ")[0]
     expect(re.fullmatch(f"({re.escape(ERASE)}(illcanon: [12] files?, [0-9]+ octets)?)+", rest), "other text:", repr(text))
@@ -84,7 +84,7 @@ def main():
     text = "".join(part for _, part in parts)
     expect(status == 1, "status", status)
     expect(parts[0][0] >= 2, "a line after", parts[0][0], "seconds")
-    summary = "illcanon: 1 file, 16 messages, 15 normal, 0 not normal, 1 refused, 497 octets\r\n"
+    summary = "illcanon: 1 file, 16 messages, 15 normal, 0 not normal, 1 refused (0 not read, 1 invalid), 497 octets\r\n"
     expect(text.endswith(ERASE + summary), "no summary at the end of", repr(text))
     expect(ERASE + FAULT.format(13) in text, "no line of the fault in", repr(text))
     rest = text.removesuffix(summary).replace(FAULT.format(13), "")
@@ -95,7 +95,7 @@ def main():
 
     check_end_of_file()
     quick, _ = run(words, [EXPIRED] * 3, 0.1)
-    expect("".join(part for _, part in quick) == summary.replace("16 messages, 15", "3 messages, 3").replace("1 refused, 497", "0 refused, 99"), quick)
+    expect("".join(part for _, part in quick) == summary.replace("16 messages, 15", "3 messages, 3").replace("1 refused (0 not read, 1 invalid), 497", "0 refused, 99"), quick)
     piped, _ = run(words, pieces, 0.25, terminal=False)
     expect("".join(part for _, part in piped) == (FAULT.format(13) + summary).replace("\r", ""), piped)
     plain, _ = run(["check", "-"], [EXPIRED] * 12, 0.25)

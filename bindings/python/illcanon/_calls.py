@@ -182,7 +182,7 @@ def normalise(octets: Octets, *, profile: Profile = "2") -> bytes:
 
 
 def check(octets: Octets, *, profile: Profile = "2") -> bool:
-    """Says whether the octets are the normal form of the message in the profile that they are.
+    """Says whether the message is in normal form in the profile.
 
     Raises `Refused` where they are not exactly one message.
     """

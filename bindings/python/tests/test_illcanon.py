@@ -91,6 +91,7 @@ WRONG_TAG_TEXT = """message 3: refused
       2    30 02  SEQUENCE
 refused at 4: UnexpectedTag
     this tag is not expected here
+    clause X.690, 8.9.2, 8.10.2, 8.13 and 8.14, with the types of ISO 10161-1
     path Expired
     found [UNIVERSAL 5] primitive: 05
     due [0] protocol-version-num

@@ -309,8 +309,9 @@ tables, and the value of a leaf; and in brackets what is not normal in its spell
 `indefinite`, `length in 3 octets; 1 is enough`, `segment`, `default written`,
 `TRUE as 01` or `without inner SEQUENCE`. Where a message is refused, the elements
 before the place have their lines, and then comes the refusal: the cause in words, the
-names of the elements around the place, what was found there, and which tags were due.
-A part that ISO's module has and the profile doesn't is not wrong, and a line says so.
+clause that is broken, the names of the elements around the place, what was found there,
+and which tags were due. If only the profile lacks the part, the message is not at
+fault; a line says so. Where no message begins, a line says so, too.
 The elements from the place on are listed as their identifiers and lengths give them,
 each as `(not judged)`.
 
@@ -338,8 +339,8 @@ else 1 if one gave 1.";
 const SAME: &str = "\
 Writes `same` or `different`. Each file holds one message; at most one file is `-`.
 
-`same` is never wrong. With --profile module `different` may be too fine:
-`illcanon help profile` says where.
+`same` is never wrong. With --profile module `different` may be said of messages that
+mean the same: `illcanon help profile` says where.
 
 Example: illcanon same sent.ber received.ber
 

@@ -14,8 +14,7 @@ Truncated       the input ends inside the message
                 (X.690, 8.1.1)
     7401
 BadTag          no identifier begins so, or the tag number has more than four octets
-                (X.690, 8.1.2; for a number of more than four octets, limit of
-                 illcanon)
+                (X.690, 8.1.2, or limit of illcanon)
     7f14
 BadLength       the first length octet is FF, or 80 in a primitive element
                 (X.690, 8.1.3.2 and 8.1.3.5)
@@ -130,12 +129,13 @@ tree: an element with any tag, and what is in it, on at most 20 levels. In it
 only lengths are made normal.
 
 Take `module` for messages with such parts. Take `2` where these are not to
-pass, or where `different` is never to be too fine. A message that both read
-has one normal form, one digest and one text in both.
+pass, or where `different` must be certain. A message that both read has one
+normal form, one digest and one text in both.
 
-`same` is never wrong. With `module`, `different` may be too fine: inside
-foreign trees segments, the octet of TRUE, written defaults and the order of a
-SET count, and so does the spelling of a text with escape sequences.
+`same` is never wrong. With `module`, `different` may be said of messages that
+mean the same: inside foreign trees segments, the octet of TRUE, written
+defaults and the order of a SET count, and so does the spelling of a text with
+escape sequences.
 
 Neither reads numbers of more than eight octets (IntegerTooLong) or tag numbers
 of more than four octets (BadTag).

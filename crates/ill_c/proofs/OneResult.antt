@@ -10,12 +10,11 @@ use Rattle.ill_read.specs.Answers.{RefusesWholeIn}
 use Rattle.ill_normal.proofs.Canonical.{refuses_once, spells_once}
 use Rattle.ill_c.specs.declared.refusal.IllcanonRefusal.{IllcanonRefusal}
 use Rattle.ill_c.specs.declared.status.Status.{Status}
-use Rattle.ill_c.specs.Calls.{IsMade, WritesIn, ChecksIn, ComparesIn, FindsIn, WritesFrontIn, DumpsIn, Frames, NamesCause, Puts}
+use Rattle.ill_c.specs.Calls.{IsMade, WritesIn, ChecksIn, ComparesIn, FindsIn, WritesFrontIn, DumpsIn, Frames, SaysOfCause, Puts}
 use Rattle.ill_c.specs.Memory.{Change, Fills, IsTooShort, Reports, IsFlag}
-use Rattle.ill_c.specs.OneResult.{WritesOnce, ChecksOnce, ComparesOnce, FindsOnce, WritesFrontOnce, DumpsOnce, FramesOnce, NamesCauseOnce, PutsOnce}
+use Rattle.ill_c.specs.OneResult.{WritesOnce, ChecksOnce, ComparesOnce, FindsOnce, WritesFrontOnce, DumpsOnce, FramesOnce, SaysOfCauseOnce, PutsOnce}
 use Rattle.ill_c.specs.Refusals.{reported}
 use Rattle.ill_c.specs.Status.{ReturnsStatus, status_number}
-use Rattle.ill_schema.proofs.CauseNumbers.{one_name}
 use Rattle.ill_c.proofs.Framings.{frame_at_front, part_has_no_front}
 
 -- a call whose octets are refused in one way reports that refusal
@@ -309,39 +308,39 @@ module _ (s : List ℕ) (size : Change ℕ) where
   pub frames_once : (n : ℕ) → ReturnsStatus n (Frames s size) → FramesOnce s size n
   frames_once n (status, e, h) = subst (FramesOnce s size) (sym e) (framed_once status h)
 
-module _ (number : ℕ) (buffer : Change (List ℕ)) (size : Change ℕ) where
-  cause_named : (status : Status) → NamesCause number buffer size status → NamesCauseOnce number buffer size (status_number status)
-  cause_named Status.Done (d, is, fills) = record {
-    room = λ c e le. (refl, subst (λ o. Fills o buffer size) (one_name d c (is ∙ sym e)) fills);
+module _ (say : Cause → List ℕ) (one : (c d : Cause) → cause_number c ≡ cause_number d → say c ≡ say d) (number : ℕ) (buffer : Change (List ℕ)) (size : Change ℕ) where
+  cause_said : (status : Status) → SaysOfCause say number buffer size status → SaysOfCauseOnce say number buffer size (status_number status)
+  cause_said Status.Done (d, is, fills) = record {
+    room = λ c e le. (refl, subst (λ o. Fills o buffer size) (one d c (is ∙ sym e)) fills);
     no_room = λ c e lt.
-        let same = ap length (one_name d c (is ∙ sym e)) in absurd (let fits = fills.fits in omega (arith, same, lt, fits));
+        let same = ap length (one d c (is ∙ sym e)) in absurd (let fits = fills.fits in omega (arith, same, lt, fits));
     unknown = λ none. absurd (none d is);
     buffer_stays = λ ne. absurd (ne refl);
     size_stays = λ e. absurd (omega (arith, e));
   }
-  cause_named Status.NoRoom (d, is, lacks) = record {
+  cause_said Status.NoRoom (d, is, lacks) = record {
     room = λ c e le.
-        let same = ap length (one_name d c (is ∙ sym e)) in absurd (let short = lacks.short in omega (arith, same, le, short));
-    no_room = λ c e lt. (refl, subst (λ o. IsTooShort o buffer size) (one_name d c (is ∙ sym e)) lacks);
+        let same = ap length (one d c (is ∙ sym e)) in absurd (let short = lacks.short in omega (arith, same, le, short));
+    no_room = λ c e lt. (refl, subst (λ o. IsTooShort o buffer size) (one d c (is ∙ sym e)) lacks);
     unknown = λ none. absurd (none d is);
     buffer_stays = λ ne. lacks.kept;
     size_stays = λ e. absurd (omega (arith, e));
   }
-  cause_named Status.UnknownCause (none, stays, size_stays) = record {
+  cause_said Status.UnknownCause (none, stays, size_stays) = record {
     room = λ c e le. absurd (none c e);
     no_room = λ c e lt. absurd (none c e);
     unknown = λ h. refl;
     buffer_stays = λ ne. stays;
     size_stays = λ e. size_stays;
   }
-  cause_named Status.Refused h = absurd h
-  cause_named Status.SecondRefused h = absurd h
-  cause_named Status.NeedsMore h = absurd h
-  cause_named Status.OutOfMemory h = absurd h
-  cause_named Status.UnknownProfile h = absurd h
+  cause_said Status.Refused h = absurd h
+  cause_said Status.SecondRefused h = absurd h
+  cause_said Status.NeedsMore h = absurd h
+  cause_said Status.OutOfMemory h = absurd h
+  cause_said Status.UnknownProfile h = absurd h
 
-  pub names_cause_once : (n : ℕ) → ReturnsStatus n (NamesCause number buffer size) → NamesCauseOnce number buffer size n
-  names_cause_once n (status, e, h) = subst (NamesCauseOnce number buffer size) (sym e) (cause_named status h)
+  pub says_of_cause_once : (n : ℕ) → ReturnsStatus n (SaysOfCause say number buffer size) → SaysOfCauseOnce say number buffer size n
+  says_of_cause_once n (status, e, h) = subst (SaysOfCauseOnce say number buffer size) (sym e) (cause_said status h)
 
 module _ (octets : List ℕ) (buffer : Change (List ℕ)) (size : Change ℕ) where
   put_once : (status : Status) → Puts octets buffer size status → PutsOnce octets buffer size (status_number status)

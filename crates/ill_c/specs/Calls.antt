@@ -5,7 +5,7 @@ use Rattle.ber_framing.specs.Framed.{IsFrame, IsPartOfFrame}
 use Rattle.ber_leaf.specs.Profile.{Profile, profile_two}
 use Rattle.sha2.specs.Sha256.{sha256}
 use Rattle.ill_schema.specs.Apdu.{Apdu, SpellsApdu, Accepts, normal_form_in}
-use Rattle.ill_schema.specs.Causes.{cause_name, cause_number}
+use Rattle.ill_schema.specs.Causes.{cause_number}
 use Rattle.ill_schema.specs.Profiles.{profile_of}
 use Rattle.ill_tables.specs.declared.profile.Profile.{Profile as Named}
 use Rattle.ill_schema.specs.declared.refusal.Cause.{Cause}
@@ -159,9 +159,9 @@ Puts octets buffer size Status.Done = Fills octets buffer size
 Puts octets buffer size Status.NoRoom = IsTooShort octets buffer size
 Puts octets buffer size _ = ⊥
 
--- the name of the cause of a number was put into the buffer, or no cause has the number
-abbrev pub NamesCause : ℕ → Change (List ℕ) → Change ℕ → Status → Type 0
-NamesCause number buffer size Status.Done = (cause : Cause) × (cause_number cause ≡ number) × Fills (cause_name cause) buffer size
-NamesCause number buffer size Status.NoRoom = (cause : Cause) × (cause_number cause ≡ number) × IsTooShort (cause_name cause) buffer size
-NamesCause number buffer size Status.UnknownCause = ((cause : Cause) → cause_number cause ≢ number) × Stays buffer × Stays size
-NamesCause number buffer size _ = ⊥
+-- what is said of the cause of a number was put into the buffer, or no cause has the number
+abbrev pub SaysOfCause : (Cause → List ℕ) → ℕ → Change (List ℕ) → Change ℕ → Status → Type 0
+SaysOfCause say number buffer size Status.Done = (cause : Cause) × (cause_number cause ≡ number) × Fills (say cause) buffer size
+SaysOfCause say number buffer size Status.NoRoom = (cause : Cause) × (cause_number cause ≡ number) × IsTooShort (say cause) buffer size
+SaysOfCause say number buffer size Status.UnknownCause = ((cause : Cause) → cause_number cause ≢ number) × Stays buffer × Stays size
+SaysOfCause say number buffer size _ = ⊥

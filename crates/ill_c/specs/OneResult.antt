@@ -82,10 +82,10 @@ pub record FramesOnce (s : List ℕ) (size : Change ℕ) (n : ℕ) : Type 0 wher
   pub unframed : IsNeverFramed s → n ≡ 1
   pub size_stays : n ≢ 0 → Stays size
 
--- of the call that writes the name of a cause
-pub record NamesCauseOnce (number : ℕ) (buffer : Change (List ℕ)) (size : Change ℕ) (n : ℕ) : Type 0 where
-  pub room : (c : Cause) → cause_number c ≡ number → length (cause_name c) ≤ length buffer.before → (n ≡ 0) × Fills (cause_name c) buffer size
-  pub no_room : (c : Cause) → cause_number c ≡ number → length buffer.before < length (cause_name c) → (n ≡ 4) × IsTooShort (cause_name c) buffer size
+-- of the calls that write what is said of a cause: its name, or its clause
+pub record SaysOfCauseOnce (say : Cause → List ℕ) (number : ℕ) (buffer : Change (List ℕ)) (size : Change ℕ) (n : ℕ) : Type 0 where
+  pub room : (c : Cause) → cause_number c ≡ number → length (say c) ≤ length buffer.before → (n ≡ 0) × Fills (say c) buffer size
+  pub no_room : (c : Cause) → cause_number c ≡ number → length buffer.before < length (say c) → (n ≡ 4) × IsTooShort (say c) buffer size
   pub unknown : ((c : Cause) → cause_number c ≢ number) → n ≡ 7
   pub buffer_stays : n ≢ 0 → Stays buffer
   pub size_stays : n ≡ 7 → Stays size

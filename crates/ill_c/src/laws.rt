@@ -2,12 +2,13 @@
 ghost use Rattle.std.specs.Prelude.{ℕ, ◌≤◌, List, false, length};
 ghost use Rattle.ber_leaf.specs.Profile.{Profile};
 ghost use Rattle.ill_schema.specs.Apdu.{Apdu};
+ghost use Rattle.ill_schema.specs.Causes.{cause_clause, cause_name};
 ghost use Rattle.ill_schema.specs.Names.{cause_part_name_of};
 ghost use Rattle.ill_schema.specs.declared.refusal.Cause.{Cause};
 ghost use Rattle.ill_c.specs.Builds.{BuildsIn, NamesBuildCause};
-ghost use Rattle.ill_c.specs.Calls.{WritesIn, ChecksIn, ComparesIn, FindsIn, WritesFrontIn, DumpsIn, Frames, NamesCause, Puts};
+ghost use Rattle.ill_c.specs.Calls.{WritesIn, ChecksIn, ComparesIn, FindsIn, WritesFrontIn, DumpsIn, Frames, SaysOfCause, Puts};
 ghost use Rattle.ill_c.specs.Memory.{Change};
-ghost use Rattle.ill_c.specs.OneResult.{WritesOnce, ChecksOnce, ComparesOnce, FindsOnce, WritesFrontOnce, DumpsOnce, FramesOnce, NamesCauseOnce, PutsOnce, BuildsOnce, NamesBuildCauseOnce};
+ghost use Rattle.ill_c.specs.OneResult.{WritesOnce, ChecksOnce, ComparesOnce, FindsOnce, WritesFrontOnce, DumpsOnce, FramesOnce, SaysOfCauseOnce, PutsOnce, BuildsOnce, NamesBuildCauseOnce};
 ghost use Rattle.ill_c.specs.Refusals.{part_text};
 ghost use Rattle.ill_c.specs.Status.{ReturnsStatus};
 
@@ -39,7 +40,11 @@ pub fn calls_have_one_result()
     ensures frames { (s : List ℕ) (size : Change ℕ) (n : ℕ)
         → ReturnsStatus n (Frames s size) → FramesOnce s size n }
     ensures names_cause { (number : ℕ) (buffer : Change (List ℕ)) (size : Change ℕ) (n : ℕ)
-        → ReturnsStatus n (NamesCause number buffer size) → NamesCauseOnce number buffer size n }
+        → ReturnsStatus n (SaysOfCause cause_name number buffer size)
+        → SaysOfCauseOnce cause_name number buffer size n }
+    ensures gives_clause { (number : ℕ) (buffer : Change (List ℕ)) (size : Change ℕ) (n : ℕ)
+        → ReturnsStatus n (SaysOfCause cause_clause number buffer size)
+        → SaysOfCauseOnce cause_clause number buffer size n }
     ensures puts { (octets : List ℕ) (buffer : Change (List ℕ)) (size : Change ℕ) (n : ℕ)
         → ReturnsStatus n (Puts octets buffer size) → PutsOnce octets buffer size n }
     ensures builds { (p : Profile) (line : List ℕ) (buffer : Change (List ℕ)) (size cause : Change ℕ)

@@ -24,7 +24,7 @@ mod whole;
 
 pub use build::{illcanon_build, illcanon_build_as, illcanon_build_with_defaults};
 pub use build_cause::illcanon_build_cause_name;
-pub use cause::illcanon_cause_name;
+pub use cause::{illcanon_cause_clause, illcanon_cause_name};
 pub use dump::{illcanon_dump, illcanon_dump_as};
 pub use frame::illcanon_frame;
 pub use json::{illcanon_json, illcanon_json_as};

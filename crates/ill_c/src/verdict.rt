@@ -11,7 +11,7 @@ use crate::status::Status;
 use ill_normal::{Failure, Profile, Side, is_normal_as, same_message_as};
 use std::alloc::Global;
 
-/// Says whether the octets are the normal form of the message that they are: 1 if they are, else 0.
+/// Says whether the message is in normal form: 1 if they are, else 0.
 #[unsafe(no_mangle)]
 pub extern "C" fn illcanon_check(
     alloc: Global,
@@ -25,7 +25,7 @@ pub extern "C" fn illcanon_check(
     check(alloc, Profile::Two, octets, normal, refusal).number()
 }
 
-/// Says whether the octets are the normal form of the message in the profile of a number that they are: 1 if they are, else 0.
+/// Says whether the message in the profile of a number is in normal form: 1 if they are, else 0.
 #[unsafe(no_mangle)]
 pub extern "C" fn illcanon_check_as(
     alloc: Global,

@@ -304,7 +304,7 @@ impl fmt::Display for LeftAt {
         let LeftAt { message, offset } = *self;
         write!(
             f,
-            "left at message {message}, which begins at octet {offset}"
+            "stopped at message {message} (octet {offset})"
         )
     }
 }

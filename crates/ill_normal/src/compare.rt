@@ -65,7 +65,7 @@ pub fn same_message_as(
     Ok(one.octets.as_slice() == other.octets.as_slice())
 }
 
-/// Tells whether the octets are the normal form of the message that they are.
+/// Tells whether the message is in normal form.
 ///
 /// # Errors
 ///

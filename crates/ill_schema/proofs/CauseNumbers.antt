@@ -1,23 +1,39 @@
--- A number is that of one name.
-use Rattle.std.proofs.Common.{◌≡◌, ◌≢◌, ◌∙◌, ℕ, List, [], ◌∷◌, codes, Option, Some, None, slice_get, refl, sym, ap}
-use Rattle.ill_schema.specs.Causes.{cause_name, cause_number}
+-- A number is that of one name and of one clause.
+use Rattle.std.proofs.Common.{◌≡◌, ◌≢◌, ◌∙◌, ℕ, List, [], ◌∷◌, Option, Some, None, slice_get, refl, sym, ap}
+use Rattle.ill_tables.specs.declared.{node.NodeId.NodeId, part.PartId.PartId}
+use Rattle.ill_schema.specs.Causes.{cause_clause, cause_name, cause_number}
 use Rattle.ill_schema.specs.declared.refusal.Cause.{Cause}
 
--- the names from number 0 on, which is that of no cause
-abbrev names : List (List ℕ)
-names = [] ∷ codes "Truncated" ∷ codes "BadTag" ∷ codes "BadLength" ∷ codes "TooLong" ∷ codes "Overrun" ∷ codes "TooDeep" ∷ codes "UnexpectedTag" ∷ codes "LeftOut" ∷ codes "WrongForm" ∷ codes "Missing" ∷ codes "BadEnd" ∷ codes "BadBoolean" ∷ codes "BadInteger" ∷ codes "IntegerTooLong" ∷ codes "BadText" ∷ codes "BadDate" ∷ codes "BadTime" ∷ codes "TrailingBytes" ∷ codes "NormalTooLong" ∷ codes "BadNull" ∷ codes "BadOid" ∷ codes "BadBits" ∷ []
+-- a part, for the causes that have one
+any : PartId
+any = record { node = NodeId.Boolean; row = 0 }
 
-abbrev name_in : Option (List ℕ) → List ℕ
-name_in None = []
-name_in (Some name) = name
+-- a cause of each number from 1 on; no cause has 0
+abbrev causes : List Cause
+causes = Cause.Truncated ∷ Cause.Truncated ∷ Cause.BadTag ∷ Cause.BadLength ∷ Cause.TooLong ∷ Cause.Overrun ∷ Cause.TooDeep ∷ Cause.UnexpectedTag ∷ Cause.LeftOut any ∷ Cause.WrongForm ∷ Cause.Missing any ∷ Cause.BadEnd ∷ Cause.BadBoolean ∷ Cause.BadInteger ∷ Cause.IntegerTooLong ∷ Cause.BadText ∷ Cause.BadDate ∷ Cause.BadTime ∷ Cause.TrailingBytes ∷ Cause.NormalTooLong ∷ Cause.BadNull ∷ Cause.BadOid ∷ Cause.BadBits ∷ []
 
-listed : (c : Cause) → name_in (slice_get names (cause_number c)) ≡ cause_name c
-listed Cause.Truncated = refl
-listed _ = refl
+abbrev cause_in : Option Cause → Cause
+cause_in None = Cause.Truncated
+cause_in (Some c) = c
+
+abbrev numbered : ℕ → Cause
+numbered n = cause_in (slice_get causes n)
+
+named : (c : Cause) → cause_name (numbered (cause_number c)) ≡ cause_name c
+named Cause.Truncated = refl
+named _ = refl
+
+has_clause : (c : Cause) → cause_clause (numbered (cause_number c)) ≡ cause_clause c
+has_clause Cause.Truncated = refl
+has_clause _ = refl
 
 -- causes of one number have one name
 pub one_name : (c d : Cause) → cause_number c ≡ cause_number d → cause_name c ≡ cause_name d
-one_name c d e = sym (listed c) ∙ ap (λ n. name_in (slice_get names n)) e ∙ listed d
+one_name c d e = sym (named c) ∙ ap (λ n. cause_name (numbered n)) e ∙ named d
+
+-- and one clause
+pub one_clause : (c d : Cause) → cause_number c ≡ cause_number d → cause_clause c ≡ cause_clause d
+one_clause c d e = sym (has_clause c) ∙ ap (λ n. cause_clause (numbered n)) e ∙ has_clause d
 
 -- a number that is none of these is that of no cause
 pub no_cause : (n : ℕ) → n ≢ 1 → n ≢ 2 → n ≢ 3 → n ≢ 4 → n ≢ 5 → n ≢ 6 → n ≢ 7 → n ≢ 8 → n ≢ 9 → n ≢ 10 → n ≢ 11 → n ≢ 12 → n ≢ 13 → n ≢ 14 → n ≢ 15 → n ≢ 16 → n ≢ 17 → n ≢ 18 → n ≢ 19 → n ≢ 20 → n ≢ 21 → n ≢ 22 → (c : Cause) → cause_number c ≢ n

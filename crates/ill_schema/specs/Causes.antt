@@ -94,7 +94,7 @@ cause_text Cause.BadBits = codes "the first octet is not the number of unused bi
 -- the clause that a cause enforces; where no standard is broken, the words say that it is a limit
 abbrev pub cause_clause : Cause → List ℕ
 cause_clause Cause.Truncated = codes "X.690, 8.1.1"
-cause_clause Cause.BadTag = codes "X.690, 8.1.2; for a number of more than four octets, limit of illcanon"
+cause_clause Cause.BadTag = codes "X.690, 8.1.2, or limit of illcanon"
 cause_clause Cause.BadLength = codes "X.690, 8.1.3.2 and 8.1.3.5"
 cause_clause Cause.TooLong = codes "limit of illcanon"
 cause_clause Cause.Overrun = codes "X.690, 8.1.3.3"

@@ -227,9 +227,7 @@ impl Cause {
     {
         match self {
             Cause::Truncated => "X.690, 8.1.1",
-            Cause::BadTag => {
-                "X.690, 8.1.2; for a number of more than four octets, limit of illcanon"
-            }
+            Cause::BadTag => "X.690, 8.1.2, or limit of illcanon",
             Cause::BadLength => "X.690, 8.1.3.2 and 8.1.3.5",
             Cause::TooLong => "limit of illcanon",
             Cause::Overrun => "X.690, 8.1.3.3",

@@ -62,7 +62,7 @@ static ROWS: [Row; 19] = [
         output: Text(
             b"{\"number\":1,\"offset\":0,\"octets\":33,\"apdu\":\"Expired\",\"normal\":true}\n{\"number\":2,\"offset\":33,\"octets\":2,\"apdu\":\"Expired\",\"refused\":{\"cause\":\"Missing\",\"offset\":2,\"kind\":\"invalid\",\"part\":\"Expired.protocol-version-num\",\"path\":\"Expired\",\"found\":\"the end of the element\",\"due\":[\"[UNIVERSAL 16] SEQUENCE\",\"[0] protocol-version-num\"]}}\n{\"summary\":{\"files\":1,\"messages\":2,\"normal\":1,\"not_normal\":0,\"refused\":1,\"not_read\":0,\"invalid\":1,\"octets\":35,\"not_opened\":0,\"left\":1}}\n",
         ),
-        errors: "illcanon: read fault\nillcanon: left at message 3, which begins at octet 35\n",
+        errors: "illcanon: read fault\nillcanon: stopped at message 3 (octet 35)\n",
         ..QUIET
     },
     Row {
@@ -96,7 +96,7 @@ static ROWS: [Row; 19] = [
         output: Text(
             b"{\"file\":\"E\",\"number\":1,\"offset\":0,\"octets\":47,\"apdu\":\"Expired\",\"refused\":{\"cause\":\"LeftOut\",\"offset\":33,\"kind\":\"not read\",\"part\":\"Expired.expired-extensions\",\"path\":\"Expired.expired-extensions\",\"found\":\"[49] constructed: bf 31\"}}\n{\"file\":\"middle\",\"number\":1,\"offset\":0,\"octets\":33,\"apdu\":\"Expired\",\"normal\":true}\n{\"file\":\"middle\",\"number\":2,\"offset\":33,\"octets\":2,\"apdu\":\"Expired\",\"refused\":{\"cause\":\"Missing\",\"offset\":2,\"kind\":\"invalid\",\"part\":\"Expired.protocol-version-num\",\"path\":\"Expired\",\"found\":\"the end of the element\",\"due\":[\"[UNIVERSAL 16] SEQUENCE\",\"[0] protocol-version-num\"]}}\n{\"summary\":{\"files\":2,\"messages\":3,\"normal\":1,\"not_normal\":0,\"refused\":2,\"not_read\":1,\"invalid\":1,\"octets\":82,\"not_opened\":0,\"left\":2}}\n",
         ),
-        errors: "illcanon: E: left at message 1, which begins at octet 0\nillcanon: middle: left at message 2, which begins at octet 33\n",
+        errors: "illcanon: E: stopped at message 1 (octet 0)\nillcanon: middle: stopped at message 2 (octet 33)\n",
         ..QUIET
     },
     Row {

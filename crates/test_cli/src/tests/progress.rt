@@ -14,7 +14,7 @@ static ROWS: [Row; 9] = [
         output: Text(
             b"A: message 1: Expired, 33 octets, normal\nfirst: message 2: Expired, 33 octets, normal\nfirst: message 3: Expired, 47 octets, not normal, normal form 33 octets\n",
         ),
-        errors: "\r\x1b[Killcanon: 1 file, 33 octets, 28 %, 16 octets/s, 4 s left\r\x1b[Killcanon: 2 files, 33 octets, 28 %, 8 octets/s, 9 s left\r\x1b[Killcanon: first: refused at 2 in message 1: Missing Expired.protocol-version-num\n\r\x1b[Killcanon: 2 files, 115 octets, 100 %, 19 octets/s, 0 s left\r\x1b[Killcanon: 2 files, 4 messages, 2 normal, 1 not normal, 1 refused, 115 octets\n",
+        errors: "\r\x1b[Killcanon: 1 file, 33 octets, 28 %, 16 octets/s, 4 s left\r\x1b[Killcanon: 2 files, 33 octets, 28 %, 8 octets/s, 9 s left\r\x1b[Killcanon: first: refused at 2 in message 1: Missing Expired.protocol-version-num\n\r\x1b[Killcanon: 2 files, 115 octets, 100 %, 19 octets/s, 0 s left\r\x1b[Killcanon: 2 files, 4 messages, 2 normal, 1 not normal, 1 refused (0 not read, 1 invalid), 115 octets\n",
         ..QUIET
     },
     // A fault has its own line. The size of all files isn't known.
@@ -50,7 +50,7 @@ static ROWS: [Row; 9] = [
         output: Text(
             b"endless: message 1: Expired, 33 octets, normal\nA: message 1: Expired, 33 octets, normal\n",
         ),
-        errors: "\r\x1b[Killcanon: 1 file, 75 octets, 69 %, 37 octets/s, 0 s left\r\x1b[Killcanon: endless: refused at 7 in message 2: Missing Expired.transaction-id; its end is unknown\nillcanon: endless: left at message 2, which begins at octet 33\n\r\x1b[Killcanon: 2 files, 75 octets, 69 %, 18 octets/s, 1 s left\r\x1b[Killcanon: 2 files, 108 octets, 100 %, 18 octets/s, 0 s left\r\x1b[Killcanon: R is without 1 refused message: too long, or of an unknown end\nillcanon: 2 files, 3 messages, 2 normal, 0 not normal, 1 refused, 66 octets, 1 left before the end\n",
+        errors: "\r\x1b[Killcanon: 1 file, 75 octets, 69 %, 37 octets/s, 0 s left\r\x1b[Killcanon: endless: refused at 7 in message 2: Missing Expired.transaction-id; its end is unknown\nillcanon: endless: stopped at message 2 (octet 33)\n\r\x1b[Killcanon: 2 files, 75 octets, 69 %, 18 octets/s, 1 s left\r\x1b[Killcanon: 2 files, 108 octets, 100 %, 18 octets/s, 0 s left\r\x1b[Killcanon: R is without 1 refused message: too long, or of an unknown end\nillcanon: 2 files, 3 messages, 2 normal, 0 not normal, 1 refused (0 not read, 1 invalid), 66 octets, 1 left before the end\n",
         ..QUIET
     },
     // One file that is written.
@@ -77,7 +77,7 @@ static ROWS: [Row; 9] = [
         terminal: Some(2000),
         status: 1,
         output: Text(b"message 1: Expired, 47 octets, not normal, normal form 33 octets\n"),
-        errors: "\r\x1b[Killcanon: 1 file, 0 octets\r\x1b[Killcanon: refused at 0 in message 2: UnexpectedTag\nillcanon: left at message 2, which begins at octet 47\nillcanon: 1 file, 2 messages, 0 normal, 1 not normal, 1 refused, 47 octets, 1 left before the end\n",
+        errors: "\r\x1b[Killcanon: 1 file, 0 octets\r\x1b[Killcanon: refused at 0 in message 2: UnexpectedTag\nillcanon: stopped at message 2 (octet 47)\nillcanon: 1 file, 2 messages, 0 normal, 1 not normal, 1 refused, 47 octets, 1 left before the end\n",
         ..QUIET
     },
     // Only with --summary.

@@ -277,7 +277,7 @@ static ROWS: [Kept; 27] = [
         row: Row {
             words: "canonicalise --summary --keep-going --max-refused 1 --refused R -o OUT A middle B",
             status: 1,
-            errors: "illcanon: middle: refused at 2 in message 2: Missing Expired.protocol-version-num\nillcanon: middle: stopped after 1 refused message\nillcanon: middle: left at message 2, which begins at octet 33\nillcanon: 2 files, 3 messages, 2 normal, 0 not normal, 1 refused, 68 octets, 1 left before the end\n",
+            errors: "illcanon: middle: refused at 2 in message 2: Missing Expired.protocol-version-num\nillcanon: middle: stopped after 1 refused message\nillcanon: middle: stopped at message 2 (octet 33)\nillcanon: 2 files, 3 messages, 2 normal, 0 not normal, 1 refused (0 not read, 1 invalid), 68 octets, 1 left before the end\n",
             out: Octets::Repeated(EXPIRED, 66),
             ..QUIET
         },

@@ -49,7 +49,7 @@ static ROWS: [Row; 25] = [
         },
         status: 3,
         output: Text(b"message 1: Expired, 33 octets, normal\n"),
-        errors: "illcanon: refused at 2 in message 2: Missing Expired.protocol-version-num\nillcanon: read fault\nillcanon: left at message 3, which begins at octet 35\nillcanon: 1 file, 2 messages, 1 normal, 0 not normal, 1 refused, 35 octets, 1 left before the end\n",
+        errors: "illcanon: refused at 2 in message 2: Missing Expired.protocol-version-num\nillcanon: read fault\nillcanon: stopped at message 3 (octet 35)\nillcanon: 1 file, 2 messages, 1 normal, 0 not normal, 1 refused (0 not read, 1 invalid), 35 octets, 1 left before the end\n",
         ..QUIET
     },
     // The work ends with the second refused message.
@@ -144,14 +144,14 @@ static ROWS: [Row; 25] = [
         output: Text(
             b"first: message 2: Expired, 33 octets, normal\nfirst: message 3: Expired, 47 octets, not normal, normal form 33 octets\nendless: message 1: Expired, 33 octets, normal\n",
         ),
-        errors: "illcanon: first: refused at 2 in message 1: Missing Expired.protocol-version-num\nillcanon: cannot open O: no such file\nillcanon: endless: refused at 7 in message 2: Missing Expired.transaction-id; its end is unknown\nillcanon: endless: left at message 2, which begins at octet 33\nillcanon: 2 files, 5 messages, 2 normal, 1 not normal, 2 refused, 115 octets, 1 not opened, 1 left before the end\n",
+        errors: "illcanon: first: refused at 2 in message 1: Missing Expired.protocol-version-num\nillcanon: cannot open O: no such file\nillcanon: endless: refused at 7 in message 2: Missing Expired.transaction-id; its end is unknown\nillcanon: endless: stopped at message 2 (octet 33)\nillcanon: 2 files, 5 messages, 2 normal, 1 not normal, 2 refused (0 not read, 2 invalid), 115 octets, 1 not opened, 1 left before the end\n",
         ..QUIET
     },
     Row {
         words: "canonicalise --summary middle -",
         status: 1,
         output: Text(EXPIRED),
-        errors: "illcanon: refused at 2 in message 2: Missing Expired.protocol-version-num\nillcanon: left at message 2, which begins at octet 33\nillcanon: 1 file, 2 messages, 1 normal, 0 not normal, 1 refused, 33 octets, 1 left before the end\n",
+        errors: "illcanon: refused at 2 in message 2: Missing Expired.protocol-version-num\nillcanon: stopped at message 2 (octet 33)\nillcanon: 1 file, 2 messages, 1 normal, 0 not normal, 1 refused, 33 octets, 1 left before the end\n",
         ..QUIET
     },
     Row {
