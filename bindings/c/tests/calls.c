@@ -448,10 +448,10 @@ static void lines_are_built(struct octets good) {
 
 typedef uint32_t naming(uint32_t, uint8_t *, size_t, size_t *);
 
-/* Each cause has its name, and no other number has one. */
-static void names_are(naming *call, const char *const *names, uint32_t count) {
+/* Each cause has its name or clause, and no other number has one. */
+static void texts_are(naming *call, const char *const *names, uint32_t count) {
     const uint32_t none[] = {0, count, 0x102, 0x80000001, UINT32_MAX};
-    uint8_t buffer[40];
+    uint8_t buffer[128];
     size_t size;
     for (uint32_t cause = 1; cause < count; cause++) {
         size_t wanted = strlen(names[cause]);
@@ -601,8 +601,9 @@ int main(int count, char **words) {
         greatest_is();
         line_is(good);
         lines_are_built(good);
-        names_are(illcanon_cause_name, CAUSES, CAUSES_SIZE);
-        names_are(illcanon_build_cause_name, BUILD_CAUSES, BUILD_CAUSES_SIZE);
+        texts_are(illcanon_cause_name, CAUSES, CAUSES_SIZE);
+        texts_are(illcanon_cause_clause, CLAUSES, CAUSES_SIZE);
+        texts_are(illcanon_build_cause_name, BUILD_CAUSES, BUILD_CAUSES_SIZE);
         version_is();
         for (size_t i = 0; i < sizeof numbers / sizeof *numbers; i++)
             no_profile_is(numbers[i], good);

@@ -128,6 +128,10 @@ static uint32_t make_cause_name(void) {
     return illcanon_cause_name(ILLCANON_MISSING, buffer, ROOM, &size);
 }
 
+static uint32_t make_cause_clause(void) {
+    return illcanon_cause_clause(ILLCANON_MISSING, buffer, ROOM, &size);
+}
+
 static uint32_t make_build_cause_name(void) {
     return illcanon_build_cause_name(ILLCANON_BUILD_NOT_JSON, buffer, ROOM, &size);
 }
@@ -161,6 +165,7 @@ int main(int count, char **words) {
     refuse_each("normalise_next", make_normalise_next, ILLCANON_DONE);
     takes_none("frame", make_frame);
     takes_none("cause_name", make_cause_name);
+    takes_none("cause_clause", make_cause_clause);
     takes_none("build_cause_name", make_build_cause_name);
     takes_none("version", make_version);
     message = fenced_copy(message.at, message.count);

@@ -37,9 +37,9 @@ names_are() {
 
 # The names of the calls, each with a space after it.
 names() {
-    for call in build build_cause_name build_with_defaults cause_name check digest dump frame json next normalise normalise_next same show version; do
+    for call in build build_cause_name build_with_defaults cause_clause cause_name check digest dump frame json next normalise normalise_next same show version; do
         printf 'illcanon_%s ' $call
-        case $call in build_* | cause_name | frame | version) ;; *) printf 'illcanon_%s_as ' $call ;; esac
+        case $call in build_* | cause_* | frame | version) ;; *) printf 'illcanon_%s_as ' $call ;; esac
     done
 }
 

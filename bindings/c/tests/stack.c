@@ -81,6 +81,10 @@ static void make_cause_name(struct octets it) {
     illcanon_cause_name((uint32_t)it.count, buffer, ROOM, &size);
 }
 
+static void make_cause_clause(struct octets it) {
+    illcanon_cause_clause((uint32_t)it.count, buffer, ROOM, &size);
+}
+
 static void make_version(struct octets it) {
     (void)it;
     illcanon_version(buffer, ROOM, &size);
@@ -102,6 +106,7 @@ static const struct made {
              {"normalise_next", make_normalise_next},
              {"frame", make_frame},
              {"cause_name", make_cause_name},
+             {"cause_clause", make_cause_clause},
              {"build_cause_name", make_build_cause_name},
              {"version", make_version}};
 

@@ -110,6 +110,33 @@ static const char *const CAUSES[] = {
     "TrailingBytes", "NormalTooLong", "BadNull", "BadOid", "BadBits"};
 #define CAUSES_SIZE (sizeof CAUSES / sizeof *CAUSES)
 
+/* The clause of each cause, by the same numbers. */
+static const char *const CLAUSES[] = {
+    "",
+    "X.690, 8.1.1",
+    "X.690, 8.1.2, or limit of illcanon",
+    "X.690, 8.1.3.2 and 8.1.3.5",
+    "limit of illcanon",
+    "X.690, 8.1.3.3",
+    "limit of illcanon",
+    "X.690, 8.9.2, 8.10.2, 8.13 and 8.14, with the types of ISO 10161-1",
+    "limit of illcanon",
+    "X.690, 8.2.1, 8.3.1, 8.8.1, 8.9.1, 8.10.1, 8.14 and 8.19.1",
+    "X.690, 8.9.3 and 8.14, with the types of ISO 10161-1",
+    "X.690, 8.1.5",
+    "X.690, 8.2.1",
+    "X.690, 8.3.1 and 8.3.2",
+    "limit of illcanon",
+    "X.690, 8.23, and X.680, 41",
+    "ISO 10161-1: ISO-Date ::= VisibleString -- conforms to ISO 8601, length = 8, fixed, YYYYMMDD",
+    "ISO 10161-1: ISO-Time ::= VisibleString -- conforms to ISO 8601, length = 6, fixed, HHMMSS",
+    "limit of illcanon",
+    "limit of illcanon",
+    "X.690, 8.8.2",
+    "X.690, 8.19.2",
+    "X.690, 8.6.2",
+};
+
 /* The causes for which lines of JSON are refused, by their numbers. */
 static const char *const BUILD_CAUSES[] = {
     "",          "NotJson",       "LineTooLong",  "WrongType", "UnknownMember", "RepeatedMember", "LeftOut",       "MissingMember",

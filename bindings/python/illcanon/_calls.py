@@ -7,7 +7,7 @@ import json
 import mmap
 from typing import Any, Callable, Dict, Iterator, Literal, NoReturn, Optional, Tuple, Union
 
-from ._library import BUILD_CAUSES, CAUSES, Refusal, library
+from ._library import BUILD_CAUSES, CAUSES, CLAUSES, Refusal, library
 
 Octets = Union[bytes, bytearray, memoryview, mmap.mmap]
 Profile = Literal["2", "module"]
@@ -39,7 +39,8 @@ class Refused(ValueError):
     """Octets that are not a message.
 
     `offset` counts octets from the first one of the message, `cause` is a word such as `Missing` (docs/DEFINITIONS.md lists them), and
-    `cause_number` its number in C. `part` is the part that is missing or left out, such as `Expired.service-date-time`, or None.
+    `cause_number` its number in C. `clause` is the clause of the standard that is broken, and `part` the part that is missing or left out,
+    such as `Expired.service-date-time`, or None.
 
     Where there are more messages, `message` is the number of this one, from 1: of `same`, `messages`, `normal_forms` and `results`. Of the
     last three `start` is the number of octets before it. Of `results`, `octets` is the message that is refused, and `end_known` is False
@@ -70,6 +71,11 @@ class Refused(ValueError):
     def cause_number(self) -> int:
         """The number of the cause in C."""
         return CAUSES.index(self.cause) + 1
+
+    @property
+    def clause(self) -> str:
+        """The clause of X.690, X.680 or ISO 10161-1 that is broken, or `limit of illcanon`."""
+        return CLAUSES[CAUSES.index(self.cause)]
 
     def __str__(self) -> str:
         part = f" {self.part}" if self.part else ""

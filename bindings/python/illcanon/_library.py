@@ -9,7 +9,7 @@ from typing import Callable, Optional, Tuple
 VERSION = "0.2.0"
 
 # The greatest number of octets of a name or of a version.
-ROOM = 64
+ROOM = 128
 
 
 class Refusal(ctypes.Structure):
@@ -41,6 +41,7 @@ def _load() -> ctypes.CDLL:
         "illcanon_normalise_next_as": [*octets, ctypes.POINTER(ctypes.c_size_t), *written],
         "illcanon_frame": [ctypes.c_void_p, ctypes.c_size_t, ctypes.POINTER(ctypes.c_size_t)],
         "illcanon_cause_name": [ctypes.c_uint32, *text],
+        "illcanon_cause_clause": [ctypes.c_uint32, *text],
         "illcanon_build_cause_name": [ctypes.c_uint32, *text],
     }
     for call_name, arguments in types.items():
@@ -63,17 +64,17 @@ def _check_version(found: ctypes.CDLL, name: str) -> None:
 
 
 def _causes(call: Callable[..., int]) -> Tuple[str, ...]:
-    """The names of the causes that a call names, by their numbers from 1, up to the first number that is no cause's."""
-    names = []
+    """What a call says of each cause, by their numbers from 1, up to the first number that is no cause's."""
+    texts = []
     for number in range(1, 256):
-        name = _cause_name(call, number)
-        if name is None:
+        text = _cause_text(call, number)
+        if text is None:
             break
-        names.append(name)
-    return tuple(names)
+        texts.append(text)
+    return tuple(texts)
 
 
-def _cause_name(call: Callable[..., int], number: int) -> Optional[str]:
+def _cause_text(call: Callable[..., int], number: int) -> Optional[str]:
     buffer, size = ctypes.create_string_buffer(ROOM), ctypes.c_size_t()
     status = call(number, buffer, ROOM, ctypes.byref(size))
     return buffer.raw[: size.value].decode("ascii") if status == 0 else None
@@ -81,4 +82,5 @@ def _cause_name(call: Callable[..., int], number: int) -> Optional[str]:
 
 library = _load()
 CAUSES = _causes(library.illcanon_cause_name)
+CLAUSES = _causes(library.illcanon_cause_clause)
 BUILD_CAUSES = _causes(library.illcanon_build_cause_name)

@@ -674,6 +674,14 @@ class Results(unittest.TestCase):
         for number, name in names.items():
             self.assertEqual(Refused(0, name).cause_number, number)
 
+    def test_clauses_are_those_of_the_definition(self):
+        with open(os.path.join(TOP, "crates", "ill_schema", "specs", "Causes.antt"), encoding="utf-8") as file:
+            clauses = dict(re.findall(r'^cause_clause \(?Cause\.(\w+)(?: part\))? = codes "(.*)"$', file.read(), re.M))
+        self.assertEqual({name: Refused(0, name).clause for name in illcanon.CAUSES}, clauses)
+        with self.assertRaises(Refused) as caught:
+            illcanon.normalise(b"\x74\x80\x00\x01")
+        self.assertEqual(caught.exception.clause, "X.690, 8.1.5")
+
 
 # The value of EXPIRED.
 VALUE = {
@@ -860,6 +868,9 @@ uint32_t illcanon_cause_name(uint32_t cause, uint8_t *buffer, size_t room, size_
     *buffer = 'X';
     *size = 1;
     return cause <= 22 ? ILLCANON_DONE : ILLCANON_UNKNOWN_CAUSE;
+}
+uint32_t illcanon_cause_clause(uint32_t cause, uint8_t *buffer, size_t room, size_t *size) {
+    return illcanon_cause_name(cause, buffer, room, size);
 }
 uint32_t illcanon_build_cause_name(uint32_t cause, uint8_t *buffer, size_t room, size_t *size) {
     return illcanon_cause_name(cause, buffer, room, size);

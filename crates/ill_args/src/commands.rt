@@ -19,10 +19,13 @@ next one is read, where the end of the refused one is known.
 
 With --refused FILE the octets of each message that is refused, and whose end is known,
 go to FILE, one message after the other. FILE is replaced as OUT of `canonicalise` is.
+What begins no message isn't kept.
 
 With --summary a line on standard error at the end says how many files, messages and
 octets were read, how many messages are in normal form, are not, and are refused, and
 how many files could not be opened, or were left before their end. Lines say where.
+With --keep-going it also says how many refused messages are only not read, how many
+are invalid, and at how many places no message begins.
 On a terminal, a line says how far the work is, where it takes more than two seconds.
 ",
             $after
