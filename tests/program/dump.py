@@ -153,7 +153,7 @@ def apdu_begun(octets):
     names = NAMES[ROOTS["module"]][1]
     first, number = octets[0], octets[0] & 31
     size = 1 if len(octets) < 2 or octets[1] <= 0x80 else 1 + (octets[1] & 0x7F)
-    begins = octets[1 + size : 2 + size] in (b"", b"\x30", b"\x80", b"\0")
+    begins = octets[1 + size : 2 + size] in (b"", b"\x10", b"\x30", b"\x80", b"\xa0", b"\0")
     return names[number - 1] if first >> 6 == 1 and 0 < number <= len(names) and begins else None
 
 

@@ -13,10 +13,10 @@ abbrev pub after_length : List ℕ → List ℕ
 after_length [] = []
 after_length (octet ∷ octets) = drop (length_size octet) (octet ∷ octets)
 
--- an APDU's contents begin so: with its SEQUENCE, with its first row, [0], where that stands without one, or with an end mark
+-- an APDU's contents begin so: with SEQUENCE, with the first row, [0], where that stands without one, each primitive or constructed, or with an end mark
 abbrev pub begins_contents : List ℕ → Bool
 begins_contents [] = true
-begins_contents (octet ∷ octets) = octet == 48 || octet == 128 || octet == 0
+begins_contents (octet ∷ octets) = octet == 16 || octet == 48 || octet == 128 || octet == 160 || octet == 0
 
 -- the name of the APDU of ISO 10161-1 that octets begin: of [APPLICATION n], primitive or constructed, with an APDU's contents as far as they are there
 abbrev pub apdu_begun : List ℕ → Option (List ℕ)

@@ -6,8 +6,8 @@ use crate::names::apdu_name_as;
 use ill_tables::Profile;
 
 /// The name of the APDU of ISO 10161-1 that the octets begin; None where no message begins with them. Only the first octets count: the
-/// identifier of an APDU, primitive or constructed, its length, and after these the identifier of a SEQUENCE or of `[0]`, or an end mark, as
-/// far as they are there.
+/// identifier of an APDU, its length, and after these the identifier of a SEQUENCE or of `[0]`, or an end mark, as far as they are there.
+/// Identifiers may be primitive or constructed.
 ///
 /// ```text
 /// apdu_begun(&[0x74, 0x1F, 0x30])  // Some("Expired")
@@ -39,5 +39,5 @@ fn after_length(octets: &[u8]) -> &[u8]
 fn begins_contents(octets: &[u8]) -> bool
     ensures { result ≡ begins_contents octets.now }
 {
-    matches!(octets, [] | [0x30 | 0x80 | 0x00, ..])
+    matches!(octets, [] | [0x10 | 0x30 | 0x80 | 0xA0 | 0x00, ..])
 }

@@ -76,7 +76,7 @@ pub const QUIET: Row = Row {
 /// text as a VisibleString, and cut short with an octet after it that begins nothing that is due. In `first`, `middle`, `last` and `endless`
 /// a message is refused: one with nothing in it, whose end is known, or one without its second part, whose end mark is missing. E and F are an
 /// EXPIRED with an extension, in normal form and spelled in another way, which only the module profile reads; G is a refused message and E.
-static FILES: [(&str, &str); 21] = [
+static FILES: [(&str, &str); 22] = [
     (
         "A",
         "741f301d800102a10aa1031b0147a2031b0151a20ca00a80083230323430323239",
@@ -118,6 +118,11 @@ static FILES: [(&str, &str); 21] = [
         "endless",
         "741f301d800102a10aa1031b0147a2031b0151a20ca00a80083230323430323239 748030808001020000 741f301d800102a10aa1031b0147a2031b0151a20ca00a80083230323430323239",
     ),
+    // No message begins with the NULL, nor with `From: a library`, whose end isn't known.
+    (
+        "mail",
+        "0500 741f301d800102a10aa1031b0147a2031b0151a20ca00a80083230323430323239 7400 46726f6d3a2061206c696272617279",
+    ),
     ("none", ""),
     (
         "two",
@@ -138,7 +143,7 @@ static FILES: [(&str, &str); 21] = [
         "741f301d800102a10aa1031b0147a2031b0151a20ca00a80083230323430323239 748400124f80 00*1200000 741f301d800102a10aa1031b0147a2031b0151a20ca00a80083230323430323239",
     ),
     // A refused message of 20,004 octets, and twenty thousand of two octets each.
-    ("large", "74824e20 05*20000"),
+    ("large", "74824e20 80 05*19999"),
     ("refusals", "7400*20000"),
     // A list of a thousand names.
     ("thousand", "4100*1000"),

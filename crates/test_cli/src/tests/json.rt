@@ -39,7 +39,7 @@ static ROWS: [Row; 19] = [
         words: "check --json middle",
         status: 1,
         output: Text(
-            b"{\"number\":1,\"offset\":0,\"octets\":33,\"apdu\":\"Expired\",\"normal\":true}\n{\"number\":2,\"offset\":33,\"octets\":2,\"apdu\":\"Expired\",\"refused\":{\"cause\":\"Missing\",\"offset\":2,\"kind\":\"invalid\",\"part\":\"Expired.protocol-version-num\",\"path\":\"Expired\",\"found\":\"the end of the element\",\"due\":[\"[UNIVERSAL 16] SEQUENCE\",\"[0] protocol-version-num\"]}}\n",
+            b"{\"number\":1,\"offset\":0,\"octets\":33,\"apdu\":\"Expired\",\"normal\":true}\n{\"number\":2,\"offset\":33,\"octets\":2,\"apdu\":\"Expired\",\"refused\":{\"cause\":\"Missing\",\"offset\":2,\"kind\":\"invalid\",\"clause\":\"X.690, 8.9.3 and 8.14, with the types of ISO 10161-1\",\"part\":\"Expired.protocol-version-num\",\"path\":\"Expired\",\"found\":\"the end of the element\",\"due\":[\"[UNIVERSAL 16] SEQUENCE\",\"[0] protocol-version-num\"]}}\n",
         ),
         ..QUIET
     },
@@ -47,7 +47,7 @@ static ROWS: [Row; 19] = [
         words: "check --json --keep-going middle",
         status: 1,
         output: Text(
-            b"{\"number\":1,\"offset\":0,\"octets\":33,\"apdu\":\"Expired\",\"normal\":true}\n{\"number\":2,\"offset\":33,\"octets\":2,\"apdu\":\"Expired\",\"refused\":{\"cause\":\"Missing\",\"offset\":2,\"kind\":\"invalid\",\"part\":\"Expired.protocol-version-num\",\"path\":\"Expired\",\"found\":\"the end of the element\",\"due\":[\"[UNIVERSAL 16] SEQUENCE\",\"[0] protocol-version-num\"]}}\n{\"number\":3,\"offset\":35,\"octets\":33,\"apdu\":\"Expired\",\"normal\":true}\n",
+            b"{\"number\":1,\"offset\":0,\"octets\":33,\"apdu\":\"Expired\",\"normal\":true}\n{\"number\":2,\"offset\":33,\"octets\":2,\"apdu\":\"Expired\",\"refused\":{\"cause\":\"Missing\",\"offset\":2,\"kind\":\"invalid\",\"clause\":\"X.690, 8.9.3 and 8.14, with the types of ISO 10161-1\",\"part\":\"Expired.protocol-version-num\",\"path\":\"Expired\",\"found\":\"the end of the element\",\"due\":[\"[UNIVERSAL 16] SEQUENCE\",\"[0] protocol-version-num\"]}}\n{\"number\":3,\"offset\":35,\"octets\":33,\"apdu\":\"Expired\",\"normal\":true}\n",
         ),
         ..QUIET
     },
@@ -60,7 +60,7 @@ static ROWS: [Row; 19] = [
         },
         status: 3,
         output: Text(
-            b"{\"number\":1,\"offset\":0,\"octets\":33,\"apdu\":\"Expired\",\"normal\":true}\n{\"number\":2,\"offset\":33,\"octets\":2,\"apdu\":\"Expired\",\"refused\":{\"cause\":\"Missing\",\"offset\":2,\"kind\":\"invalid\",\"part\":\"Expired.protocol-version-num\",\"path\":\"Expired\",\"found\":\"the end of the element\",\"due\":[\"[UNIVERSAL 16] SEQUENCE\",\"[0] protocol-version-num\"]}}\n{\"summary\":{\"files\":1,\"messages\":2,\"normal\":1,\"not_normal\":0,\"refused\":1,\"not_read\":0,\"invalid\":1,\"octets\":35,\"not_opened\":0,\"left\":1}}\n",
+            b"{\"number\":1,\"offset\":0,\"octets\":33,\"apdu\":\"Expired\",\"normal\":true}\n{\"number\":2,\"offset\":33,\"octets\":2,\"apdu\":\"Expired\",\"refused\":{\"cause\":\"Missing\",\"offset\":2,\"kind\":\"invalid\",\"clause\":\"X.690, 8.9.3 and 8.14, with the types of ISO 10161-1\",\"part\":\"Expired.protocol-version-num\",\"path\":\"Expired\",\"found\":\"the end of the element\",\"due\":[\"[UNIVERSAL 16] SEQUENCE\",\"[0] protocol-version-num\"]}}\n{\"summary\":{\"files\":1,\"messages\":2,\"normal\":1,\"not_normal\":0,\"refused\":1,\"not_read\":0,\"invalid\":1,\"no_message\":0,\"octets\":35,\"not_opened\":0,\"left\":1}}\n",
         ),
         errors: "illcanon: read fault\nillcanon: stopped at message 3 (octet 35)\n",
         ..QUIET
@@ -69,7 +69,7 @@ static ROWS: [Row; 19] = [
         words: "check --keep-going --json endless",
         status: 1,
         output: Text(
-            b"{\"number\":1,\"offset\":0,\"octets\":33,\"apdu\":\"Expired\",\"normal\":true}\n{\"number\":2,\"offset\":33,\"apdu\":\"Expired\",\"refused\":{\"cause\":\"Missing\",\"offset\":7,\"kind\":\"invalid\",\"part\":\"Expired.transaction-id\",\"path\":\"Expired\",\"found\":\"the end of the element\",\"due\":[\"[1] transaction-id\"]}}\n",
+            b"{\"number\":1,\"offset\":0,\"octets\":33,\"apdu\":\"Expired\",\"normal\":true}\n{\"number\":2,\"offset\":33,\"apdu\":\"Expired\",\"refused\":{\"cause\":\"Missing\",\"offset\":7,\"kind\":\"invalid\",\"clause\":\"X.690, 8.9.3 and 8.14, with the types of ISO 10161-1\",\"part\":\"Expired.transaction-id\",\"path\":\"Expired\",\"found\":\"the end of the element\",\"due\":[\"[1] transaction-id\"]}}\n",
         ),
         ..QUIET
     },
@@ -77,7 +77,7 @@ static ROWS: [Row; 19] = [
         words: "check --json endless",
         status: 1,
         output: Text(
-            b"{\"number\":1,\"offset\":0,\"octets\":33,\"apdu\":\"Expired\",\"normal\":true}\n{\"number\":2,\"offset\":33,\"apdu\":\"Expired\",\"refused\":{\"cause\":\"Missing\",\"offset\":7,\"kind\":\"invalid\",\"part\":\"Expired.transaction-id\",\"path\":\"Expired\",\"found\":\"the end of the element\",\"due\":[\"[1] transaction-id\"]}}\n",
+            b"{\"number\":1,\"offset\":0,\"octets\":33,\"apdu\":\"Expired\",\"normal\":true}\n{\"number\":2,\"offset\":33,\"apdu\":\"Expired\",\"refused\":{\"cause\":\"Missing\",\"offset\":7,\"kind\":\"invalid\",\"clause\":\"X.690, 8.9.3 and 8.14, with the types of ISO 10161-1\",\"part\":\"Expired.transaction-id\",\"path\":\"Expired\",\"found\":\"the end of the element\",\"due\":[\"[1] transaction-id\"]}}\n",
         ),
         ..QUIET
     },
@@ -85,7 +85,7 @@ static ROWS: [Row; 19] = [
         words: "digest --json O middle A",
         status: 3,
         output: Text(
-            b"{\"file\":\"middle\",\"number\":1,\"offset\":0,\"octets\":33,\"apdu\":\"Expired\",\"normal\":true,\"digest\":\"41b0dca84b6db1db587880995cae8f2ae640c5af026d4d9745a5bc56ba11a782\"}\n{\"file\":\"middle\",\"number\":2,\"offset\":33,\"octets\":2,\"apdu\":\"Expired\",\"refused\":{\"cause\":\"Missing\",\"offset\":2,\"kind\":\"invalid\",\"part\":\"Expired.protocol-version-num\",\"path\":\"Expired\",\"found\":\"the end of the element\",\"due\":[\"[UNIVERSAL 16] SEQUENCE\",\"[0] protocol-version-num\"]}}\n{\"file\":\"A\",\"number\":1,\"offset\":0,\"octets\":33,\"apdu\":\"Expired\",\"normal\":true,\"digest\":\"41b0dca84b6db1db587880995cae8f2ae640c5af026d4d9745a5bc56ba11a782\"}\n",
+            b"{\"file\":\"middle\",\"number\":1,\"offset\":0,\"octets\":33,\"apdu\":\"Expired\",\"normal\":true,\"digest\":\"41b0dca84b6db1db587880995cae8f2ae640c5af026d4d9745a5bc56ba11a782\"}\n{\"file\":\"middle\",\"number\":2,\"offset\":33,\"octets\":2,\"apdu\":\"Expired\",\"refused\":{\"cause\":\"Missing\",\"offset\":2,\"kind\":\"invalid\",\"clause\":\"X.690, 8.9.3 and 8.14, with the types of ISO 10161-1\",\"part\":\"Expired.protocol-version-num\",\"path\":\"Expired\",\"found\":\"the end of the element\",\"due\":[\"[UNIVERSAL 16] SEQUENCE\",\"[0] protocol-version-num\"]}}\n{\"file\":\"A\",\"number\":1,\"offset\":0,\"octets\":33,\"apdu\":\"Expired\",\"normal\":true,\"digest\":\"41b0dca84b6db1db587880995cae8f2ae640c5af026d4d9745a5bc56ba11a782\"}\n",
         ),
         errors: "illcanon: cannot open O: no such file\n",
         ..QUIET
@@ -94,7 +94,7 @@ static ROWS: [Row; 19] = [
         words: "check --json --summary E middle",
         status: 1,
         output: Text(
-            b"{\"file\":\"E\",\"number\":1,\"offset\":0,\"octets\":47,\"apdu\":\"Expired\",\"refused\":{\"cause\":\"LeftOut\",\"offset\":33,\"kind\":\"not read\",\"part\":\"Expired.expired-extensions\",\"path\":\"Expired.expired-extensions\",\"found\":\"[49] constructed: bf 31\"}}\n{\"file\":\"middle\",\"number\":1,\"offset\":0,\"octets\":33,\"apdu\":\"Expired\",\"normal\":true}\n{\"file\":\"middle\",\"number\":2,\"offset\":33,\"octets\":2,\"apdu\":\"Expired\",\"refused\":{\"cause\":\"Missing\",\"offset\":2,\"kind\":\"invalid\",\"part\":\"Expired.protocol-version-num\",\"path\":\"Expired\",\"found\":\"the end of the element\",\"due\":[\"[UNIVERSAL 16] SEQUENCE\",\"[0] protocol-version-num\"]}}\n{\"summary\":{\"files\":2,\"messages\":3,\"normal\":1,\"not_normal\":0,\"refused\":2,\"not_read\":1,\"invalid\":1,\"octets\":82,\"not_opened\":0,\"left\":2}}\n",
+            b"{\"file\":\"E\",\"number\":1,\"offset\":0,\"octets\":47,\"apdu\":\"Expired\",\"refused\":{\"cause\":\"LeftOut\",\"offset\":33,\"kind\":\"not read\",\"clause\":\"limit of illcanon\",\"part\":\"Expired.expired-extensions\",\"path\":\"Expired.expired-extensions\",\"found\":\"[49] constructed: bf 31\"}}\n{\"file\":\"middle\",\"number\":1,\"offset\":0,\"octets\":33,\"apdu\":\"Expired\",\"normal\":true}\n{\"file\":\"middle\",\"number\":2,\"offset\":33,\"octets\":2,\"apdu\":\"Expired\",\"refused\":{\"cause\":\"Missing\",\"offset\":2,\"kind\":\"invalid\",\"clause\":\"X.690, 8.9.3 and 8.14, with the types of ISO 10161-1\",\"part\":\"Expired.protocol-version-num\",\"path\":\"Expired\",\"found\":\"the end of the element\",\"due\":[\"[UNIVERSAL 16] SEQUENCE\",\"[0] protocol-version-num\"]}}\n{\"summary\":{\"files\":2,\"messages\":3,\"normal\":1,\"not_normal\":0,\"refused\":2,\"not_read\":1,\"invalid\":1,\"no_message\":0,\"octets\":82,\"not_opened\":0,\"left\":2}}\n",
         ),
         errors: "illcanon: E: stopped at message 1 (octet 0)\nillcanon: middle: stopped at message 2 (octet 33)\n",
         ..QUIET
@@ -103,14 +103,14 @@ static ROWS: [Row; 19] = [
         words: "check --json --summary --keep-going B first",
         status: 1,
         output: Text(
-            b"{\"file\":\"B\",\"number\":1,\"offset\":0,\"octets\":47,\"apdu\":\"Expired\",\"normal\":false}\n{\"file\":\"first\",\"number\":1,\"offset\":0,\"octets\":2,\"apdu\":\"Expired\",\"refused\":{\"cause\":\"Missing\",\"offset\":2,\"kind\":\"invalid\",\"part\":\"Expired.protocol-version-num\",\"path\":\"Expired\",\"found\":\"the end of the element\",\"due\":[\"[UNIVERSAL 16] SEQUENCE\",\"[0] protocol-version-num\"]}}\n{\"file\":\"first\",\"number\":2,\"offset\":2,\"octets\":33,\"apdu\":\"Expired\",\"normal\":true}\n{\"file\":\"first\",\"number\":3,\"offset\":35,\"octets\":47,\"apdu\":\"Expired\",\"normal\":false}\n{\"summary\":{\"files\":2,\"messages\":4,\"normal\":1,\"not_normal\":2,\"refused\":1,\"not_read\":0,\"invalid\":1,\"octets\":129,\"not_opened\":0,\"left\":0}}\n",
+            b"{\"file\":\"B\",\"number\":1,\"offset\":0,\"octets\":47,\"apdu\":\"Expired\",\"normal\":false}\n{\"file\":\"first\",\"number\":1,\"offset\":0,\"octets\":2,\"apdu\":\"Expired\",\"refused\":{\"cause\":\"Missing\",\"offset\":2,\"kind\":\"invalid\",\"clause\":\"X.690, 8.9.3 and 8.14, with the types of ISO 10161-1\",\"part\":\"Expired.protocol-version-num\",\"path\":\"Expired\",\"found\":\"the end of the element\",\"due\":[\"[UNIVERSAL 16] SEQUENCE\",\"[0] protocol-version-num\"]}}\n{\"file\":\"first\",\"number\":2,\"offset\":2,\"octets\":33,\"apdu\":\"Expired\",\"normal\":true}\n{\"file\":\"first\",\"number\":3,\"offset\":35,\"octets\":47,\"apdu\":\"Expired\",\"normal\":false}\n{\"summary\":{\"files\":2,\"messages\":4,\"normal\":1,\"not_normal\":2,\"refused\":1,\"not_read\":0,\"invalid\":1,\"no_message\":0,\"octets\":129,\"not_opened\":0,\"left\":0}}\n",
         ),
         ..QUIET
     },
     Row {
         words: "check --json --summary none",
         output: Text(
-            b"{\"summary\":{\"files\":1,\"messages\":0,\"normal\":0,\"not_normal\":0,\"refused\":0,\"not_read\":0,\"invalid\":0,\"octets\":0,\"not_opened\":0,\"left\":0}}\n",
+            b"{\"summary\":{\"files\":1,\"messages\":0,\"normal\":0,\"not_normal\":0,\"refused\":0,\"not_read\":0,\"invalid\":0,\"no_message\":0,\"octets\":0,\"not_opened\":0,\"left\":0}}\n",
         ),
         ..QUIET
     },
@@ -125,7 +125,7 @@ static ROWS: [Row; 19] = [
         words: "check --json --hex hex",
         status: 1,
         output: Text(
-            b"{\"number\":1,\"offset\":0,\"octets\":33,\"apdu\":\"Expired\",\"normal\":true}\n{\"number\":2,\"offset\":33,\"octets\":2,\"apdu\":\"Expired\",\"refused\":{\"cause\":\"Missing\",\"offset\":2,\"kind\":\"invalid\",\"part\":\"Expired.protocol-version-num\",\"path\":\"Expired\",\"found\":\"the end of the element\",\"due\":[\"[UNIVERSAL 16] SEQUENCE\",\"[0] protocol-version-num\"]}}\n",
+            b"{\"number\":1,\"offset\":0,\"octets\":33,\"apdu\":\"Expired\",\"normal\":true}\n{\"number\":2,\"offset\":33,\"octets\":2,\"apdu\":\"Expired\",\"refused\":{\"cause\":\"Missing\",\"offset\":2,\"kind\":\"invalid\",\"clause\":\"X.690, 8.9.3 and 8.14, with the types of ISO 10161-1\",\"part\":\"Expired.protocol-version-num\",\"path\":\"Expired\",\"found\":\"the end of the element\",\"due\":[\"[UNIVERSAL 16] SEQUENCE\",\"[0] protocol-version-num\"]}}\n",
         ),
         ..QUIET
     },
@@ -133,7 +133,7 @@ static ROWS: [Row; 19] = [
         words: "check --json --hex --keep-going hex",
         status: 1,
         output: Text(
-            b"{\"number\":1,\"offset\":0,\"octets\":33,\"apdu\":\"Expired\",\"normal\":true}\n{\"number\":2,\"offset\":33,\"octets\":2,\"apdu\":\"Expired\",\"refused\":{\"cause\":\"Missing\",\"offset\":2,\"kind\":\"invalid\",\"part\":\"Expired.protocol-version-num\",\"path\":\"Expired\",\"found\":\"the end of the element\",\"due\":[\"[UNIVERSAL 16] SEQUENCE\",\"[0] protocol-version-num\"]}}\n{\"number\":3,\"offset\":35,\"octets\":33,\"apdu\":\"Expired\",\"normal\":true}\n",
+            b"{\"number\":1,\"offset\":0,\"octets\":33,\"apdu\":\"Expired\",\"normal\":true}\n{\"number\":2,\"offset\":33,\"octets\":2,\"apdu\":\"Expired\",\"refused\":{\"cause\":\"Missing\",\"offset\":2,\"kind\":\"invalid\",\"clause\":\"X.690, 8.9.3 and 8.14, with the types of ISO 10161-1\",\"part\":\"Expired.protocol-version-num\",\"path\":\"Expired\",\"found\":\"the end of the element\",\"due\":[\"[UNIVERSAL 16] SEQUENCE\",\"[0] protocol-version-num\"]}}\n{\"number\":3,\"offset\":35,\"octets\":33,\"apdu\":\"Expired\",\"normal\":true}\n",
         ),
         ..QUIET
     },

@@ -22,7 +22,7 @@ struct Kept {
 /// An EXPIRED with nothing in it.
 const EMPTY: &[u8] = b"\x74\x00";
 
-static ROWS: [Kept; 27] = [
+static ROWS: [Kept; 28] = [
     Kept {
         row: Row {
             words: "check --keep-going --refused R middle",
@@ -76,11 +76,22 @@ static ROWS: [Kept; 27] = [
             words: "check --json --keep-going --refused R E",
             status: 1,
             output: Text(
-                b"{\"number\":1,\"offset\":0,\"octets\":47,\"apdu\":\"Expired\",\"refused\":{\"cause\":\"LeftOut\",\"offset\":33,\"kind\":\"not read\",\"part\":\"Expired.expired-extensions\",\"path\":\"Expired.expired-extensions\",\"found\":\"[49] constructed: bf 31\"}}\n",
+                b"{\"number\":1,\"offset\":0,\"octets\":47,\"apdu\":\"Expired\",\"refused\":{\"cause\":\"LeftOut\",\"offset\":33,\"kind\":\"not read\",\"clause\":\"limit of illcanon\",\"part\":\"Expired.expired-extensions\",\"path\":\"Expired.expired-extensions\",\"found\":\"[49] constructed: bf 31\"}}\n",
             ),
             ..QUIET
         },
         kept: b"\x74\x2d\x30\x2b\x80\x01\x02\xa1\x0a\xa1\x03\x1b\x01\x47\xa2\x03\x1b\x01\x51\xa2\x0c\xa0\x0a\x80\x0820240229\xbf\x31\x0b\x30\x09\x80\x01\x01\xa2\x04\x30\x02\x05\x00",
+    },
+    // octets with which no message begins aren't kept
+    Kept {
+        row: Row {
+            words: "check --keep-going --summary --refused R mail",
+            status: 1,
+            output: Text(b"message 2: Expired, 33 octets, normal\n"),
+            errors: "illcanon: refused at 0 in message 1: UnexpectedTag\nillcanon: refused at 2 in message 3: Missing Expired.protocol-version-num\nillcanon: refused at 0 in message 4: WrongForm; its end is unknown\nillcanon: stopped at message 4 (octet 37)\nillcanon: 1 file, 2 messages, 1 normal, 0 not normal, 1 refused (0 not read, 1 invalid), 37 octets, 2 places without a message, 1 left before the end\n",
+            ..QUIET
+        },
+        kept: EMPTY,
     },
     // nothing is refused
     Kept {
@@ -245,7 +256,7 @@ static ROWS: [Kept; 27] = [
                 ..NO_FAULTS
             },
             status: 3,
-            errors: "illcanon: refused at 4 in message 1: UnexpectedTag\nillcanon: R: flush fault\n",
+            errors: "illcanon: refused at 11 in message 1: UnexpectedTag\nillcanon: R: flush fault\n",
             ..QUIET
         },
         kept: OLD,

@@ -9,14 +9,14 @@ use test_support::octets_of;
 
 /// The octets of a message that is refused, its profile, the name of its file, how many octets it has, where that is known, and the line of it
 /// as message 7 after 100 octets.
-const ROWS: [(&str, Profile, Option<&str>, Option<u64>, &str); 13] = [
+const ROWS: [(&str, Profile, Option<&str>, Option<u64>, &str); 15] = [
     // nothing in it
     (
         "7400",
         Profile::Two,
         None,
         Some(2),
-        "{\"number\":7,\"offset\":100,\"octets\":2,\"apdu\":\"Expired\",\"refused\":{\"cause\":\"Missing\",\"offset\":2,\"kind\":\"invalid\",\"part\":\"Expired.protocol-version-num\",\"path\":\"Expired\",\"found\":\"the end of the element\",\"due\":[\"[UNIVERSAL 16] SEQUENCE\",\"[0] protocol-version-num\"]}}\n",
+        "{\"number\":7,\"offset\":100,\"octets\":2,\"apdu\":\"Expired\",\"refused\":{\"cause\":\"Missing\",\"offset\":2,\"kind\":\"invalid\",\"clause\":\"X.690, 8.9.3 and 8.14, with the types of ISO 10161-1\",\"part\":\"Expired.protocol-version-num\",\"path\":\"Expired\",\"found\":\"the end of the element\",\"due\":[\"[UNIVERSAL 16] SEQUENCE\",\"[0] protocol-version-num\"]}}\n",
     ),
     // an end that isn't known, and a name with a line end and a letter beyond ASCII
     (
@@ -24,7 +24,7 @@ const ROWS: [(&str, Profile, Option<&str>, Option<u64>, &str); 13] = [
         Profile::Two,
         Some("a\n\u{e9}"),
         None,
-        "{\"file\":\"a\\n\\u00e9\",\"number\":7,\"offset\":100,\"apdu\":\"Expired\",\"refused\":{\"cause\":\"Truncated\",\"offset\":2,\"kind\":\"invalid\",\"path\":\"Expired\",\"found\":\"the end of the input\"}}\n",
+        "{\"file\":\"a\\n\\u00e9\",\"number\":7,\"offset\":100,\"apdu\":\"Expired\",\"refused\":{\"cause\":\"Truncated\",\"offset\":2,\"kind\":\"invalid\",\"clause\":\"X.690, 8.1.1\",\"path\":\"Expired\",\"found\":\"the end of the input\"}}\n",
     ),
     // an extension, which the module has
     (
@@ -32,7 +32,7 @@ const ROWS: [(&str, Profile, Option<&str>, Option<u64>, &str); 13] = [
         Profile::Two,
         None,
         Some(47),
-        "{\"number\":7,\"offset\":100,\"octets\":47,\"apdu\":\"Expired\",\"refused\":{\"cause\":\"LeftOut\",\"offset\":33,\"kind\":\"not read\",\"part\":\"Expired.expired-extensions\",\"path\":\"Expired.expired-extensions\",\"found\":\"[49] constructed: bf 31\"}}\n",
+        "{\"number\":7,\"offset\":100,\"octets\":47,\"apdu\":\"Expired\",\"refused\":{\"cause\":\"LeftOut\",\"offset\":33,\"kind\":\"not read\",\"clause\":\"limit of illcanon\",\"part\":\"Expired.expired-extensions\",\"path\":\"Expired.expired-extensions\",\"found\":\"[49] constructed: bf 31\"}}\n",
     ),
     // the extension is primitive, which it isn't in the module
     (
@@ -40,7 +40,7 @@ const ROWS: [(&str, Profile, Option<&str>, Option<u64>, &str); 13] = [
         Profile::Two,
         None,
         Some(36),
-        "{\"number\":7,\"offset\":100,\"octets\":36,\"apdu\":\"Expired\",\"refused\":{\"cause\":\"LeftOut\",\"offset\":33,\"kind\":\"invalid\",\"part\":\"Expired.expired-extensions\",\"path\":\"Expired.expired-extensions\",\"found\":\"[49] primitive: 9f 31\"}}\n",
+        "{\"number\":7,\"offset\":100,\"octets\":36,\"apdu\":\"Expired\",\"refused\":{\"cause\":\"LeftOut\",\"offset\":33,\"kind\":\"not read\",\"clause\":\"limit of illcanon\",\"part\":\"Expired.expired-extensions\",\"path\":\"Expired.expired-extensions\",\"found\":\"[49] primitive: 9f 31\"}}\n",
     ),
     // an APDU that the module has, with nothing in it
     (
@@ -48,7 +48,7 @@ const ROWS: [(&str, Profile, Option<&str>, Option<u64>, &str); 13] = [
         Profile::Two,
         None,
         Some(2),
-        "{\"number\":7,\"offset\":100,\"octets\":2,\"apdu\":\"Forward-Notification\",\"refused\":{\"cause\":\"LeftOut\",\"offset\":0,\"kind\":\"not read\",\"part\":\"ILL-APDU.Forward-Notification\",\"path\":\"Forward-Notification\",\"found\":\"[APPLICATION 2] constructed: 62\"}}\n",
+        "{\"number\":7,\"offset\":100,\"octets\":2,\"apdu\":\"Forward-Notification\",\"refused\":{\"cause\":\"LeftOut\",\"offset\":0,\"kind\":\"not read\",\"clause\":\"limit of illcanon\",\"part\":\"ILL-APDU.Forward-Notification\",\"path\":\"Forward-Notification\",\"found\":\"[APPLICATION 2] constructed: 62\"}}\n",
     ),
     // the same in the module profile
     (
@@ -56,7 +56,7 @@ const ROWS: [(&str, Profile, Option<&str>, Option<u64>, &str); 13] = [
         Profile::Module,
         None,
         Some(2),
-        "{\"number\":7,\"offset\":100,\"octets\":2,\"apdu\":\"Forward-Notification\",\"refused\":{\"cause\":\"Missing\",\"offset\":2,\"kind\":\"invalid\",\"part\":\"Forward-Notification.protocol-version-num\",\"path\":\"Forward-Notification\",\"found\":\"the end of the element\",\"due\":[\"[UNIVERSAL 16] SEQUENCE\",\"[0] protocol-version-num\"]}}\n",
+        "{\"number\":7,\"offset\":100,\"octets\":2,\"apdu\":\"Forward-Notification\",\"refused\":{\"cause\":\"Missing\",\"offset\":2,\"kind\":\"invalid\",\"clause\":\"X.690, 8.9.3 and 8.14, with the types of ISO 10161-1\",\"part\":\"Forward-Notification.protocol-version-num\",\"path\":\"Forward-Notification\",\"found\":\"the end of the element\",\"due\":[\"[UNIVERSAL 16] SEQUENCE\",\"[0] protocol-version-num\"]}}\n",
     ),
     // a number of nine octets, which neither profile reads
     (
@@ -64,14 +64,14 @@ const ROWS: [(&str, Profile, Option<&str>, Option<u64>, &str); 13] = [
         Profile::Two,
         None,
         Some(15),
-        "{\"number\":7,\"offset\":100,\"octets\":15,\"apdu\":\"Expired\",\"refused\":{\"cause\":\"IntegerTooLong\",\"offset\":4,\"kind\":\"not read\",\"path\":\"Expired.protocol-version-num\",\"found\":\"[0] primitive: 80 09 01 00 00 00 00 00 00 00 00\"}}\n",
+        "{\"number\":7,\"offset\":100,\"octets\":15,\"apdu\":\"Expired\",\"refused\":{\"cause\":\"IntegerTooLong\",\"offset\":4,\"kind\":\"not read\",\"clause\":\"limit of illcanon\",\"path\":\"Expired.protocol-version-num\",\"found\":\"[0] primitive: 80 09 01 00 00 00 00 00 00 00 00\"}}\n",
     ),
     (
         "740d300b8009010000000000000000",
         Profile::Module,
         None,
         Some(15),
-        "{\"number\":7,\"offset\":100,\"octets\":15,\"apdu\":\"Expired\",\"refused\":{\"cause\":\"IntegerTooLong\",\"offset\":4,\"kind\":\"not read\",\"path\":\"Expired.protocol-version-num\",\"found\":\"[0] primitive: 80 09 01 00 00 00 00 00 00 00 00\"}}\n",
+        "{\"number\":7,\"offset\":100,\"octets\":15,\"apdu\":\"Expired\",\"refused\":{\"cause\":\"IntegerTooLong\",\"offset\":4,\"kind\":\"not read\",\"clause\":\"limit of illcanon\",\"path\":\"Expired.protocol-version-num\",\"found\":\"[0] primitive: 80 09 01 00 00 00 00 00 00 00 00\"}}\n",
     ),
     // an escape sequence in a GeneralString
     (
@@ -79,7 +79,7 @@ const ROWS: [(&str, Profile, Option<&str>, Option<u64>, &str); 13] = [
         Profile::Two,
         None,
         Some(34),
-        "{\"number\":7,\"offset\":100,\"octets\":34,\"apdu\":\"Expired\",\"refused\":{\"cause\":\"BadText\",\"offset\":11,\"kind\":\"not read\",\"path\":\"Expired.transaction-id.transaction-group-qualifier\",\"found\":\"[UNIVERSAL 27] primitive: 1b 02 1b 47\"}}\n",
+        "{\"number\":7,\"offset\":100,\"octets\":34,\"apdu\":\"Expired\",\"refused\":{\"cause\":\"BadText\",\"offset\":11,\"kind\":\"not read\",\"clause\":\"X.690, 8.23, and X.680, 41\",\"path\":\"Expired.transaction-id.transaction-group-qualifier\",\"found\":\"[UNIVERSAL 27] primitive: 1b 02 1b 47\"}}\n",
     ),
     // a number that is constructed
     (
@@ -87,7 +87,7 @@ const ROWS: [(&str, Profile, Option<&str>, Option<u64>, &str); 13] = [
         Profile::Two,
         None,
         Some(4),
-        "{\"number\":7,\"offset\":100,\"octets\":4,\"apdu\":\"Expired\",\"refused\":{\"cause\":\"WrongForm\",\"offset\":2,\"kind\":\"invalid\",\"path\":\"Expired.protocol-version-num\",\"found\":\"[0] constructed: a0\",\"due\":[\"[0] primitive: 80\"]}}\n",
+        "{\"number\":7,\"offset\":100,\"octets\":4,\"apdu\":\"Expired\",\"refused\":{\"cause\":\"WrongForm\",\"offset\":2,\"kind\":\"invalid\",\"clause\":\"X.690, 8.2.1, 8.3.1, 8.8.1, 8.9.1, 8.10.1, 8.14 and 8.19.1\",\"path\":\"Expired.protocol-version-num\",\"found\":\"[0] constructed: a0\",\"due\":[\"[0] primitive: 80\"]}}\n",
     ),
     // a tag that is due nowhere, and one of no APDU
     (
@@ -95,14 +95,29 @@ const ROWS: [(&str, Profile, Option<&str>, Option<u64>, &str); 13] = [
         Profile::Two,
         None,
         Some(2),
-        "{\"number\":7,\"offset\":100,\"octets\":2,\"refused\":{\"cause\":\"UnexpectedTag\",\"offset\":0,\"kind\":\"invalid\",\"found\":\"[UNIVERSAL 5] primitive: 05\",\"due\":[\"[APPLICATION 1] ILL-Request\",\"[APPLICATION 2] Forward-Notification (not read)\",\"[APPLICATION 3] Shipped\",\"[APPLICATION 4] ILL-Answer\",\"[APPLICATION 5] Conditional-Reply\",\"[APPLICATION 6] Cancel\",\"[APPLICATION 7] Cancel-Reply\",\"[APPLICATION 8] Received\",\"[APPLICATION 9] Recall\",\"[APPLICATION 10] Returned\",\"[APPLICATION 11] Checked-In\",\"[APPLICATION 12] Overdue\",\"[APPLICATION 13] Renew\",\"[APPLICATION 14] Renew-Answer\",\"[APPLICATION 15] Lost\",\"[APPLICATION 16] Damaged\",\"[APPLICATION 17] Message\",\"[APPLICATION 18] Status-Query\",\"[APPLICATION 19] Status-Or-Error-Report (not read)\",\"[APPLICATION 20] Expired\"]}}\n",
+        "{\"number\":7,\"offset\":100,\"octets\":2,\"refused\":{\"cause\":\"UnexpectedTag\",\"offset\":0,\"kind\":\"no message\",\"clause\":\"X.690, 8.9.2, 8.10.2, 8.13 and 8.14, with the types of ISO 10161-1\",\"found\":\"[UNIVERSAL 5] primitive: 05\"}}\n",
     ),
     (
         "7f1f00",
         Profile::Two,
         None,
         Some(3),
-        "{\"number\":7,\"offset\":100,\"octets\":3,\"refused\":{\"cause\":\"UnexpectedTag\",\"offset\":0,\"kind\":\"invalid\",\"found\":\"[APPLICATION 31] constructed: 7f 1f\",\"due\":[\"[APPLICATION 1] ILL-Request\",\"[APPLICATION 2] Forward-Notification (not read)\",\"[APPLICATION 3] Shipped\",\"[APPLICATION 4] ILL-Answer\",\"[APPLICATION 5] Conditional-Reply\",\"[APPLICATION 6] Cancel\",\"[APPLICATION 7] Cancel-Reply\",\"[APPLICATION 8] Received\",\"[APPLICATION 9] Recall\",\"[APPLICATION 10] Returned\",\"[APPLICATION 11] Checked-In\",\"[APPLICATION 12] Overdue\",\"[APPLICATION 13] Renew\",\"[APPLICATION 14] Renew-Answer\",\"[APPLICATION 15] Lost\",\"[APPLICATION 16] Damaged\",\"[APPLICATION 17] Message\",\"[APPLICATION 18] Status-Query\",\"[APPLICATION 19] Status-Or-Error-Report (not read)\",\"[APPLICATION 20] Expired\"]}}\n",
+        "{\"number\":7,\"offset\":100,\"octets\":3,\"refused\":{\"cause\":\"UnexpectedTag\",\"offset\":0,\"kind\":\"no message\",\"clause\":\"X.690, 8.9.2, 8.10.2, 8.13 and 8.14, with the types of ISO 10161-1\",\"found\":\"[APPLICATION 31] constructed: 7f 1f\"}}\n",
+    ),
+    // `From:`, which begins with the primitive form of [APPLICATION 6], and `hello`, which begins with [APPLICATION 8]
+    (
+        "46726f6d3a",
+        Profile::Two,
+        None,
+        None,
+        "{\"number\":7,\"offset\":100,\"refused\":{\"cause\":\"WrongForm\",\"offset\":0,\"kind\":\"no message\",\"clause\":\"X.690, 8.2.1, 8.3.1, 8.8.1, 8.9.1, 8.10.1, 8.14 and 8.19.1\",\"found\":\"[APPLICATION 6] primitive: 46\"}}\n",
+    ),
+    (
+        "68656c6c6f",
+        Profile::Module,
+        None,
+        None,
+        "{\"number\":7,\"offset\":100,\"refused\":{\"cause\":\"UnexpectedTag\",\"offset\":2,\"kind\":\"no message\",\"clause\":\"X.690, 8.9.2, 8.10.2, 8.13 and 8.14, with the types of ISO 10161-1\",\"found\":\"[APPLICATION 12] constructed: 6c\"}}\n",
     ),
     // in the module profile, where a delivery service has two forms
     (
@@ -110,7 +125,7 @@ const ROWS: [(&str, Profile, Option<&str>, Option<u64>, &str); 13] = [
         Profile::Module,
         None,
         Some(49),
-        "{\"number\":7,\"offset\":100,\"octets\":49,\"apdu\":\"ILL-Answer\",\"refused\":{\"cause\":\"UnexpectedTag\",\"offset\":47,\"kind\":\"invalid\",\"path\":\"ILL-Answer.results-explanation.conditional-results\",\"found\":\"[UNIVERSAL 5] primitive: 05\",\"due\":[\"[1] date-for-reply\",\"[2] location-list\",\"[7] proposed-delivery-service.physical-delivery\",\"[50] proposed-delivery-service.electronic-delivery\",\"the end of the element\"]}}\n",
+        "{\"number\":7,\"offset\":100,\"octets\":49,\"apdu\":\"ILL-Answer\",\"refused\":{\"cause\":\"UnexpectedTag\",\"offset\":47,\"kind\":\"invalid\",\"clause\":\"X.690, 8.9.2, 8.10.2, 8.13 and 8.14, with the types of ISO 10161-1\",\"path\":\"ILL-Answer.results-explanation.conditional-results\",\"found\":\"[UNIVERSAL 5] primitive: 05\",\"due\":[\"[1] date-for-reply\",\"[2] location-list\",\"[7] proposed-delivery-service.physical-delivery\",\"[50] proposed-delivery-service.electronic-delivery\",\"the end of the element\"]}}\n",
     ),
 ];
 
@@ -118,7 +133,7 @@ const ROWS: [(&str, Profile, Option<&str>, Option<u64>, &str); 13] = [
 const EXPIRED: &str = "741f301d800102a10aa1031b0147a2031b0151a20ca00a80083230323430323239";
 
 const TOO_LONG: &str =
-    "{\"number\":7,\"offset\":100,\"octets\":33,\"apdu\":\"Expired\",\"refused\":{\"cause\":\"NormalTooLong\",\"offset\":0,\"kind\":\"not read\"}}\n";
+    "{\"number\":7,\"offset\":100,\"octets\":33,\"apdu\":\"Expired\",\"refused\":{\"cause\":\"NormalTooLong\",\"offset\":0,\"kind\":\"not read\",\"clause\":\"limit of illcanon\"}}\n";
 
 /// The refusal of the message that the octets are.
 fn refusal_of(alloc: Global, profile: Profile, octets: &[u8]) -> Result<Refusal, Fail> {
