@@ -283,7 +283,8 @@ def check_reasons(archive):
     how = {"user": NOBODY, "group": NOBODY, "extra_groups": []} if os.geteuid() == 0 else {}
     names = ["absent", "folder", "denied", archive.names[0]]
     reasons = "illcanon: cannot open absent: no such file\nillcanon: cannot open folder: is a directory\nillcanon: cannot open denied: permission denied\n"
-    count = sum(line["file"] == archive.names[0] for line in archive.checked)
+    lines = [line for line in archive.checked if line["file"] == archive.names[0]]
+    count = sum("refused" not in line or line["refused"]["kind"] != "no message" for line in lines)
     for flag in [], ["--json"]:
         words = [program, "check", *PROFILE_WORDS, "--keep-going", "--summary", *flag, *names]
         done = subprocess.run(words, cwd=archive.folder, capture_output=True, text=True, check=False, **how)
