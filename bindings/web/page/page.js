@@ -140,11 +140,12 @@ class Page {
     this.choose(Math.min(Math.max(0, at), this.messages.length - 1));
   }
 
-  /** The name of a message's APDU, which `dump` writes on its second line, or in the path of a refusal. */
+  /** The name of a message's APDU, which `dump` writes on its second line, or in the path of a refusal. None is where no message begins. */
   nameOf(message) {
     if (!message.name) {
       const { text } = this.calls.dump(message.octets.subarray(0, FRONT), this.options);
-      const found = /^.*\n +0 {2}[0-9a-f ]+ {2}([A-Za-z-]+)/.exec(text) || /^ +path (?!none$)([A-Za-z-]+)/m.exec(text);
+      const isMessage = !text.includes("\n    no ILL message begins here\n");
+      const found = isMessage && (/^.*\n +0 {2}[0-9a-f ]+ {2}([A-Za-z-]+)/.exec(text) || /^ +path (?!none$)([A-Za-z-]+)/m.exec(text));
       message.name = found ? found[1] : "Not a message";
     }
     return message.name;

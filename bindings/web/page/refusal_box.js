@@ -14,6 +14,9 @@ export function showRefusal(found, lines, profile, readInModule) {
   const [, words = "", ...more] = lines || [];
   box.append(make("h3", "", `Refused at offset ${grouped(refusal.offset)}: ${refusal.cause}${refusal.part ? ` ${refusal.part}` : ""}`));
   if (words) box.append(make("p", "", sentence(words.trim())));
+  for (const line of more) {
+    if (/^ *(no ILL message begins|it looks like text)/.test(line)) box.append(make("p", "", sentence(line.trim())));
+  }
   box.append(factsOf(more));
   box.append(...hintsOf(more, profile, readInModule));
   const left = found.octets.length - refusal.offset;
@@ -26,22 +29,22 @@ function sentence(text) {
   return `${text.charAt(0).toUpperCase()}${text.slice(1)}.`;
 }
 
-/** What `dump` says of limits and of the module profile, which is offered. */
+/** What `dump` says of the module profile, which is offered. */
 function hintsOf(lines, profile, readInModule) {
-  const hints = lines.map((line) => line.trim()).filter((line) => /^(--profile module|a limit) /.test(line));
+  const hints = lines.map((line) => line.trim()).filter((line) => line.startsWith("--profile module "));
   return hints.map((line, at) => {
-    const words = line.replace(/^--profile module/, "The module profile").replace(/^a limit/, "This is a limit"), hint = make("div", "hint");
+    const words = line.replace(/^--profile module/, "The module profile"), hint = make("div", "hint");
     hint.append(make("p", "", `${words}.`));
-    if (at === 0 && profile === "2" && line.startsWith("--profile")) hint.append(offer(readInModule));
+    if (at === 0 && profile === "2") hint.append(offer(readInModule));
     return hint;
   });
 }
 
-/** The path, what was found, and what was due. */
+/** The clause, the path, what was found, and what was due. */
 function factsOf(lines) {
-  const pairs = make("dl"), due = make("dd", "chips"), names = { path: "Path", found: "Found" };
+  const pairs = make("dl"), due = make("dd", "chips"), names = { clause: "Clause", path: "Path", found: "Found" };
   for (const line of lines) {
-    const [, key, value = ""] = /^ *(path|found|due) (.*)$/.exec(line) || [], text = key === "path" ? value.split(".").join(" › ") : value;
+    const [, key, value = ""] = /^ *(clause|path|found|due) (.*)$/.exec(line) || [], text = key === "path" ? value.split(".").join(" › ") : value;
     if (key === "due") due.append(make("span", "chip", value));
     else if (key) pairs.append(pair(names[key], make("dd", "", shortened(text, MOST_FOUND))));
   }

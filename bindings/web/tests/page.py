@@ -208,7 +208,7 @@ def try_refusals(page):
     check("the work goes on after a refused message", page.run("return page.messages.map((it) => it.refusal ? it.refusal.cause : 'good').join()") == "good,Missing,UnexpectedTag,good")
     page.run("page.choose(2)")
     shown = page.text("#refused")
-    for line in "Refused at offset 4: UnexpectedTag", "The tag is not due there.", "[UNIVERSAL 5] primitive: 05", "[0] protocol-version-num":
+    for line in "Refused at offset 4: UnexpectedTag", "This tag is not expected here.", "Clause", "X.690, 8.9.2, 8.10.2, 8.13 and 8.14, with the types of ISO 10161-1", "[UNIVERSAL 5] primitive: 05", "[0] protocol-version-num":
         check(f"the refusal says: {line}", line in shown)
     page.picture("refused")
     page.run("page.choose(1)")
@@ -217,8 +217,12 @@ def try_refusals(page):
         page.drop(octets, name)
         check(f"{name} is refused: {cause}", cause in page.text("#refused"))
     check("octets that are no message have no name", page.text("#title") == "Not a message")
+    for octets, is_text in (b"From: a library\r\n", True), (b"hello", True), (b"\x05\x00", False):
+        page.drop(octets, "mail")
+        lines = page.text("#refused").splitlines()
+        check(f"no message begins with {octets}", page.text("#title") == "Not a message" and "No ILL message begins here." in lines and ("It looks like text." in lines) == is_text)
     try_rest(page)
-    for octets, wanted in (WRONG_FORM, ["Found", "[UNIVERSAL 16] primitive: 10", "Due here", "[UNIVERSAL 16] constructed: 30"]), (LONG_NUMBER, ["limit of illcanon, not of ISO 10161-1."]):
+    for octets, wanted in (WRONG_FORM, ["Clause", "X.690, 8.2.1, 8.3.1, 8.8.1, 8.9.1, 8.10.1, 8.14 and 8.19.1", "Found", "[UNIVERSAL 16] primitive: 10", "Due here", "[UNIVERSAL 16] constructed: 30"]), (LONG_NUMBER, ["Clause", "limit of illcanon"]):
         page.drop(octets, "wrong.ber")
         check(f"the refusal says: {', '.join(wanted)}", all(line in page.text("#refused") for line in wanted))
     page.drop(MODULE, "module.ber")
