@@ -319,13 +319,13 @@ class Builder:
 
     def number(self, name, value):
         """A number, its name, or an object of both."""
-        names = NUMBER_NAMES.get(name, [])
+        names = NUMBER_NAMES.get(name, {})
         if isinstance(value, Number):
             return self.whole_number(value)
         if type(value) is str and names:
-            if value not in names:
+            if value not in names.values():
                 self.fault("UnknownName")
-            return names.index(value) + 1
+            return next(number for number, own in names.items() if own == value)
         if isinstance(value, Object) and names:
             found = self.members(value, lambda member: member in ("number", "name"))
             if "number" not in found:
@@ -335,7 +335,7 @@ class Builder:
                 self.fault("MissingMember", "name")
             if type(found["name"]) is not str:
                 self.fault("WrongType", "name")
-            if not 1 <= number <= len(names) or names[number - 1] != found["name"]:
+            if names.get(number) != found["name"]:
                 self.fault("OtherName", "name")
             return number
         self.fault("WrongType")

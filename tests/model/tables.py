@@ -72,14 +72,16 @@ ROWS = {node: rows for node, rows in ALL_ROWS.items() if node in TWO}
 LISTS = ALL_LISTS & TWO
 
 
-# the names of 1, 2 and so on in a row: the types Transaction-Type, ILL-Service-Type, Place-On-Hold-Type, Item-Type and Transaction-Results
-NUMBER_NAMES = {
-    "transaction-type": ["simple", "chained", "partitioned"],
-    "ill-service-type": ["loan", "copy-non-returnable", "locations", "estimate", "responder-specific"],
-    "place-on-hold": ["yes", "no", "according-to-responder-policy"],
-    "item-type": ["monograph", "serial", "other"],
-    "transaction-results": ["conditional", "retry", "unfilled", "locations-provided", "will-supply", "hold-placed", "estimate"],
-}
+def read_enumerations():
+    """The numbers that have names in a row, with those names, by the row's name; items of a list inside a row have the name of that row."""
+    types = json.loads((Path(__file__).parent / "enumerations.json").read_text())
+    return {row: dict(map(tuple, entry["numbers"])) for entry in types for row in entry["rows"]}
+
+
+# the ENUMERATED types of the module, as enumerations.json has them: the rows of each, and its numbers with their names, as the module spells them
+NUMBER_NAMES = read_enumerations()
+# the rows whose numbers have their names in the text, too
+NAMED_IN_TEXT = {"transaction-type", "ill-service-type", "place-on-hold", "item-type", "transaction-results"}
 
 
 def default_of(row):
@@ -157,6 +159,8 @@ def random_leaf(chance, node):
         return random_text(chance, PRINTABLE)
     if node in RANDOM:
         return RANDOM[node](chance)
+    if node == "Enumerated" and chance.random() < 0.5:
+        return chance.randint(1, 31)
     edges = [0, 1, -1, 127, 128, -128, -129, 255, 256, 2**31, -(2**31), 2**63 - 1, -(2**63)]
     return chance.choice(edges + [chance.randint(-1000, 1000)])
 

@@ -34,9 +34,9 @@ BUILDERS = [Builder(TABLES, profile) for profile in ROOTS]
 BATCH = 20_000
 
 ROW_NAMES = sorted({name for _, names in NAMES.values() for name in names if name})
-NUMBERS = ["0", "1", "2", "6", "-1", "-0", "1.0", "1e2", "9223372036854775807", "9223372036854775808", "-9223372036854775808", "-9223372036854775809"]
+NUMBERS = ["0", "1", "2", "6", "13", "27", "-1", "-0", "1.0", "1e2", "9223372036854775807", "9223372036854775808", "-9223372036854775808", "-9223372036854775809"]
 TEXTS = ["", "A", "20240229", "20230229", "240000", "250000", "0500", "05000", "05FF", "1.2.3", "1.40", "oid 80", "\u00e9", "\u0100", "\U0001f4da", "\x1b", "\x7f",
-         "module", "2", "general", "Expired", *(name for names in NUMBER_NAMES.values() for name in names)]
+         "module", "2", "general", "Expired", *(name for names in NUMBER_NAMES.values() for name in names.values())]
 
 
 def write(value):
@@ -102,7 +102,7 @@ def other_value(chance, value):
     number = Number(chance.choice(NUMBERS))
     return chance.choice([
         None, True, False, number, chance.choice(TEXTS), [], Object(), [value], Object([(chance.choice(ROW_NAMES), value)]),
-        Object([("number", number), ("name", chance.choice(NUMBER_NAMES[names]))]), Object([("bits", number), ("octets", chance.choice(TEXTS))]),
+        Object([("number", number), ("name", chance.choice(list(NUMBER_NAMES[names].values())))]), Object([("bits", number), ("octets", chance.choice(TEXTS))]),
         Object([("general", chance.choice(TEXTS))]), Object([("visible", chance.choice(TEXTS))]), Object([("octets", chance.choice(TEXTS))]),
         Object([("foreign", chance.choice(TEXTS))]),
     ])

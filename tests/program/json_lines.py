@@ -47,8 +47,8 @@ def items_of(value):
 
 
 def number_of(name, value):
-    names = NUMBER_NAMES.get(name, [])
-    return {"number": value, "name": names[value - 1]} if 0 < value <= len(names) else value
+    names = NUMBER_NAMES.get(name, {})
+    return {"number": value, "name": names[value]} if value in names else value
 
 
 def octets_of_value(value):
@@ -140,8 +140,9 @@ def node_schema(node, loose):
     return object_of(members, [name for name, row in rows if row.presence == "Must" or row.presence == "Default" and not loose])
 
 
-def named_schema(names, loose):
-    named = object_of({"number": {"type": "integer", "minimum": 1, "maximum": len(names)}, "name": {"enum": names}}, ["number", "name"])
+def named_schema(numbers, loose):
+    names = list(numbers.values())
+    named = object_of({"number": {"enum": list(numbers)}, "name": {"enum": names}}, ["number", "name"])
     return {"oneOf": [{"type": "integer"}, *([{"enum": names}] if loose else []), named]}
 
 
@@ -163,7 +164,7 @@ def make_schema(loose=False):
         "BitString": object_of({"bits": bit_count, "octets": hexadecimal("The bits, and 0 for each that is missing.")}, ["bits", "octets"]),
         "Any": object_of({"foreign": hexadecimal("The octets of a value of any type, with the shortest lengths.")}, ["foreign"]),
     }
-    names = {name: named_schema(names, loose) for name, names in NUMBER_NAMES.items()}
+    names = {name: named_schema(numbers, loose) for name, numbers in NUMBER_NAMES.items()}
     shown = set(reached(root)) - UNSHOWN - ALL_LISTS - {root}
     nodes = {NAMES[node][0]: node_schema(node, loose) for node in ALL_ROWS if node in shown}
     members = {

@@ -12,7 +12,7 @@ from pathlib import Path
 sys.path.insert(0, str(Path(__file__).resolve().parents[1]))
 
 from model.encoder import Speller, Writer
-from model.tables import ALL_LISTS, ALL_ROWS, CHOICES, NAMES, NUMBER_NAMES, PROGRAM, ROOTS, profile_and_words, random_value, seed_and_count
+from model.tables import ALL_LISTS, ALL_ROWS, CHOICES, NAMED_IN_TEXT, NAMES, NUMBER_NAMES, PROGRAM, ROOTS, profile_and_words, random_value, seed_and_count
 
 
 def quoted(text):
@@ -60,8 +60,8 @@ def leaf_text(node, name, value):
     if node == "Boolean":
         return "TRUE" if value else "FALSE"
     if node in ("Integer", "Enumerated"):
-        names = NUMBER_NAMES.get(name, [])
-        return f"{value} ({names[value - 1]})" if 0 < value <= len(names) else str(value)
+        names = NUMBER_NAMES[name] if name in NAMED_IN_TEXT else {}
+        return f"{value} ({names[value]})" if value in names else str(value)
     if node == "IllString":
         return f"{value[0]} {quoted(value[1])}"
     if node in MODULE_TEXTS:

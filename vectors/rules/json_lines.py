@@ -202,12 +202,14 @@ def with_default(profile, places, what):
 def numbers(book):
     group = book.group("numbers with names", "A number that has a name is said by the number, by its name, or by an object of both.", line="numbers")
     for row, own_names in NUMBER_NAMES.items():
-        for number, name in enumerate(own_names, 1):
+        for number, name in own_names.items():
             ways = {"number": number, "name": name, "both": {"number": number, "name": name}, "turned": {"name": name, "number": number}}
             for how, value in ways.items():
+                if how in ("number", "turned") and number != min(own_names):
+                    continue
                 for (line, octets), profiles, end in of_profiles(lambda profile: with_number(profile, row, value, number)):
                     group.built(f"{row}-{number}-by-{how}{end}", f"{row} is {text(value)}", line, octets, profiles)
-        for number in (0, len(own_names) + 1, -1):
+        for number in (0, max(own_names) + 1, -1):
             for (line, octets), profiles, end in of_profiles(lambda profile: with_number(profile, row, number, number)):
                 group.built(f"{row}-{slug_of(number)}{end}", f"{row} is {number}, which has no name", line, octets, profiles)
     group = book.group("whole numbers", "A number is from -2^63 to 2^63 - 1, and exact.", line="numbers")

@@ -152,8 +152,8 @@ def said(node, name, value):
 
 def named(row, number):
     """A number in a row of this name: with its name where it has one."""
-    names = NUMBER_NAMES.get(row, [])
-    return {"number": number, "name": names[number - 1]} if 0 < number <= len(names) else number
+    names = NUMBER_NAMES.get(row, {})
+    return {"number": number, "name": names[number]} if number in names else number
 
 
 def body_of(root, apdu):

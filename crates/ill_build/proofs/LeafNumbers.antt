@@ -1,14 +1,14 @@
 -- Numbers, and the contents that are made of them.
-use Rattle.std.proofs.Common.{◌≡◌, ◌≢◌, inl, inr, ℕ, zero, suc, ◌<◌, ◌≤◌, ◌+◌, ◌-◌, ◌*◌, ◌/◌, ◌%◌, ◌^◌, ℤ, pos, negsuc, Bool, true, false, IsTrue, List, [], ◌∷◌, codes, length, map, get_or, Some, None, refl, sym, ap, ap₂, subst, ◌∙◌, arith, below_more, lit≤, nat_eq, slice_get, FitsSigned, w64}
+use Rattle.std.proofs.Common.{◌≡◌, ◌≢◌, inl, inr, ℕ, zero, suc, ◌<◌, ◌≤◌, ◌+◌, ◌-◌, ◌*◌, ◌/◌, ◌%◌, ◌^◌, ℤ, pos, negsuc, Bool, true, false, IsTrue, List, [], ◌∷◌, codes, length, map, get_or, Option, Some, None, refl, sym, ap, ap₂, subst, ◌∙◌, arith, below_more, nat_eq, slice_get, FitsSigned, w64}
 use Rattle.std.specs.Borrow.{Bor}
 use Rattle.std.specs.Fmt.{decimal, signed_decimal}
 use Rattle.std.specs.Prelude.{◌≤ℤ◌, ◌<ℤ◌, if◌then◌else◌, neg_ℤ, nat_lt, option_map}
-use Rattle.std.specs.Str.{bytes_eq}
 use Rattle.std.proofs.lemmas.Bool.Decides.{nat_tests}
 use Rattle.std.proofs.lemmas.Int.{ints}
+use Rattle.std.proofs.lemmas.List.{length-map}
 use Rattle.std.proofs.lemmas.Option.{slice_get-get_or, slice_get-map, slice_get_within}
 use Rattle.std.proofs.Math.Nat.{div-mul-le_self}
-use Rattle.json.specs.Find.{as_str, get}
+use Rattle.json.specs.Find.{as_number, as_str, get}
 use Rattle.json.specs.Json.{Json, number, object, string}
 use Rattle.ber_leaf.specs.Leaf.{Holds, bit_string, cleared, cleared_last, enumerated, integer, is_bits, normal_content}
 use Rattle.ber_leaf.specs.declared.fault.LeafFault.{LeafFault}
@@ -20,13 +20,15 @@ use Rattle.ber_leaf.proofs.Leaves.{normal_holds}
 use Rattle.ber_tree.specs.Octets.{are_octets}
 use Rattle.ill_schema.specs.Texts.{hexadecimal}
 use Rattle.ill_tables.specs.Numbers.{number_name, number_names}
+use Rattle.ill_tables.specs.code.Numbers.{named}
+use Rattle.ill_tables.proofs.NumberNames.{number_at_place, number_there}
 use Rattle.ill_tables.specs.declared.node.Kind.{Kind}
 use Rattle.ill_tables.specs.declared.node.LeafKind.{LeafKind}
 use Rattle.ill_texts.specs.Numbers.{is_whole}
 use Rattle.ill_texts.proofs.NumberTexts.{number_is_whole, number_once}
 use Rattle.ill_build.specs.declared.cause.BuildCause.{BuildCause}
 use Rattle.ill_build.specs.declared.leaf.LeafContents.{LeafContents}
-use Rattle.ill_build.specs.Faulty.{IsBitsFault, IsCountFault, IsFaultOf, IsHexadecimalFault, IsMemberFault, IsWholeFault}
+use Rattle.ill_build.specs.Faulty.{IsBitsFault, IsCountFault, IsFaultOf, IsHexadecimalFault, IsMemberFault, IsNumberFault, IsWholeFault}
 use Rattle.ill_build.specs.Members.{IsObjectOf, of_names}
 use Rattle.ill_build.specs.Path.{Step}
 use Rattle.ill_build.specs.Said.{LeafSays}
@@ -35,36 +37,37 @@ use Rattle.ill_build.proofs.LeafTexts.{later_fault}
 
 -- ---- the names of numbers
 
-short_if : (b : Bool) (xs ys : List (List ℕ)) → length xs ≤ 7 → length ys ≤ 7 → length (if b then xs else ys) ≤ 7
-short_if true xs ys h k = h
-short_if false xs ys h k = k
+-- the numbers of a row are those that are read
+named_at : (row : List ℕ) (items : List (ℤ × Bor (List ℕ))) (k : ℕ) (d : ℤ × Bor (List ℕ)) → map named items ≡ number_names row → k < length items → slice_get (number_names row) k ≡ Some (named (get_or items k d))
+named_at row items k d same within = sym (ap (λ ns. slice_get ns k) same) ∙ slice_get-map named items k ∙ ap (option_map named) (slice_get-get_or items k d within)
 
--- a row names seven numbers at most
-pub few_names : (row : List ℕ) → length (number_names row) ≤ 7
-few_names row =
-    short_if (bytes_eq row (codes "transaction-type")) _ _ (lit≤ tt)
-    (short_if (bytes_eq row (codes "ill-service-type")) _ _ (lit≤ tt)
-    (short_if (bytes_eq row (codes "place-on-hold")) _ _ (lit≤ tt)
-    (short_if (bytes_eq row (codes "item-type")) _ _ (lit≤ tt)
-    (short_if (bytes_eq row (codes "transaction-results")) _ [] (lit≤ tt) (lit≤ tt)))))
-
--- the names of a row are those that are read
-named_at : (row : List ℕ) (items : List (Bor (List ℕ))) (k : ℕ) (d : Bor (List ℕ)) → map (λ own. own.now) items ≡ number_names row → k < length items → slice_get (number_names row) k ≡ Some (get_or items k d).now
-named_at row items k d same within =
-    sym (ap (λ names. slice_get names k) same) ∙ slice_get-map (λ own. own.now) items k ∙ ap (option_map (λ own. own.now)) (slice_get-get_or items k d within)
-
--- the number of a name is one more than its place
-pub name_found : (row name : List ℕ) (items : List (Bor (List ℕ))) (k n : ℕ) (d : Bor (List ℕ)) (z : ℤ) → map (λ own. own.now) items ≡ number_names row → k < length items → (get_or items k d).now ≡ name → n ≡ k → z ≡ pos (n + 1)
+-- the number beside a name has it
+pub name_found : (row name : List ℕ) (items : List (ℤ × Bor (List ℕ))) (k : ℕ) (d : ℤ × Bor (List ℕ)) (z : ℤ) → map named items ≡ number_names row → k < length items → (get_or items k d).1.now ≡ name → z ≡ (get_or items k d).0
     → number_name row z ≡ Some name
-name_found row name items k n d z same within is e f =
-    let next : n + 1 ≡ suc k = omega (arith, e) in
-    ap (number_name row) (f ∙ ap pos next) ∙ named_at row items k d same within ∙ ap (λ (x : List ℕ). Some x) is
+name_found row name items k d z same within is e =
+    number_at_place row k z name
+    (named_at row items k d same within ∙ ap (λ (x : ℤ). Some (x, (get_or items k d).1.now)) (sym e) ∙ ap (λ (x : List ℕ). Some (z, x)) is)
 
--- a name that isn't at the first k places, nor at this one
-pub name_further : (row name : List ℕ) (items : List (Bor (List ℕ))) (k : ℕ) (d : Bor (List ℕ)) → map (λ own. own.now) items ≡ number_names row → k < length items → ((get_or items k d).now ≡ name → ⊥)
-    → ((i : ℕ) → i < k → slice_get (number_names row) i ≡ Some name → ⊥) → (i : ℕ) → i < k + 1 → slice_get (number_names row) i ≡ Some name → ⊥
-name_further row name items k d same within other none =
-    below_more (λ i. slice_get (number_names row) i ≡ Some name → ⊥) k none (λ at. let q : Some (get_or items k d).now ≡ Some name = sym (named_at row items k d same within) ∙ at in other (let r : (get_or items k d).now ≡ name = cc in r))
+-- no number at the first k places has the name
+abbrev pub IsPast : List ℕ → List ℕ → ℕ → Type 0
+IsPast row name k = (i : ℕ) → i < k → (n : ℤ) → slice_get (number_names row) i ≡ Some (n, name) → ⊥
+
+-- nor one at the next place
+pub name_further : (row name : List ℕ) (items : List (ℤ × Bor (List ℕ))) (k : ℕ) (d : ℤ × Bor (List ℕ)) → map named items ≡ number_names row → k < length items → ((get_or items k d).1.now ≡ name → ⊥) → IsPast row name k → IsPast row name (k + 1)
+name_further row name items k d same within other past =
+    below_more (λ i. (n : ℤ) → slice_get (number_names row) i ≡ Some (n, name) → ⊥) k past
+    (λ n at. other (ap name_of (sym (named_at row items k d same within) ∙ at)))
+  where
+    name_of : Option (ℤ × List ℕ) → List ℕ
+    name_of (Some n) = n.1
+    name_of None = []
+
+-- a row in which no number has the name
+pub name_absent : (row name : List ℕ) (items : List (ℤ × Bor (List ℕ))) (k : ℕ) → map named items ≡ number_names row → length items ≤ k → IsPast row name k → (n : ℤ) → number_name row n ≡ Some name → ⊥
+name_absent row name items k same end past n e =
+    let there = number_there row n name e in
+    let within = slice_get_within (number_names row) there.0 (n, name) there.1 in
+    past there.0 (omega (arith, within, ap length same, length-map items named, end)) n there.1
 
 -- ---- the number of bits
 
@@ -107,6 +110,12 @@ integer_read p row j read h = (whole h.0, integer, refl, whole_held p h.0 h.1, h
 -- and as an ENUMERATED
 pub enumerated_read : (p : Profile) (row : List ℕ) (j : Json) (read : LeafContents) → IsWholeRead row 10 j read → ReadsLeaf p (Kind.Leaf LeafKind.Enumerated) row j read.number read.octets.items
 enumerated_read p row j read h = (whole h.0, enumerated, refl, whole_held p h.0 h.1, h.2, h.3, h.4)
+
+-- the number is refused beside a name
+pub number_refused : (row : List ℕ) (j : Json) → number_names row ≢ [] → IsObjectOf (of_names (codes "number" ∷ codes "name" ∷ [])) j → (cause : BuildCause) (path : List Step)
+    → IsMemberFault (codes "number") (λ k. IsFaultOf (as_number k) IsNumberFault) j cause path → IsWholeFault row j cause path
+number_refused row (object ms) names named cause path f = inr (names, later_fault (of_names (codes "number" ∷ codes "name" ∷ [])) (object ms) cause path _ named (inl f))
+number_refused row _ names named cause path f = absurd named
 
 -- the name is refused beside a number
 pub name_refused : (row : List ℕ) (j : Json) (z : ℤ) → number_names row ≢ [] → IsObjectOf (of_names (codes "number" ∷ codes "name" ∷ [])) j → FitsSigned w64 z → get (codes "number") j ≡ Some (number (signed_decimal z))

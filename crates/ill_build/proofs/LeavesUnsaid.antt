@@ -1,5 +1,5 @@
 -- A leaf that has a fault says nothing.
-use Rattle.std.proofs.Common.{◌≡◌, ◌≢◌, ◌⊎◌, inl, inr, ◌∷◌, ◌∙◌, ◌<◌, ◌^◌, ℕ, suc, zero, ℤ, pos, negsuc, Bool, true, false, IsTrue, List, [], Option, Some, None, refl, sym, ap, subst, arith, codes, slice_get, FitsSigned, w64}
+use Rattle.std.proofs.Common.{◌≡◌, ◌≢◌, ◌⊎◌, inl, inr, ◌∷◌, ◌∙◌, ◌<◌, ◌^◌, ℕ, ℤ, pos, negsuc, Bool, true, false, IsTrue, List, [], Option, Some, None, refl, sym, ap, subst, arith, codes, slice_get, FitsSigned, w64}
 use Rattle.std.proofs.lemmas.Fmt.{decimal_injective}
 use Rattle.std.proofs.lemmas.Int.{ints}
 use Rattle.std.specs.Fmt.{signed_decimal}
@@ -20,7 +20,8 @@ use Rattle.ber_leaf.specs.Simple.{Simple, flag, whole, date, time, printable, ge
 use Rattle.ber_leaf.proofs.Integers.{whole_bounds}
 use Rattle.ill_schema.specs.Tagging.{leaf_of}
 use Rattle.ill_schema.specs.Texts.{characters, hexadecimal, oid_text}
-use Rattle.ill_tables.specs.Numbers.{number_name, number_names}
+use Rattle.ill_tables.specs.Numbers.{Named, number_name, number_names}
+use Rattle.ill_tables.proofs.NumberNames.{number_there}
 use Rattle.ill_tables.specs.declared.node.Kind.{Kind}
 use Rattle.ill_tables.specs.declared.node.LeafKind.{LeafKind}
 use Rattle.ill_tables.specs.declared.part.Presence.{Presence}
@@ -100,14 +101,12 @@ pub number_clean : (n : ℤ) (cause : BuildCause) → FitsSigned w64 n → IsNum
 number_clean n cause fits (inl f) = absurd (let q : true ≡ false = sym (number_is_whole n fits) ∙ f.1 in cc)
 number_clean n cause fits (inr f) = f.2 n fits refl
 
-name_there : (names : List (List ℕ)) (n : ℕ) (name : List ℕ) → names ≡ [] → slice_get names n ≡ Some name → ⊥
-name_there [] n name e at = absurd cc
-name_there (x ∷ names) n name e at = absurd cc
+nowhere : (ns : Named) (k : ℕ) (n : ℤ) (name : List ℕ) → ns ≡ [] → slice_get ns k ≡ Some (n, name) → ⊥
+nowhere [] k n name e at = absurd cc
+nowhere (x ∷ ns) k n name e at = absurd cc
 
 named_number : (row : List ℕ) (n : ℤ) (name : List ℕ) → number_name row n ≡ Some name → number_names row ≡ [] → ⊥
-named_number row (pos zero) name e none = absurd cc
-named_number row (pos (suc n)) name e none = name_there (number_names row) n name none e
-named_number row (negsuc n) name e none = absurd cc
+named_number row n name e none = let there = number_there row n name e in nowhere (number_names row) there.0 n name none there.1
 
 name_clean : (row : List ℕ) (n : ℤ) (name : List ℕ) (cause : BuildCause) → number_name row n ≡ Some name → IsNumberNameFault row name cause → ⊥
 name_clean row n name cause e (inl f) = named_number row n name e f.0

@@ -1,7 +1,7 @@
 -- The names of a type's rows: each is there once, and finds its row.
-use Rattle.std.proofs.Common.{◌≡◌, ℕ, zero, suc, ◌<◌, ◌≤◌, Bool, true, false, not, ◌&&◌, ◌||◌, IsTrue, List, [], ◌∷◌, length, get_or, Some, None, cond, refl, sym, ap, subst, ◌∙◌, arith, slice_get}
-use Rattle.std.specs.Prelude.{nat_le, nat_lt}
-use Rattle.std.specs.List.{list_all, list_any, position, position_or_len}
+use Rattle.std.proofs.Common.{◌≡◌, ℕ, zero, suc, ◌<◌, Bool, true, false, IsTrue, List, [], ◌∷◌, length, get_or, Some, None, cond, refl, sym, ap, subst, ◌∙◌, arith, slice_get}
+use Rattle.std.specs.Prelude.{nat_lt}
+use Rattle.std.specs.List.{list_all, position, position_or_len}
 use Rattle.std.specs.Str.{bytes_eq}
 use Rattle.std.proofs.lemmas.Bool.Decides.{nat_tests}
 use Rattle.std.proofs.lemmas.List.Quantifiers.{position-Some}
@@ -13,7 +13,7 @@ use Rattle.ill_tables.specs.Table.{rows_of}
 use Rattle.ill_tables.specs.declared.node.NodeId.{NodeId}
 use Rattle.ill_tables.specs.declared.node.NodeId.TheVariants.{Boolean, TaggedExternal}
 use Rattle.ill_tables.specs.declared.part.Row.{Row}
-use Rattle.ill_tables.proofs.DistinctNames.{all_new, name_at, name_once, names_enough, names_new, row_once, same_bytes}
+use Rattle.ill_tables.proofs.DistinctNames.{all_new, name_at, name_once, names_enough, names_new, same_bytes}
 use Rattle.ill_build.specs.Members.{place_of}
 
 -- where a row has the empty name, it is the only one

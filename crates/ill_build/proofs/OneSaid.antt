@@ -1,9 +1,8 @@
 -- A value of JSON says at most one value of a type, and a line at most one APDU.
-use Rattle.std.proofs.Common.{◌≡◌, ◌⊎◌, inl, inr, ℕ, zero, suc, ◌-◌, ◌*◌, ◌^◌, ◌<◌, ◌≤◌, Bool, true, false, not, ◌&&◌, ◌||◌, IsTrue, List, [], ◌∷◌, length, Option, Some, None, refl, sym, ap, subst, ◌∙◌, arith, codes, slice_get, ℤ, pos, negsuc, decimal, if◌then◌else◌}
+use Rattle.std.proofs.Common.{◌≡◌, ◌⊎◌, inl, inr, ℕ, suc, ◌-◌, ◌*◌, ◌^◌, ◌<◌, ◌≤◌, Bool, true, false, ◌||◌, IsTrue, List, [], ◌∷◌, length, Option, Some, None, refl, sym, ap, subst, ◌∙◌, arith, codes, slice_get, ℤ, decimal, if◌then◌else◌}
 use Rattle.std.specs.Prelude.{nat_le}
 use Rattle.std.specs.Fmt.{signed_decimal}
-use Rattle.std.specs.List.{list_all, list_any}
-use Rattle.std.specs.Str.{bytes_eq}
+use Rattle.std.specs.List.{list_all}
 use Rattle.std.proofs.lemmas.Bool.Decides.{nat_tests}
 use Rattle.std.proofs.lemmas.Fmt.{decimal_injective, signed_decimal_injective}
 use Rattle.std.proofs.lemmas.Option.{slice_get_within}
@@ -27,7 +26,7 @@ use Rattle.ill_schema.specs.Presence.{MayLack}
 use Rattle.ill_schema.specs.Tagging.{leaf_of}
 use Rattle.ill_schema.specs.Texts.{hexadecimal}
 use Rattle.ill_tables.specs.Names.{names_of, row_name, row_node}
-use Rattle.ill_tables.specs.Numbers.{number_name, number_names}
+use Rattle.ill_tables.specs.Numbers.{number_name}
 use Rattle.ill_tables.specs.Table.{kind_of, rows_of}
 use Rattle.ill_tables.specs.declared.node.Kind.{Kind}
 use Rattle.ill_tables.specs.declared.node.LeafKind.{LeafKind}
@@ -41,7 +40,8 @@ use Rattle.ill_texts.proofs.OctetLists.{octet_first}
 use Rattle.oid_text.proofs.OidTexts.{oid_text_once}
 use Rattle.ill_build.specs.Line.{SaysApdu, SaysLine}
 use Rattle.ill_build.specs.Said.{EntriesSay, Given, IsDefaultAt, IsDefaultOf, ItemsSay, LeafSays, NameSays, Says, Under}
-use Rattle.ill_tables.proofs.DistinctNames.{name_at, name_once, names_enough, row_once}
+use Rattle.ill_tables.proofs.DistinctNames.{name_at, names_enough, row_once}
+use Rattle.ill_tables.proofs.NumberNames.{number_once}
 use Rattle.ill_build.proofs.Unsaid.{one_member}
 use Rattle.ill_build.proofs.Names.{all_named, is_named}
 
@@ -55,27 +55,9 @@ same_string x y e = cc
 
 -- ---- numbers
 
--- each name is there once
-abbrev all_new : List (List ℕ) → Bool
-all_new [] = true
-all_new (name ∷ names) = not (list_any (bytes_eq name) names) && all_new names
-
--- one list of names or another
-either_new : (b : Bool) (ms ns : List (List ℕ)) → IsTrue (all_new ms) → IsTrue (all_new ns) → IsTrue (all_new (if b then ms else ns))
-either_new true ms ns h k = h
-either_new false ms ns h k = k
-
--- the names of numbers are there once
-number_names_new : (row : List ℕ) → IsTrue (all_new (number_names row))
-number_names_new row = search either_new
-
 -- a name is of one number
 number_named : (row name : List ℕ) (y z : ℤ) → number_name row y ≡ Some name → number_name row z ≡ Some name → y ≡ z
-number_named row name (pos (suc n)) (pos (suc m)) e f = ap (λ k. pos (suc k)) (name_once (number_names row) n m name (number_names_new row) e f)
-number_named row name (pos zero) z e f = absurd cc
-number_named row name (negsuc n) z e f = absurd cc
-number_named row name y (pos zero) e f = absurd cc
-number_named row name y (negsuc m) e f = absurd cc
+number_named row name y z e f = number_once row y z name e f
 
 -- the digits of a value that says a number, or its name
 abbrev SaysDigits : List ℕ → ℤ → Json → Type 0

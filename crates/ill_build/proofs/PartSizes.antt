@@ -1,23 +1,17 @@
 -- The parts of a content whose normal form isn't too long aren't too long: BIT STRINGs have numbers of bits that a line can say, and foreign trees are octets.
-use Rattle.std.proofs.Common.{◌≡◌, ℕ, zero, suc, ◌+◌, ◌-◌, ◌*◌, ◌/◌, ◌%◌, ◌^◌, ◌<◌, ◌≤◌, Bool, true, false, IsTrue, ℤ, List, [], ◌∷◌, ◌++◌, length, Option, Some, None, if◌then◌else◌, nat_lt, refl, sym, ap, subst, arith, lit≤, slice_get, ltb-true}
-use Rattle.std.specs.Int.Digits.{AllBelowBase, digits_of}
+use Rattle.std.proofs.Common.{◌≡◌, ℕ, ◌+◌, ◌-◌, ◌*◌, ◌^◌, ◌<◌, ◌≤◌, Bool, true, false, IsTrue, ℤ, List, [], ◌∷◌, length, Option, Some, None, refl, sym, ap, subst, arith, lit≤, slice_get}
 use Rattle.std.proofs.Math.Nat.{lt_of_lt_of_le}
-use Rattle.std.proofs.lemmas.Bool.{and_parts}
-use Rattle.std.proofs.lemmas.Int.Digits.{all_below_base_digits_of, length-digits_of-le}
-use Rattle.ber_core.specs.Der.{encoding, encodings, size, sizes}
-use Rattle.ber_core.specs.Foreign.{are_foreign, foreign_levels, is_foreign, is_identified}
-use Rattle.ber_core.proofs.Encodings.{encoding_spells, length-encoding, length-encodings}
+use Rattle.ber_core.specs.Der.{encoding, size, sizes}
+use Rattle.ber_core.specs.Foreign.{foreign_levels, is_foreign}
+use Rattle.ber_core.proofs.Encodings.{encoding_spells, length-encoding}
 use Rattle.ber_core.proofs.Foreign.{foreign_identified}
 use Rattle.ill_refusals.proofs.SpelledOctets.{foreign_octets, spelled_octets}
 use Rattle.ber_leaf.specs.Leaf.{Leaf, Holds, bit_string, normal_content, value}
 use Rattle.ber_leaf.specs.Profile.{Profile, profile_two}
 use Rattle.ber_leaf.specs.Simple.{Simple, bits}
-use Rattle.ber_tree.specs.Identifier.{Tag, base_128, class_bits, form_bit, identifier}
-use Rattle.ber_tree.specs.Length.{shortest_length}
+use Rattle.ber_tree.specs.Identifier.{Tag}
 use Rattle.ber_tree.specs.Octets.{are_octets}
 use Rattle.ber_tree.specs.Tree.{Tree, Trees, constructed, more, none, primitive}
-use Rattle.ber_tree.specs.declared.class.Class.{Class}
-use Rattle.ber_tree.specs.declared.class.Class.TheVariants.{Universal, Application, Context, Private}
 use Rattle.ill_schema.specs.Apdu.{Apdu, choice_of, normal_form_in, root}
 use Rattle.ill_schema.specs.Content.{Content, simple, sequence, list, alternative, foreign, Entries, no_entries, absent, present, Items, no_items, item}
 use Rattle.ill_schema.specs.Fits.{Fits, FitItems, FitRows, FitsApdu}
@@ -30,7 +24,6 @@ use Rattle.ill_tables.specs.declared.node.LeafKind.{LeafKind}
 use Rattle.ill_tables.specs.declared.node.NodeId.{NodeId}
 use Rattle.ill_tables.specs.declared.part.Presence.{Presence}
 use Rattle.ill_tables.specs.declared.part.Row.{Row}
-use Rattle.ill_texts.proofs.OctetLists.{octets-cons}
 use Rattle.ill_build.specs.Said.{IsDefaultAt}
 use Rattle.ill_build.specs.Shown.{EachEntry, EachItem, EachPart, IsInOctets, IsSayable, IsShort}
 use Rattle.ill_build.proofs.Rows.{default_is_the}

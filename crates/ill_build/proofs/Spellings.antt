@@ -1,5 +1,5 @@
 -- Messages with their defaults.
-use Rattle.std.proofs.Common.{◌≡◌, ◌∙◌, ℕ, ◌<◌, ◌≤◌, ◌^◌, List, length, Result, Ok, Err, OnOk, arith, lit<, subst, sym}
+use Rattle.std.proofs.Common.{◌≡◌, ℕ, ◌<◌, ◌≤◌, ◌^◌, List, length, Result, Ok, Err, OnOk, arith, lit<, subst}
 use Rattle.ill_schema.specs.Apdu.{Apdu, SpellsApdu, normal_form_in}
 use Rattle.ill_schema.specs.Profiles.{profile_of}
 use Rattle.ill_schema.proofs.Encodings.{normal_unique}

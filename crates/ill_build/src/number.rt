@@ -82,16 +82,14 @@ fn has_names(row: &str) -> bool
     !number_names(row).is_empty()
 }
 
-/// The first number of this name in a row.
+/// The number of this name in a row.
 fn number_named(row: &str, name: &str) -> Option<i64>
     ensures some { IfSome result (λ n. number_name row.now n ≡ Some name.now) }
     ensures none { IfNone result ((n : ℤ) → number_name row.now n ≡ Some name.now → ⊥) }
 {
-    let mut number = 0_u32;
-    for own in number_names(row) {
-        number += 1;
+    for (number, own) in number_names(row) {
         if *own == name {
-            return Some(i64::from(number));
+            return Some(*number);
         }
     }
     None

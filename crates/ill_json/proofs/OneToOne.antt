@@ -3,7 +3,7 @@ use Rattle.std.proofs.Common.{◌≡◌, ℕ, zero, suc, ◌+◌, ◌-◌, ◌<�
 use Rattle.std.specs.Prelude.{nat_le, nat_lt}
 use Rattle.std.specs.Char.{encode_utf8}
 use Rattle.std.specs.Fmt.{signed_decimal}
-use Rattle.std.specs.List.{list_any}
+use Rattle.std.specs.List.{list_all, list_any}
 use Rattle.std.specs.Str.{bytes_eq, chars, chars_after, continuation_len, lead_bits}
 use Rattle.std.proofs.lemmas.Bool.Decides.{nat_tests}
 use Rattle.std.proofs.lemmas.Fmt.{signed_decimal_injective}
@@ -42,7 +42,10 @@ use Rattle.ill_tables.specs.Names.{names_of}
 use Rattle.ill_tables.specs.Table.{kind_of, rows_of}
 use Rattle.ill_schema.specs.TableFacts.{is_of_two}
 use Rattle.ill_schema.specs.Tagging.{leaf_of}
-use Rattle.ill_tables.specs.Numbers.{number_name, number_names}
+use Rattle.ill_tables.specs.Numbers.{number_name, numbers_of}
+use Rattle.ill_tables.specs.declared.number.Enumeration.{Enumeration}
+use Rattle.ill_tables.specs.declared.number.Enumeration.TheVariants.{Conditions}
+use Rattle.ill_tables.proofs.NumberNames.{number_name_has}
 use Rattle.ill_tables.specs.Names.{name_or_none, node_or_left_out, row_name, row_node}
 use Rattle.ill_schema.specs.Texts.{characters}
 use Rattle.ill_schema.proofs.CharacterTexts.{characters_once}
@@ -353,17 +356,12 @@ names_low _ = refl
 pub IsUtf8-row_name : (node : NodeId) (i : ℕ) → IsUtf8 (row_name node i)
 IsUtf8-row_name node i = IsUtf8-low_name (names_of node).1 i (names_low node)
 
-either_low : (b : Bool) (ms ns : List (List ℕ)) → all_low ms ≡ true → all_low ns ≡ true → all_low (if b then ms else ns) ≡ true
-either_low true ms ns h k = h
-either_low false ms ns h k = k
-
-number_names_low : (row : List ℕ) → all_low (number_names row) ≡ true
-number_names_low row = search either_low
+number_names_low : (type : Enumeration) → list_all (λ n. are_low n.1) (numbers_of type) ≡ true
+number_names_low Conditions = refl
+number_names_low _ = refl
 
 pub IsUtf8-number_name : (row : List ℕ) (z : ℤ) → IsUtf8 (name_or_none (number_name row z))
-IsUtf8-number_name row (pos zero) = IsUtf8-nil
-IsUtf8-number_name row (pos (suc n)) = IsUtf8-low_name (number_names row) n (number_names_low row)
-IsUtf8-number_name row (negsuc n) = IsUtf8-nil
+IsUtf8-number_name row z = IsUtf8-are_low _ (number_name_has are_low refl number_names_low row z)
 
 pub IsUtf8-characters : (o : List ℕ) → IsTrue (are_octets o) → IsUtf8 (characters o)
 IsUtf8-characters [] h = IsUtf8-nil

@@ -1,2 +1,3 @@
 pub mod RowNames
 pub mod DistinctNames
+pub mod NumberNames

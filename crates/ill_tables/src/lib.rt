@@ -21,7 +21,7 @@ mod table;
 pub use lookup::{kind, row, row_name, row_node, rows, twin};
 pub use names::{node_name, part_name, row_names};
 pub use node::{Kind, LeafKind, NodeId};
-pub use number::{number_name, number_names};
+pub use number::{Enumeration, enumeration_of, number_name, number_names, numbers};
 pub use part::{Mode, PartId, Presence, Row};
 pub use profile::Profile;
 pub use table::rows_of;

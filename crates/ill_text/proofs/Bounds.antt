@@ -1,6 +1,7 @@
 -- How long a text may be: by far no longer than the normal form allows, since that is within the limit.
 use Rattle.std.proofs.Common.{◌≡◌, ℕ, zero, suc, ◌+◌, ◌-◌, ◌*◌, ◌^◌, ◌<◌, ◌≤◌, ℤ, pos, negsuc, ◌&&◌, Bool, true, false, IsTrue, List, [], ◌∷◌, ◌++◌, length, Option, Some, None, refl, sym, subst, arith, codes, decimal, slice_get, length-append}
 use Rattle.std.specs.Prelude.{not, nat_eq, nat_le, if◌then◌else◌}
+use Rattle.std.proofs.lemmas.Bool.Decides.{nat_tests}
 use Rattle.std.proofs.lemmas.Int.{ints}
 use Rattle.std.specs.Fmt.{signed_decimal}
 use Rattle.std.specs.List.{list_all}
@@ -33,10 +34,13 @@ use Rattle.ill_tables.specs.Table.{kind_of, rows_of}
 use Rattle.ill_schema.specs.Tagging.{Tagging, untagged, implicit, explicit, explicit_or_bare, sequence_tag, tag_tree, tagging}
 use Rattle.ill_schema.proofs.MeansFits.{means_apdu_fits}
 use Rattle.ill_schema.proofs.Tags.{at_row}
-use Rattle.ill_tables.specs.Numbers.{number_name, number_names}
+use Rattle.ill_tables.specs.Numbers.{number_name, numbers_of}
+use Rattle.ill_tables.specs.declared.number.Enumeration.{Enumeration}
+use Rattle.ill_tables.specs.declared.number.Enumeration.TheVariants.{Conditions}
+use Rattle.ill_tables.proofs.NumberNames.{number_name_has}
 use Rattle.ill_schema.specs.Texts.{hexadecimal}
 use Rattle.ill_tables.specs.Names.{name_or_none, row_name}
-use Rattle.ill_text.specs.Shown.{Place, body_place_in, content_text, entry_lines, in_brackets, is_empty, item_lines, item_of, leaf_text, line, lines_of, part, quoted, shown_text_in, tree_text, within}
+use Rattle.ill_text.specs.Shown.{Place, body_place_in, content_text, entry_lines, in_brackets, is_empty, is_named, item_lines, item_of, leaf_text, line, lines_of, part, quoted, shown_text_in, text_name, tree_text, within}
 use Rattle.ill_text.proofs.OctetBounds.{constructed_size, content_size, hexadecimal_size, oid_size, primitive_size, quoted_size, some_size, tree_text_size}
 
 -- ---- names
@@ -77,31 +81,27 @@ item_size p i h =
 line_size : (path text : List ℕ) → length (line path text) ≡ length path + length text + 4
 line_size path text = omega (arith, length-append (path ++ codes " = " ++ text) (codes "\n"), length-append (path ++ codes " = ") text, length-append path (codes " = "))
 
-numbers_short : (a b c d e : Bool) → IsTrue (all_short (if a then codes "simple" ∷ codes "chained" ∷ codes "partitioned" ∷ []
-    else if b then codes "loan" ∷ codes "copy-non-returnable" ∷ codes "locations" ∷ codes "estimate" ∷ codes "responder-specific" ∷ []
-    else if c then codes "yes" ∷ codes "no" ∷ codes "according-to-responder-policy" ∷ []
-    else if d then codes "monograph" ∷ codes "serial" ∷ codes "other" ∷ []
-    else if e then codes "conditional" ∷ codes "retry" ∷ codes "unfilled" ∷ codes "locations-provided" ∷ codes "will-supply" ∷ codes "hold-placed" ∷ codes "estimate" ∷ []
-    else []))
-numbers_short true b c d e = refl
-numbers_short false true c d e = refl
-numbers_short false false true d e = refl
-numbers_short false false false true e = refl
-numbers_short false false false false true = refl
-numbers_short false false false false false = refl
-
 bracket_size : (name : Option (List ℕ)) → length (in_brackets name) ≤ length (name_or_none name) + 3
 bracket_size None = omega arith
 bracket_size (Some name) = omega (arith, length-append (codes " (" ++ name) (codes ")"), length-append (codes " (") name)
 
-number_size : (row : List ℕ) (z : ℤ) → length (name_or_none (number_name row z)) ≤ 60
-number_size row (pos zero) = omega arith
-number_size row (pos (suc n)) = short_at (number_names row) n (numbers_short _ _ _ _ _)
-number_size row (negsuc n) = omega arith
+abbrev is_short : List ℕ → Bool
+is_short name = nat_le (length name) 60
 
-whole_size : (row : List ℕ) (z : ℤ) → mag z < 2 ^ 63 → length (signed_decimal z ++ in_brackets (number_name row z)) ≤ 85
+numbers_short : (type : Enumeration) → list_all (λ m. is_short m.1) (numbers_of type) ≡ true
+numbers_short Conditions = refl
+numbers_short _ = refl
+
+number_size : (row : List ℕ) (z : ℤ) → length (name_or_none (text_name row z)) ≤ 60
+number_size row z = by (is_named row)
+  where
+    by : (b : Bool) → length (name_or_none (if b then number_name row z else None)) ≤ 60
+    by true = let short = number_name_has is_short refl numbers_short row z in grind (arith, nat_tests)
+    by false = omega arith
+
+whole_size : (row : List ℕ) (z : ℤ) → mag z < 2 ^ 63 → length (signed_decimal z ++ in_brackets (text_name row z)) ≤ 85
 whole_size row z h =
-    omega (arith, length-append (signed_decimal z) (in_brackets (number_name row z)), bracket_size (number_name row z), number_size row z, length_signed_le 20 z (omega (arith, h)) h)
+    omega (arith, length-append (signed_decimal z) (in_brackets (text_name row z)), bracket_size (text_name row z), number_size row z, length_signed_le 20 z (omega (arith, h)) h)
 
 -- a number that was read
 mag_bound : (z : ℤ) → (neg_ℤ (pos 9_223_372_036_854_775_808) ≤ℤ z) × (z ≤ℤ pos 9_223_372_036_854_775_807) → mag z < 2 ^ 63

@@ -1,7 +1,8 @@
 -- The text that is shown of a message: a head line, and a line for each leaf.
-use Rattle.std.specs.Prelude.{ℕ, suc, ◌-◌, Bool, true, false, ◌&&◌, ◌||◌, nat_le, nat_eq, List, [], ◌∷◌, ◌++◌, codes, decimal, Option, Some, None, flat_map, if◌then◌else◌}
+use Rattle.std.specs.Prelude.{ℕ, suc, ◌-◌, ℤ, Bool, true, false, ◌&&◌, ◌||◌, nat_le, nat_eq, List, [], ◌∷◌, ◌++◌, codes, decimal, Option, Some, None, flat_map, if◌then◌else◌}
 use Rattle.std.specs.Fmt.{signed_decimal}
 use Rattle.std.specs.List.{list_all}
+use Rattle.std.specs.Str.{bytes_eq}
 use Rattle.ber_tree.specs.Identifier.{identifier}
 use Rattle.ber_tree.specs.Tree.{Tree, Trees, primitive, constructed, none, more}
 use Rattle.ber_leaf.specs.Profile.{Profile, is_graphic, profile_two}
@@ -31,11 +32,20 @@ in_brackets (Some name) = codes " (" ++ name ++ codes ")"
 abbrev pub content_text : List ℕ → List ℕ
 content_text octets = if list_all is_graphic octets then quoted octets else hexadecimal octets
 
+-- the rows whose numbers have their names in the text
+abbrev pub is_named : List ℕ → Bool
+is_named row =
+    bytes_eq row (codes "transaction-type") || bytes_eq row (codes "ill-service-type") || bytes_eq row (codes "place-on-hold")
+    || bytes_eq row (codes "item-type") || bytes_eq row (codes "transaction-results")
+
+abbrev pub text_name : List ℕ → ℤ → Option (List ℕ)
+text_name row number = if is_named row then number_name row number else None
+
 -- a leaf in a row of this name
 abbrev pub leaf_text : List ℕ → Simple → List ℕ
 leaf_text row (flag true) = codes "TRUE"
 leaf_text row (flag false) = codes "FALSE"
-leaf_text row (whole number) = signed_decimal number ++ in_brackets (number_name row number)
+leaf_text row (whole number) = signed_decimal number ++ in_brackets (text_name row number)
 leaf_text row (date text) = text
 leaf_text row (time text) = text
 leaf_text row (printable text) = quoted text

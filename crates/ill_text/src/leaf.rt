@@ -1,5 +1,5 @@
 //! Leaves as lines.
-ghost use Rattle.std.specs.Prelude.{◌≡◌, ◌++◌, ◌<◌, ◌≤◌, [], length, codes, flat_map, take, ◌∷◌, IsTrue, Option};
+ghost use Rattle.std.specs.Prelude.{◌≡◌, ◌++◌, ◌<◌, ◌≤◌, [], length, codes, flat_map, take, ◌∷◌, IsTrue, MatchOption, None, Option, Some};
 ghost use Rattle.std.specs.Fmt.{signed_decimal};
 ghost use Rattle.ill_tables.specs.declared.profile.Profile.{Profile as Named};
 ghost use Rattle.ber_leaf.specs.Leaf.{integer_of, value};
@@ -10,8 +10,7 @@ ghost use Rattle.ill_tables.specs.Table.{kind_of};
 ghost use Rattle.ill_tables.specs.declared.node.NodeId.{NodeId};
 ghost use Rattle.ill_grammar.specs.LeafTypes.{IsContentIn, leaf_is};
 ghost use Rattle.ill_grammar.specs.Outline.{IsAbsent};
-ghost use Rattle.ill_tables.specs.Numbers.{number_name};
-ghost use Rattle.ill_text.specs.Shown.{escaped, in_brackets, leaf_text, line};
+ghost use Rattle.ill_text.specs.Shown.{escaped, in_brackets, is_named, leaf_text, line, text_name};
 ghost use Rattle.ill_text.specs.Shown.{entry_text};
 ghost use Rattle.ill_grammar.specs.Marks.{leading_octets, is_octet, octets_in};
 ghost use Rattle.ill_text.specs.code.Sending.{Adds, sending};
@@ -129,7 +128,7 @@ fn put_whole<W: Sink>(
 /// Puts a line with a number, and its name in the row, if it has one.
 fn put_number<W: Sink>(place: &FieldPlace<'_>, number: i64, out: &mut TextSink, sink: &mut W)
     ensures adds { Adds (line (path_of place.now.path.now)
-        (signed_decimal number ++ in_brackets (number_name place.now.name.now number)))
+        (signed_decimal number ++ in_brackets (text_name place.now.name.now number)))
         (sending (W.contents sink.old) (W.is_broken sink.old) out.old)
         (sending (W.contents sink.new) (W.is_broken sink.new) out.new) }
     ensures stays { IsTrue (W.is_broken sink.old) → IsTrue (W.is_broken sink.new) }
@@ -142,14 +141,40 @@ fn put_number<W: Sink>(place: &FieldPlace<'_>, number: i64, out: &mut TextSink, 
     out.put(sink, b"\n");
 }
 
+/// Tells whether the numbers of a row of this name have their names in the text.
+fn is_named(row: &str) -> bool
+    ensures { result ≡ is_named row.now }
+{
+    matches!(
+        row,
+        "transaction-type"
+            | "ill-service-type"
+            | "place-on-hold"
+            | "item-type"
+            | "transaction-results"
+    )
+}
+
+/// The name that the text has beside a number in a row, if it has one.
+fn text_name(row: &str, number: i64) -> Option<&'static str>
+    ensures { MatchOption result (text_name row.now number ≡ None)
+        (λ name. text_name row.now number ≡ Some name.now) }
+{
+    if is_named(row) {
+        number_name(row, number)
+    } else {
+        None
+    }
+}
+
 /// Puts the name of a number in brackets, if it has one in the row.
 fn put_name<W: Sink>(row: &str, number: i64, out: &mut TextSink, sink: &mut W)
-    ensures adds { Adds (in_brackets (number_name row.now number))
+    ensures adds { Adds (in_brackets (text_name row.now number))
         (sending (W.contents sink.old) (W.is_broken sink.old) out.old)
         (sending (W.contents sink.new) (W.is_broken sink.new) out.new) }
     ensures stays { IsTrue (W.is_broken sink.old) → IsTrue (W.is_broken sink.new) }
 {
-    match number_name(row, number) {
+    match text_name(row, number) {
         Some(name) => {
             out.put(sink, b" (");
             out.put(sink, name.as_bytes());
