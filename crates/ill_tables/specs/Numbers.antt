@@ -21,7 +21,6 @@ enumeration_of row =
     if bytes_eq row (codes "intermediary-problem") then Some IntermediaryProblem else
     if bytes_eq row (codes "item-type") then Some ItemType else
     if bytes_eq row (codes "held-medium-type") then Some MediumType else
-    if bytes_eq row (codes "medium") then Some MediumType else
     if bytes_eq row (codes "hold-placed-medium-type") then Some MediumType else
     if bytes_eq row (codes "place-on-hold") then Some PlaceOnHoldType else
     if bytes_eq row (codes "reason-locs-provided") then Some ReasonLocsProvided else
@@ -36,6 +35,7 @@ enumeration_of row =
     if bytes_eq row (codes "expiry-flag") then Some ExpiryFlag else
     if bytes_eq row (codes "shipped-conditions") then Some ShippedConditions else
     if bytes_eq row (codes "supply-medium-type") then Some SupplyMediumType else
+    if bytes_eq row (codes "medium") then Some SupplyMediumType else
     if bytes_eq row (codes "preference") then Some Preference else
     if bytes_eq row (codes "transaction-id-problem") then Some TransactionIdProblem else
     if bytes_eq row (codes "transaction-results") then Some TransactionResults else

@@ -54,7 +54,7 @@ pub fn enumeration_of(row: &str) -> Option<Enumeration>
         "ill-service-type" | "shipped-service-type" => Some(Enumeration::IllServiceType),
         "intermediary-problem" => Some(Enumeration::IntermediaryProblem),
         "item-type" => Some(Enumeration::ItemType),
-        "held-medium-type" | "medium" | "hold-placed-medium-type" => Some(Enumeration::MediumType),
+        "held-medium-type" | "hold-placed-medium-type" => Some(Enumeration::MediumType),
         "place-on-hold" => Some(Enumeration::PlaceOnHoldType),
         "reason-locs-provided" => Some(Enumeration::ReasonLocsProvided),
         "reason-no-report" => Some(Enumeration::ReasonNoReport),
@@ -67,7 +67,7 @@ pub fn enumeration_of(row: &str) -> Option<Enumeration>
         "reason-not-available" => Some(Enumeration::ReasonNotAvailable),
         "expiry-flag" => Some(Enumeration::ExpiryFlag),
         "shipped-conditions" => Some(Enumeration::ShippedConditions),
-        "supply-medium-type" => Some(Enumeration::SupplyMediumType),
+        "supply-medium-type" | "medium" => Some(Enumeration::SupplyMediumType),
         "preference" => Some(Enumeration::Preference),
         "transaction-id-problem" => Some(Enumeration::TransactionIdProblem),
         "transaction-results" => Some(Enumeration::TransactionResults),
@@ -335,7 +335,7 @@ pub fn number_names(row: &str) -> &'static [(i64, &'static str)]
 ///
 /// ```
 /// // Some("printed"), and None
-/// let names = (number_name("medium", 1), number_name("medium", 2));
+/// let names = (number_name("held-medium-type", 1), number_name("held-medium-type", 2));
 /// ```
 #[tactic(auto, unfolding(crate::specs::Numbers::number_name))]
 pub fn number_name(row: &str, number: i64) -> Option<&'static str>
