@@ -222,8 +222,7 @@ export class Fields {
   summary() {
     const first = (row, ...path) => {
       const part = this.find(["value", row, ...path]);
-      const leaf = part.row === (path.at(-1) || row) ? part.leaves()[0] : null;
-      return leaf && !leaf.isGone ? leaf : null;
+      return part.row === (path.at(-1) || row) ? part.leaves().find((leaf) => !leaf.isGone) : undefined;
     };
     const named = (label, leaf) => (leaf ? [`${label} “${leaf.newText}”`] : []);
     const service = first("ill-service-type") || first("shipped-service-type") || first("transaction-results");
@@ -236,5 +235,6 @@ export class Fields {
 
 /** The number of a leaf, with its name if it has one. */
 function spokenNumber(leaf) {
-  return leaf.numbers.find(([number]) => number === leaf.newText)[1];
+  const found = (leaf.numbers || []).find(([number]) => number === leaf.newText);
+  return found ? found[1] : leaf.newText;
 }
