@@ -5,7 +5,7 @@ import { differencesOf } from "./comparison.js";
 import { $, counted, make, say, shortened } from "./dom.js";
 import { Fields } from "./fields.js";
 
-/** The most fields that are shown, and the most characters of a field that can't be changed. */
+/** The most fields and groups that are shown, and the most characters of a field that can't be changed. */
 const MOST_FIELDS = 1000, MOST_READ_ONLY = 2000;
 
 /** The characters of a text from which on its field has several lines. */
@@ -14,7 +14,7 @@ const LONG_TEXT = 60;
 /** The control of a leaf. */
 function controlOf(part) {
   const numbers = part.numbers, text = part.newText;
-  if (part.isReadOnly) return readOnly(part, text);
+  if (part.isReadOnly) return readOnly(text);
   if (numbers || part.kind === "flag") return choiceOf(numbers || [["yes", "Yes"], ["no", "No"]], text);
   const isLong = text.length > LONG_TEXT || text.includes("\n");
   const control = isLong ? make("textarea", "", undefined, { rows: 3 }) : make("input", "", undefined, { type: "text" });
@@ -24,8 +24,9 @@ function controlOf(part) {
   return control;
 }
 
-function readOnly(part, text) {
-  const isLong = text.length > LONG_TEXT, control = isLong ? make("textarea", "fixed", undefined, { rows: 2 }) : make("input", "fixed", undefined, { type: "text" });
+function readOnly(text) {
+  const isLong = text.length > LONG_TEXT;
+  const control = isLong ? make("textarea", "fixed", undefined, { rows: 2 }) : make("input", "fixed", undefined, { type: "text" });
   control.readOnly = true;
   control.value = shortened(text, MOST_READ_ONLY);
   return control;
@@ -41,8 +42,9 @@ function choiceOf(pairs, chosen) {
 export class FieldForm {
   /** `page` has the calls and the profile. */
   constructor(page) {
-    Object.assign(this, { page, message: null, fields: null, made: null, lines: new Map(), edited: new WeakMap() });
+    Object.assign(this, { page, message: null, fields: null, made: null, isCut: false, lines: new Map(), edited: new WeakMap() });
     $("undo-fields").addEventListener("click", () => page.guarded(() => this.#undo()));
+    $("go-refused").addEventListener("click", () => this.#goToRefused());
   }
 
   /** Shows a message, with what was changed of it before. */
@@ -69,6 +71,7 @@ export class FieldForm {
   #draw() {
     const box = $("fields");
     this.lines.clear();
+    this.isCut = false;
     box.replaceChildren();
     for (const { title, parts } of this.fields.sections()) {
       const section = make("section", "fields-section");
@@ -76,15 +79,17 @@ export class FieldForm {
       this.#addAll(section, parts);
       box.append(section);
     }
-    const left = this.fields.root.leaves().length - MOST_FIELDS;
-    if (left > 0) box.append(make("p", "facts", `The first ${counted(MOST_FIELDS, "field")} are shown. ${counted(left, "more is", "more are")} in the message, and stay as they are.`));
+    if (this.isCut) box.append(make("p", "facts", `Only the first ${counted(MOST_FIELDS, "part")} of the message are shown. The others stay as they are.`));
   }
 
   /** Adds parts: leaves beside each other, and each group in a frame. */
   #addAll(box, parts) {
     let row = null;
     for (const part of parts.flatMap((it) => this.#seen(it))) {
-      if (this.lines.size >= MOST_FIELDS) return;
+      if (this.lines.size >= MOST_FIELDS) {
+        this.isCut = true;
+        return;
+      }
       if (!part.isLeaf) {
         row = null;
         box.append(this.#group(part));
@@ -114,7 +119,8 @@ export class FieldForm {
   }
 
   #leaf(part) {
-    const line = make("div", "field"), entry = make("div", "entry"), control = controlOf(part), said = this.#said(), label = make("label", "", part.label);
+    const line = make("div", "field"), entry = make("div", "entry"), control = controlOf(part), said = this.#said();
+    const label = make("label", "", part.label);
     control.id = said.id.replace("said", "field");
     label.htmlFor = control.id;
     control.setAttribute("aria-describedby", said.id);
@@ -177,24 +183,33 @@ export class FieldForm {
       said.textContent = "";
     }
     this.made = null;
+    $("save-made").disabled = true;
+    $("go-refused").hidden = true;
     try {
       this.made = calls.build(this.fields.changed(), options);
+      $("save-made").disabled = false;
       this.#showMade();
     } catch (error) {
       if (error.name !== "NotBuilt") throw error;
       this.#showNotBuilt(error);
     }
     $("fields-summary").textContent = this.fields.summary();
-    $("save-made").disabled = !this.made;
     $("undo-fields").disabled = this.fields.changes === 0;
+  }
+
+  /** Goes to the field that is refused, or to the first one of the group that is. */
+  #goToRefused() {
+    const line = document.querySelector("#fields .refusal"), control = line.querySelector("input, select, textarea, button");
+    line.scrollIntoView({ block: "center" });
+    if (control) (control.disabled ? line.querySelector("button") : control).focus({ preventScroll: true });
   }
 
   #showMade() {
     const { calls, options } = this.page, { made, message } = this, { changes } = this.fields, size = counted(made.length, "octet");
     $("fields-said").className = "";
-    $("fields-said").textContent = changes ? `${counted(changes, "change")}. The message that is made has ${size}.` : `Nothing is changed. The message that is made has ${size}.`;
+    $("fields-said").textContent = `${changes ? counted(changes, "change") : "Nothing is changed"}. The message that is made has ${size}.`;
     const isSame = calls.same(message.octets, made, options);
-    $("made-verdict").textContent = isSame ? "The message that is made is the same as the one that was there." : "The message that is made is different:";
+    $("made-verdict").textContent = `The message that is made is ${isSame ? "the same as the one that was there." : "different:"}`;
     $("made-differences").replaceChildren(...(isSame ? [] : differencesOf(calls, options, [message.octets, made], ["Was there", "Is made"])));
   }
 
@@ -203,9 +218,9 @@ export class FieldForm {
     let part = this.fields.find(refusal.path);
     while (part && !this.lines.has(part)) part = part.parent;
     const words = `${wordsOfRefusal(refusal, part ? part.kind : "")} (${refusal.cause}${refusal.pointer ? ` at ${refusal.pointer}` : ""})`;
-    const head = $("fields-said");
-    head.className = "bad";
-    head.textContent = part ? `No message is made, because of the field ${part.label}: ${words}` : `No message is made: ${words}`;
+    $("fields-said").className = "bad";
+    $("fields-said").textContent = part ? `No message is made, because of “${part.label}”.` : `No message is made: ${words}`;
+    $("go-refused").hidden = !part;
     $("made-verdict").textContent = "No message is made, so there is nothing to compare with.";
     $("made-differences").replaceChildren();
     if (!part) return;

@@ -63,7 +63,7 @@ function textOf(kind, value) {
     case "date": return parted(value, "-");
     case "time": return parted(value, ":");
     case "string": return Object.values(value)[0];
-    case "octets": return "foreign" in value ? value.foreign : value.octets;
+    case "octets": return "bits" in value ? `${value.octets} (${value.bits} bits)` : value.foreign || value.octets;
     default: return value;
   }
 }

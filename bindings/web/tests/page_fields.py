@@ -201,7 +201,9 @@ def try_refused(form, check):
     form.open(EXAMPLES["expired-long-form.ber"], "expired-long-form.ber")
     form.change("This service", "Date", to="2023-02-29")
     check("a refused date has its refusal beside it, and no file", is_refused_at(form, "Date", "BadDate") and "no day that exists" in form.refusals()[0][1])
-    check("and the top of the form says so", "because of the field Date" in form.page.text("#fields-said") and form.page.run("return document.getElementById('save-made').disabled"))
+    check("and the top of the form says so", "because of “Date”" in form.page.text("#fields-said") and form.page.run("return document.getElementById('save-made').disabled"))
+    form.page.run("document.getElementById('go-refused').click()")
+    check("a button leads to it", form.page.run("return document.activeElement.labels[0].textContent") == "Date")
     form.page.picture("fields-refused")
     form.page.in_dark("fields-refused-dark")
     form.change("This service", "Date", to="20240301")
@@ -215,6 +217,8 @@ def try_refused(form, check):
     line = form.line()
     form.remove("Service type")
     check("a part that has to be there is missed where it was", is_refused_at(form, "Service type", "MissingMember"))
+    form.page.run("document.getElementById('go-refused').click()")
+    check("and a button leads to what puts it back", form.page.run("return document.activeElement.getAttribute('aria-label')") == "Put back Service type")
     form.remove("Service type")
     check("it is put back", form.refusals() == [] and form.made() == model(line))
     form.remove("Requester", "Symbol of person")
@@ -249,7 +253,7 @@ def try_kept(form, check):
         ("What", "Description of the item 1", "Direct reference", "1.2.840.10003.5.10"), ("What", "Description of the item 1", "Indirect reference", "5"),
         ("What", "Description of the item 1", "Data value descriptor", "MARC"), ("What", "Description of the item 1", "Octets", "583132333435"),
         ("What", "Description of the item 2", "ASN.1 value", "300e0201051b03612262a00205003100"),
-        ("What", "Description of the item 3", "Direct reference", "oid 69ffffffffffffffffff7f"), ("What", "Description of the item 3", "Bits", "f8")])
+        ("What", "Description of the item 3", "Direct reference", "oid 69ffffffffffffffffff7f"), ("What", "Description of the item 3", "Bits", "f8 (5 bits)")])
     form.change("Date returned", to="2024-03-01")
     at = EXTERNALS.rindex(b"20240229")
     check("and are kept where another field is changed", form.download()[1] == EXTERNALS[:at] + b"20240301")
@@ -303,7 +307,8 @@ def try_large(form, check, vector):
             await new Promise((drawn) => requestAnimationFrame(() => setTimeout(drawn)));
             const taken = Math.round(performance.now() - begin), form = view.normalForm(), { made } = view.fields;
             return [taken, document.querySelectorAll('*').length, made.length === form.length && form.every((octet, at) => octet === made[at])]""")
-        check(f"the first fields of {name} are shown in {taken} ms, with {nodes} nodes, and all others are kept", nodes < 12000 and taken < 15000 and is_whole)
+        is_said = "Only the first 1,000 parts" in form.page.text("#fields")
+        check(f"the first fields of {name} are shown in {taken} ms, with {nodes} nodes, and all others are kept", nodes < 12000 and taken < 15000 and is_whole and is_said == ("items" in name))
 
 
 def try_width(form, check, is_chromium):
