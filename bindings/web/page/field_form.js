@@ -74,6 +74,7 @@ export class FieldForm {
     this.isCut = false;
     box.replaceChildren();
     for (const { title, parts } of this.fields.sections()) {
+      if (this.isCut) break;
       const section = make("section", "fields-section");
       section.append(make("h3", "", title));
       this.#addAll(section, parts);

@@ -69,6 +69,11 @@ class Form:
         got = self.page.wait(DOWNLOAD)
         return got and (got[0], bytes(got[1]))
 
+    def file(self):
+        """The octets of the file that is offered, or None."""
+        got = self.download()
+        return got and got[1]
+
     def line(self):
         """The line of JSON of the message, as the program's call writes it."""
         return json.loads(self.page.run("return page.calls.json(page.view.message.octets, page.options)"))
@@ -173,21 +178,22 @@ def try_names(form, check):
 def try_changes(form, check):
     form.open(EXAMPLES["every-part.ber"], "every-part.ber")
     line, same = form.line(), form.page.text("#made-verdict")
-    name, octets = form.download()
-    check("what is not changed is downloaded as its normal form", octets == EXAMPLES["every-part.der"][:701] and name == "every-part-1-changed.der" and "the same as" in same)
+    wanted = ("every-part-1-changed.der", EXAMPLES["every-part.der"][:701])
+    check("what is not changed is downloaded as its normal form", form.download() == wanted and "the same as" in same)
     form.change("Item", "Title", to="Études, “1”")
     check("a character that no message has is refused beside its field", is_refused_at(form, "Title", "BadCharacter"))
     form.change("Item", "Title", to="Études 1")
     set_at(line, "item-id", "title", "general", to="Études 1")
-    check("a text is changed: the file has the octets of the model", form.download()[1] == model(line))
+    check("a text is changed: the file has the octets of the model", form.file() == model(line))
     check("and the field that differs is shown", form.differences() == [("item-id.title", 'general "g65"', 'general "\\xc9tudes 1"')])
     form.change("Search", "Need before", to="2027-01-31")
     form.change("Optional messages of the requester", "Can send Received", to="no")
     form.change("Protocol version", to="-9223372036854775808")
     for path, value in ((("search-type", "need-before-date"), "20270131"), (("requester-optional-messages", "can-send-received"), False), (("protocol-version-num",), -(2**63))):
         set_at(line, *path, to=value)
-    check("a date, a flag and a number of 64 bits are changed", form.download()[1] == model(line) and len(form.differences()) == 4)
-    check("the form says how many changes there are", form.page.text("#fields-said").startswith("4 changes."))
+    check("a date, a flag and a number of 64 bits are changed", form.file() == model(line) and len(form.differences()) == 4)
+    marked = form.page.run("return [...document.querySelectorAll('#fields .changed label')].map((it) => it.textContent)")
+    check("the form says how many changes there are, and where", form.page.text("#fields-said").startswith("4 changes.") and marked == ["Title", "Need before", "Protocol version", "Can send Received"])
     form.choose(2)
     other = form.made()
     form.choose(1)
@@ -207,11 +213,11 @@ def try_refused(form, check):
     form.page.picture("fields-refused")
     form.page.in_dark("fields-refused-dark")
     form.change("This service", "Date", to="20240301")
-    check("a date that is good is taken", form.download()[1] == EXPIRED.replace(b"20240229", b"20240301") and form.refusals() == [])
+    check("a date that is good is taken", form.file() == EXPIRED.replace(b"20240229", b"20240301") and form.refusals() == [])
     form.change("Protocol version", to="two")
     check("a word is no number", is_refused_at(form, "Protocol version", "WrongType") and "no whole number" in form.refusals()[0][1])
     form.change("Protocol version", to="1")
-    check("a number is taken", form.download()[1] == EXPIRED.replace(b"\x80\x01\x02", b"\x80\x01\x01").replace(b"20240229", b"20240301"))
+    check("a number is taken", form.file() == EXPIRED.replace(b"\x80\x01\x02", b"\x80\x01\x01").replace(b"20240229", b"20240301"))
     form.open(EXAMPLES["every-part.ber"], "every-part.ber")
     form.choose(7)
     line = form.line()
@@ -225,7 +231,7 @@ def try_refused(form, check):
     del line["value"]["requester-id"]["person-or-institution-symbol"]
     form.remove("Requester note")
     del line["value"]["requester-note"]
-    check("parts are removed, and a choice with what is in it", form.download()[1] == model(line))
+    check("parts are removed, and a choice with what is in it", form.file() == model(line))
     form.page.run("page.calls.build = () => { const it = new Error(); throw Object.assign(it, { name: 'NotBuilt', cause: 'NormalTooLong', pointer: '', path: [] }); }")
     form.change("Requester", "Name of person", to="x")
     check("a refusal that names no field is at the top", form.refusals() == [] and "NormalTooLong" in form.page.text("#fields-said") and form.download() is None)
@@ -240,7 +246,7 @@ def try_kept(form, check):
             page.messages.forEach((message, at) => {
               if (message.refusal) return;
               page.choose(at);
-              all.push([at, [...page.view.fields.made]]);
+              all.push([at, [...page.view.fields.made || []]]);
               said.add(document.getElementById('made-verdict').textContent);
             });
             return [all, [...said]]""")
@@ -256,14 +262,14 @@ def try_kept(form, check):
         ("What", "Description of the item 3", "Direct reference", "oid 69ffffffffffffffffff7f"), ("What", "Description of the item 3", "Bits", "f8 (5 bits)")])
     form.change("Date returned", to="2024-03-01")
     at = EXTERNALS.rindex(b"20240229")
-    check("and are kept where another field is changed", form.download()[1] == EXTERNALS[:at] + b"20240301")
+    check("and are kept where another field is changed", form.file() == EXTERNALS[:at] + b"20240301")
     form.page.picture("fields-module")
     form.page.run("[...document.querySelectorAll('#fields legend .removal')][1].click()")
     begin, end = EXTERNALS.index(bytes.fromhex("2812a010")), EXTERNALS.index(bytes.fromhex("2811060b"))
     short = EXTERNALS[:begin] + EXTERNALS[end:at] + b"20240301"
     for place in (1, 3, EXTERNALS.index(b"\xb1\x43") + 1):
         short = short[:place] + bytes([short[place] - (end - begin)]) + short[place + 1 :]
-    check("an item of a list is removed", form.download()[1] == short)
+    check("an item of a list is removed", form.file() == short)
 
 
 def try_hidden(form, check):
@@ -274,7 +280,7 @@ def try_hidden(form, check):
     shown = form.fields()
     check("characters that aren't seen are escapes, and lines are lines", shown[:2] == [("Who", "Transaction", "Transaction group", "\\x07\\xad\\A", False), ("Who", "Transaction", "Transaction number", "A\n B", True)])
     form.change("Transaction number", to="A\nB2")
-    check("the text with lines is changed, and the other one is kept", form.download()[1] == octets.replace(b"A\n B", b"A\nB2"))
+    check("the text with lines is changed, and the other one is kept", form.file() == octets.replace(b"A\n B", b"A\nB2"))
 
 
 def try_by_keys(form, check):
@@ -282,7 +288,7 @@ def try_by_keys(form, check):
     form.open(EXAMPLES["expired-long-form.ber"], "expired-long-form.ber")
     form.page.run(FIND + "const it = find(arguments[0]).querySelector('input'); it.focus(); it.select()", ["Transaction number"])
     form.page.press("R", "2", TAB)
-    here = form.page.run("return document.activeElement.labels[0].textContent")
+    here = form.page.run("return (document.activeElement.labels || [{}])[0].textContent")
     check(f"keys change a field, and Tab goes to the next one: {here}", here == "Date" and form.made() == model({"apdu": "Expired", "value": {
         "protocol-version-num": 2, "transaction-id": {"transaction-group-qualifier": {"general": "G"}, "transaction-qualifier": {"general": "R2"}},
         "service-date-time": {"date-time-of-this-service": {"date": "20240229"}}}}))
