@@ -80,7 +80,8 @@ export class FieldForm {
       this.#addAll(section, parts);
       box.append(section);
     }
-    if (this.isCut) box.append(make("p", "facts", `Only the first ${counted(MOST_FIELDS, "part")} of the message are shown. The others stay as they are.`));
+    const words = `Only the first ${counted(MOST_FIELDS, "part")} of the message are shown. The others stay as they are.`;
+    if (this.isCut) box.append(make("p", "facts", words));
   }
 
   /** Adds parts: leaves beside each other, and each group in a frame. */
@@ -227,7 +228,7 @@ export class FieldForm {
     if (!part) return;
     const { line, control, said } = this.lines.get(part);
     line.classList.add("refusal");
-    control.setAttribute("aria-invalid", "true");
+    if (part.isLeaf) control.setAttribute("aria-invalid", "true");
     said.textContent = words;
   }
 }

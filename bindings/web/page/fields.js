@@ -36,7 +36,7 @@ function kindOfText(row) {
   return /(^|-)date(-|$)/.test(row) ? "date" : "text";
 }
 
-/** What a value of a row is: a list, a group, a text of a row that has two kinds of them ("string"), "octets", or another leaf. */
+/** What a value of a row is: a "list", a "group", a text in one of two alphabets ("string"), or another leaf. */
 function kindOfPart(row, value) {
   if (value === null) return "null";
   if (typeof value === "boolean") return "flag";

@@ -57,6 +57,17 @@ test("names are spoken without hyphens", () => {
   for (const [name, wanted] of [["in-use-on-loan", "In use on loan"], ["nOT-SUPPLIED", "Not supplied"], ["iLL-REQUEST", "ILL request"], ["unrecognized-APDU", "Unrecognized APDU"], ["other", "Other"]]) assert.equal(spokenName(name), wanted);
 });
 
+test("a number may have its name with it", () => {
+  const value = { number: 1, name: "in-use-on-loan" }, part = partOf("reason-unfilled", value);
+  assert.deepEqual([part.kind, part.oldText, part.numbers[0]], ["number", "1", ["1", "In use on loan (1)"]]);
+  assert.equal(part.current(), value);
+  part.change("3");
+  assert.equal(part.current(), 3);
+  part.change("1");
+  assert.equal(part.current(), value);
+  assert.deepEqual(partOf("reason-unfilled", 99n).numbers[0], ["99", "99 (no name)"]);
+});
+
 test("a leaf can be removed unless it is always there", () => {
   for (const { name, node, presence, table } of rows) {
     if (!(node in VALUES) || table.choice || name === "item") continue;

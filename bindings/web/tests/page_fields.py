@@ -173,6 +173,14 @@ def try_names(form, check):
     set_at(line, "results-explanation", "unfilled-results", "reason-unfilled", to=3)
     check("a reason is chosen by its name", ("Results", "Unfilled", "Reason", "Lost (3)", True) in form.fields() and form.made() == model(line))
     form.page.picture("fields-answer")
+    here = {"location-id": {"person-or-institution-symbol": {"institution-symbol": {"general": "L"}}}}
+    set_at(line, "results-explanation", to={"locations-results": {"reason-locs-provided": 7, "location-list": [here, here]}})
+    form.open(model(line), "locations.ber")
+    remove = "[...document.querySelectorAll('#fields legend .removal')].forEach((it) => it.click())"
+    form.page.run(remove)
+    check("a list that has to be there is missed in the group that it was in", form.refusals()[:1] == [("Locations provided", "This has to be there. (MissingMember at /value/results-explanation/locations-results/location-list)", None)] and form.download() is None)
+    form.page.run(remove)
+    check("its items are put back", form.refusals() == [] and form.made() == model(line))
 
 
 def try_changes(form, check):
