@@ -33,8 +33,7 @@ export function showComparison(calls, options, one, other) {
   const tag = isSame ? make("span", "tag good", "same") : make("span", "tag warn", "different");
   verdict.replaceChildren(tag, make("p", "", wordsFor(isSame, one, other)));
   if (isSame) return;
-  const [first, second] = [one, other].map(({ octets }) => fieldsOf(calls.show(octets, options)));
-  table.append(...differences(first, second, one, other));
+  table.append(...differencesOf(calls, options, [one.octets, other.octets], [one, other].map(({ at }) => `Message ${grouped(at + 1)}`)));
 }
 
 function wordsFor(isSame, one, other) {
@@ -43,10 +42,10 @@ function wordsFor(isSame, one, other) {
   return isEqual ? "Their octets are equal." : "One APDU in two spellings: their octets differ, and their normal forms are equal.";
 }
 
-function differences(first, second, one, other) {
-  const table = make("table"), head = make("tr");
-  const titles = ["Field", `Message ${grouped(one.at + 1)}`, `Message ${grouped(other.at + 1)}`];
-  head.append(...titles.map((title) => make("th", "", title, { scope: "col" })));
+/** The fields in which two messages differ, and the values of each there, as a table with a title for each message. */
+export function differencesOf(calls, options, messages, titles) {
+  const table = make("table"), head = make("tr"), [first, second] = messages.map((octets) => fieldsOf(calls.show(octets, options)));
+  head.append(...["Field", ...titles].map((title) => make("th", "", title, { scope: "col" })));
   table.append(head);
   const names = [...new Set([...first.keys(), ...second.keys()])].filter((name) => first.get(name) !== second.get(name));
   for (const name of names.slice(0, MOST_DIFFERENCES)) {

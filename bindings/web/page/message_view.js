@@ -1,4 +1,4 @@
-/* One message: its elements, its text, its normal form, and what it is compared with. */
+/* One message: its elements, its fields, its text, its normal form, and what it is compared with. */
 
 import { $, counted, grouped, make, say, shortened } from "./dom.js";
 import { Elements, meaningOfNote, titleOfNote } from "./elements.js";
@@ -6,12 +6,13 @@ import { ElementTree } from "./element_tree.js";
 import { LineList } from "./line_list.js";
 import { MOST_LINKED } from "./links.js";
 import { badgeOf } from "./message.js";
+import { FieldForm } from "./field_form.js";
 import { OctetView } from "./octet_view.js";
 import { toHex } from "./octet_text.js";
 import { showComparison } from "./comparison.js";
 import { showRefusal } from "./refusal_box.js";
 
-const TABS = ["elements", "text", "normal", "same"];
+const TABS = ["elements", "fields", "text", "normal", "same"];
 
 /** The most messages that the list of those to compare with has. */
 const MOST_OFFERED = 2000;
@@ -27,6 +28,7 @@ export class MessageView {
     this.tree = new ElementTree($("tree"), (i, moves) => this.#selected(i, moves));
     this.lines = new LineList($("lines"), 22, (line, i) => this.#fillText(line, i));
     this.form = new OctetView($("normal"));
+    this.fields = new FieldForm(page);
     $("open-all").addEventListener("click", () => this.tree.toggleAll(false));
     $("close-all").addEventListener("click", () => this.tree.toggleAll(true));
     $("other").addEventListener("input", () => page.guarded(() => this.#compare()));
@@ -56,7 +58,7 @@ export class MessageView {
     Object.assign(this, { message, elements: new Elements(text), text: null, normal: null, range: null });
     this.#showTitle();
     showRefusal(message, this.elements.refusal, options.profile, () => this.page.setProfile("module"));
-    for (const tab of ["text", "normal", "same"]) $(`tab-${tab}`).disabled = Boolean(message.refusal);
+    for (const tab of TABS.slice(1)) $(`tab-${tab}`).disabled = Boolean(message.refusal);
     this.tree.set(this.elements, message);
     this.hex.set(message.octets, message.refusal ? message.refusal.offset : -1);
     this.open(message.refusal ? "elements" : this.tab);
@@ -104,7 +106,8 @@ export class MessageView {
     if (tab === "elements") {
       this.tree.lines.draw();
       this.hex.lines.draw();
-    } else if (tab === "text") this.#showText();
+    } else if (tab === "fields") this.fields.show(this.message);
+    else if (tab === "text") this.#showText();
     else if (tab === "normal") this.#showNormal();
     else this.#showOther();
   }
@@ -222,12 +225,13 @@ export class MessageView {
   /** Empties the view. */
   clear() {
     Object.assign(this, { message: null, elements: null, text: null, normal: null, range: null });
+    this.fields.leave();
     for (const lines of [this.tree.lines, this.lines]) lines.set(0);
     for (const octets of [this.hex, this.form]) octets.set(new Uint8Array(0));
   }
 
   /** The lists that are printed. */
   printed() {
-    return { elements: [this.tree.lines, this.hex.lines], text: [this.lines], normal: [this.form.lines], same: [] }[this.tab];
+    return { elements: [this.tree.lines, this.hex.lines], fields: [], text: [this.lines], normal: [this.form.lines], same: [] }[this.tab];
   }
 }

@@ -297,6 +297,7 @@ function listenToMessage(page) {
   on("copy-link", (button) => copy(linkTo(view.message.octets, page.options.profile), button));
   on("save-text", () => save([view.text], `${stemOf(view.message)}.txt`, "text/plain"));
   on("save-normal", () => save([view.normalForm()], `${stemOf(view.message)}.der`));
+  on("save-made", () => save([view.fields.made], `${stemOf(view.message)}-changed.der`));
   on("save-all", () => save(page.normalForms(), "normal-forms.der"));
 }
 

@@ -8,6 +8,7 @@ import tempfile
 import time
 from pathlib import Path
 
+import page_fields
 from browser import IS_READY, PAGE, bare, start, without_webassembly
 from sources import sum_of
 from vectors import VECTORS, octets_of
@@ -464,7 +465,7 @@ def try_controls(page):
     check(f"each is reached by Tab {missed or ''}", not missed)
     page.focus("tab-elements")
     page.run("page.choose(3)")
-    page.press(RIGHT)
+    page.press(RIGHT, RIGHT)
     check("arrow keys move between the views", page.run("return document.activeElement.id") == "tab-text" and "message 4 Expired" in page.text("#lines"))
     page.press(HOME)
 
@@ -580,6 +581,16 @@ def try_many_files(page):
     page.run("page.clear()")
 
 
+def try_fields(page):
+    page_fields.try_all(page, check, vector)
+
+
+def try_narrow_fields():
+    page = Session((390, 844))
+    page_fields.try_width(page_fields.Form(page), check, NAME == "chromium")
+    page.quit()
+
+
 def try_without_webassembly():
     """A browser that can't run the module says so."""
     browser = without_webassembly(NAME)
@@ -608,10 +619,11 @@ def try_old_browser():
 
 def main():
     page = Session()
-    for part in (try_start, try_messages, try_elements, try_views, try_refusals, try_texts, try_file_names, try_others, try_many_files, try_controls, try_links, try_faults, try_printing, try_large, try_policy):
+    for part in (try_start, try_messages, try_elements, try_views, try_refusals, try_texts, try_file_names, try_others, try_many_files, try_fields, try_controls, try_links, try_faults, try_printing, try_large, try_policy):
         part(page)
     page.quit()
     try_narrow()
+    try_narrow_fields()
     try_widths()
     try_without_webassembly()
     try_old_browser()

@@ -1,7 +1,7 @@
 #!/bin/bash
 # Tests the page and the calls for JavaScript, built by `make`: what the build refuses, and that it makes the same module twice; the numbers
 # of 128 bits; the sources and the policy of the page; the contrast of its colours; the types, by a caller that tsc compiles; the calls, the
-# tree of elements, the names of files and the heap in Node; the module against the test vectors and the native library (built by `make` in
+# tree of elements, the fields, the names of files and the heap in Node; the module against the test vectors and the native library (built by `make` in
 # bindings/c), in Node and in each browser that is there; changes of one octet of the module, which the comparison has to see; illcanon.js from
 # a server; and the page in each browser. Where tsc, Node or a browser is absent, its tests are left out. Pictures are in build/pictures.
 cd "$(dirname "$0")" || exit 2
@@ -45,7 +45,7 @@ run sh -c 'cd ../build && sha256sum --check --quiet SHA256SUMS'
 run ./contrast.py
 has tsc && run tsc -p tsconfig.json
 has node || exit $status
-run node --test calls.test.mjs elements.test.mjs names.test.mjs memory.test.mjs
+run node --test calls.test.mjs elements.test.mjs fields.test.mjs names.test.mjs memory.test.mjs
 run ./compare.py
 run ./mutants.py
 mkdir -p ../build/pictures
