@@ -47,10 +47,10 @@ test("each row of numbers with names has them, and no other row", () => {
 });
 
 test("the names that the program knows are the same", () => {
-  const source = readFileSync(new URL("crates/ill_tables/src/number.rt", TOP), "utf8");
-  const known = [...source.matchAll(/^ +"([\w-]+)" => &\[([^\]]*)\]/gm)];
-  assert.ok(known.length >= 5);
-  for (const [, row, names] of known) assert.deepEqual(namesOfNumbers(row).map(([, name]) => name), [...names.matchAll(/"([\w-]+)"/g)].map(([, name]) => name), row);
+  const types = JSON.parse(readFileSync(new URL("tests/model/enumerations.json", TOP), "utf8"));
+  const known = types.flatMap(({ rows, numbers }) => rows.map((row) => [row, numbers]));
+  assert.ok(known.length >= 32);
+  for (const [row, numbers] of known) assert.deepEqual(namesOfNumbers(row), numbers, row);
 });
 
 test("names are spoken without hyphens", () => {
