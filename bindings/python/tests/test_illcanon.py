@@ -92,9 +92,9 @@ WRONG_TAG_TEXT = """message 3: refused
 refused at 4: UnexpectedTag
     the tag is not due there
     path Expired
-    found [UNIVERSAL 5] primitive: 05
+    found [UNIVERSAL 5] NULL primitive: 05
     due [0] protocol-version-num
-      4      05 00  [UNIVERSAL 5] = ""  (not judged)
+      4      05 00  [UNIVERSAL 5] NULL = ""  (not judged)
 """
 # Each file, and the normal forms of its messages, which an encoder in Python wrote.
 FILES = [

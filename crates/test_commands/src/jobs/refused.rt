@@ -79,7 +79,7 @@ const ROWS: [(&str, Profile, Option<&str>, Option<u64>, &str); 13] = [
         Profile::Two,
         None,
         Some(34),
-        "{\"number\":7,\"offset\":100,\"octets\":34,\"apdu\":\"Expired\",\"refused\":{\"cause\":\"BadText\",\"offset\":11,\"kind\":\"not read\",\"path\":\"Expired.transaction-id.transaction-group-qualifier\",\"found\":\"[UNIVERSAL 27] primitive: 1b 02 1b 47\"}}\n",
+        "{\"number\":7,\"offset\":100,\"octets\":34,\"apdu\":\"Expired\",\"refused\":{\"cause\":\"BadText\",\"offset\":11,\"kind\":\"not read\",\"path\":\"Expired.transaction-id.transaction-group-qualifier\",\"found\":\"[UNIVERSAL 27] GeneralString primitive: 1b 02 1b 47\"}}\n",
     ),
     // a number that is constructed
     (
@@ -95,7 +95,7 @@ const ROWS: [(&str, Profile, Option<&str>, Option<u64>, &str); 13] = [
         Profile::Two,
         None,
         Some(2),
-        "{\"number\":7,\"offset\":100,\"octets\":2,\"refused\":{\"cause\":\"UnexpectedTag\",\"offset\":0,\"kind\":\"invalid\",\"found\":\"[UNIVERSAL 5] primitive: 05\",\"due\":[\"[APPLICATION 1] ILL-Request\",\"[APPLICATION 2] Forward-Notification (not read)\",\"[APPLICATION 3] Shipped\",\"[APPLICATION 4] ILL-Answer\",\"[APPLICATION 5] Conditional-Reply\",\"[APPLICATION 6] Cancel\",\"[APPLICATION 7] Cancel-Reply\",\"[APPLICATION 8] Received\",\"[APPLICATION 9] Recall\",\"[APPLICATION 10] Returned\",\"[APPLICATION 11] Checked-In\",\"[APPLICATION 12] Overdue\",\"[APPLICATION 13] Renew\",\"[APPLICATION 14] Renew-Answer\",\"[APPLICATION 15] Lost\",\"[APPLICATION 16] Damaged\",\"[APPLICATION 17] Message\",\"[APPLICATION 18] Status-Query\",\"[APPLICATION 19] Status-Or-Error-Report (not read)\",\"[APPLICATION 20] Expired\"]}}\n",
+        "{\"number\":7,\"offset\":100,\"octets\":2,\"refused\":{\"cause\":\"UnexpectedTag\",\"offset\":0,\"kind\":\"invalid\",\"found\":\"[UNIVERSAL 5] NULL primitive: 05\",\"due\":[\"[APPLICATION 1] ILL-Request\",\"[APPLICATION 2] Forward-Notification (not read)\",\"[APPLICATION 3] Shipped\",\"[APPLICATION 4] ILL-Answer\",\"[APPLICATION 5] Conditional-Reply\",\"[APPLICATION 6] Cancel\",\"[APPLICATION 7] Cancel-Reply\",\"[APPLICATION 8] Received\",\"[APPLICATION 9] Recall\",\"[APPLICATION 10] Returned\",\"[APPLICATION 11] Checked-In\",\"[APPLICATION 12] Overdue\",\"[APPLICATION 13] Renew\",\"[APPLICATION 14] Renew-Answer\",\"[APPLICATION 15] Lost\",\"[APPLICATION 16] Damaged\",\"[APPLICATION 17] Message\",\"[APPLICATION 18] Status-Query\",\"[APPLICATION 19] Status-Or-Error-Report (not read)\",\"[APPLICATION 20] Expired\"]}}\n",
     ),
     (
         "7f1f00",
@@ -110,7 +110,7 @@ const ROWS: [(&str, Profile, Option<&str>, Option<u64>, &str); 13] = [
         Profile::Module,
         None,
         Some(49),
-        "{\"number\":7,\"offset\":100,\"octets\":49,\"apdu\":\"ILL-Answer\",\"refused\":{\"cause\":\"UnexpectedTag\",\"offset\":47,\"kind\":\"invalid\",\"path\":\"ILL-Answer.results-explanation.conditional-results\",\"found\":\"[UNIVERSAL 5] primitive: 05\",\"due\":[\"[1] date-for-reply\",\"[2] location-list\",\"[7] proposed-delivery-service.physical-delivery\",\"[50] proposed-delivery-service.electronic-delivery\",\"the end of the element\"]}}\n",
+        "{\"number\":7,\"offset\":100,\"octets\":49,\"apdu\":\"ILL-Answer\",\"refused\":{\"cause\":\"UnexpectedTag\",\"offset\":47,\"kind\":\"invalid\",\"path\":\"ILL-Answer.results-explanation.conditional-results\",\"found\":\"[UNIVERSAL 5] NULL primitive: 05\",\"due\":[\"[1] date-for-reply\",\"[2] location-list\",\"[7] proposed-delivery-service.physical-delivery\",\"[50] proposed-delivery-service.electronic-delivery\",\"the end of the element\"]}}\n",
     ),
 ];
 
