@@ -36,6 +36,7 @@ UNTOUCHED = {
     "ill_parts": "leaves::number_value",
     "ill_read": "reader::Reader::outcome",
     "ill_schema": "entry::may_lack",
+    "ill_tables": "lookup::rows",
     "ill_texts": "number::is_negative",
     "ill_write": "element::row_at",
     "oid_text": "number::split_at_dot",

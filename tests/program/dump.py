@@ -1,12 +1,13 @@
 #!/usr/bin/env python3
 """Compares `illcanon dump` with another writer of the dump, over spellings of random APDUs, good and changed, over the examples of
-`illcanon help causes`, and over a few messages that each run has.
+`illcanon help causes`, over a message for each number that has a name, and over a few messages that each run has.
 
 The writer goes by the judge of judge.py, the tables and the names. Each APDU, each note, each hint and each cause has to come at least once; a
 message has a note if and only if it is not in normal form; the line on standard error is that of `check`. Needs the program built.
 Usage: dump.py [SEED [COUNT [PROFILE]]], PROFILE being `2`, the default, or `module`. Prints the seed, with which a run is made again.
 """
 import copy
+import json
 import os
 import random
 import re
@@ -22,17 +23,15 @@ from model.encoder import Speller, Writer, is_default
 from model.judge import DEPTH, LIMIT, Judge, Refused, bits_of, content_value, due, missing
 from refusals import Misspeller, changed
 from shown import identifier_text, octets_text
-from model.tables import ALL_ROWS, NAMES, PROGRAM, ROOTS, profile_and_words, random_value, seed_and_count
+from model.tables import ALL_ROWS, NAMES, NUMBER_NAMES, PROGRAM, ROOTS, TOP, profile_and_words, random_value, seed_and_count
 
-TYPES = {
-    ("universal", 2): "INTEGER",
-    ("universal", 6): "OBJECT IDENTIFIER",
-    ("universal", 8): "EXTERNAL",
-    ("universal", 10): "ENUMERATED",
-    ("universal", 16): "SEQUENCE",
-    ("universal", 26): "VisibleString",
-    ("universal", 27): "GeneralString",
-}
+# the types that have universal tags (X.680, table 1), from number 1 on
+UNIVERSAL = (
+    "BOOLEAN/INTEGER/BIT STRING/OCTET STRING/NULL/OBJECT IDENTIFIER/ObjectDescriptor/EXTERNAL/REAL/ENUMERATED/EMBEDDED PDV/UTF8String/RELATIVE-OID/TIME/"
+    "/SEQUENCE/SET/NumericString/PrintableString/TeletexString/VideotexString/IA5String/UTCTime/GeneralizedTime/GraphicString/VisibleString/GeneralString/"
+    "UniversalString/CHARACTER STRING/BMPString/DATE/TIME-OF-DAY/DATE-TIME/DURATION/OID-IRI/RELATIVE-OID-IRI"
+).split("/")
+TYPES = {("universal", number): name for number, name in enumerate(UNIVERSAL, 1) if name}
 CLASSES = {"universal": "UNIVERSAL ", "application": "APPLICATION ", "context": "", "private": "PRIVATE "}
 TRIED = [("universal", n) for n in range(1, 31)] + [("application", n) for n in range(31)] + [("context", n) for n in range(61)]
 TEXTS = {
@@ -130,12 +129,15 @@ FIXED = [
     # where a delivery service is due, as one of many parts
     f"6121301f{HEAD}0500",
 ]
-# Messages that each run has, and both profiles accept: each octet that is quoted in its own way, TRUE as 01, and each form of a length and a string.
+# Messages that each run has, and both profiles accept: each octet that is quoted in its own way, TRUE as 01, each form of a length and a
+# string, and each default.
 GOOD = [
     "74243022800102a10fa1081b067e5c22007fe9a2031b0151a20ca00a80083230323430323239",
     f"65233021{HEAD}9f230101",
     "7481253080800102a10aa1031b0147a2031b0151a210a00ea00c0404323032340404303232390000",
     f"741d{HEAD}",
+    # each default, written
+    f"61533051{HEAD}850101a900ab0c800100810100820101830102ac038201038e0103b000b40f800100810100820100830100850102950100960100",
 ]
 LEVELS_TEXT = "a value of an open type would have more than 20 levels"
 # the causes that only the module profile has
@@ -167,7 +169,14 @@ def quoted(octets):
 
 
 def tag_text(tag):
-    return f"[{CLASSES[tag[0]]}{tag[1]}]"
+    """A tag, and the type that has it where it is a universal one."""
+    return f"[{CLASSES[tag[0]]}{tag[1]}] {TYPES.get(tag, '')}".rstrip()
+
+
+def number_text(row, number):
+    """A number, and in brackets its name in a row, if it has one."""
+    name = NUMBER_NAMES.get(row, {}).get(number)
+    return f"{number} ({name})" if name else str(number)
 
 
 def bits_text(content):
@@ -197,6 +206,8 @@ class Dumper(Judge):
     def __init__(self, octets, profile):
         super().__init__(octets, profile)
         self.lines, self.labels, self.counts = [], [], []
+        # the name of an element that is refused, where it is one of the tables
+        self.refused = None
         # the type of a string whose octets are refused
         self.text_node = None
 
@@ -251,6 +262,7 @@ class Dumper(Judge):
                 self.lines.append([place, depth, self.octets[place:body], known[0], "", notes, None])
             elif fault.cause not in ("Truncated", "BadTag") and known and known[1]:
                 self.labels.append(known[0])
+                self.refused = known[0]
             raise
         if inner:
             self.counts[-1] += 1
@@ -294,13 +306,28 @@ class Dumper(Judge):
         if isinstance(value, bool):
             return "TRUE" if value else "FALSE"
         if isinstance(value, int):
-            return str(value)
+            return number_text(self.row_of(element), value)
         return content.decode() if element.node in ("IsoDate", "IsoTime") else quoted(content)
 
+    def row_of(self, element):
+        """The name of the row that a number stands in. An item of a list and what a row's own tag is round stand in that row."""
+        inner = self.round()
+        if element.chosen:
+            return NAMES[inner.node if element.row is None else ALL_ROWS[inner.node][element.row].node][1][element.chosen[0]]
+        if element.row is None:
+            inner, element = self.path[-2], inner
+        return NAMES[inner.node][1][element.row]
+
     def close(self, place):
-        ends = self.path[-1].end
+        start, ends = self.path[-1].start, self.path[-1].end
         self.text_node = self.path[-1].node
-        super().close(place)
+        try:
+            super().close(place)
+        except Refused as fault:
+            # A string in segments is refused where it begins.
+            if fault.at == start:
+                self.refused = self.labels[-1]
+            raise
         self.labels.pop()
         self.counts.pop()
         if ends is None:
@@ -405,7 +432,9 @@ class Dumper(Judge):
         for tag in TRIED:
             element = self.due(tag)
             if element:
-                yield f"{tag_text(tag)} {self.label(element, tag)[0]}{' (not read)' if element.kind == 'left out' else ''}"
+                label = self.label(element, tag)[0]
+                named = tag_text(tag) if label == TYPES.get(tag) else f"{tag_text(tag)} {label}"
+                yield f"{named}{' (not read)' if element.kind == 'left out' else ''}"
         if self.path and not missing(self.path[-1]):
             yield "the end of the element"
 
@@ -459,7 +488,8 @@ class Dumper(Judge):
             place += body
             end = bound if size is None else min(bound, place + size)
             note = "not judged" if size is None or place + size == end else "cut short, not judged"
-            line = f"{line}{hexed(start[:body])}  {tag_text(tag)}"
+            name, self.refused = self.is_begun() and self.refused or tag_text(tag), None
+            line = f"{line}{hexed(start[:body])}  {name}"
             if constructed and len(ends) < DEPTH:
                 ends.append(None if size is None else end)
                 yield f"{line}  ({note})\n"
@@ -553,6 +583,18 @@ def inputs(chance, count, root):
         yield octets
 
 
+def named(profile):
+    """A message for each number that has a name in a row: those of the test vectors of lines of JSON."""
+    groups = json.loads((TOP / "vectors/json.json").read_text())["groups"]
+    return [
+        vector["normal"]
+        for group in groups
+        if group["rule"]["name"] == "numbers with names"
+        for vector in group["vectors"]
+        if re.search("-by-both(-module)?$", vector["id"]) and profile in vector["profiles"]
+    ]
+
+
 def examples():
     """The examples of `illcanon help causes`: each cause with its octets."""
     text = subprocess.run([PROGRAM, "help", "causes"], capture_output=True, text=True, check=True).stdout
@@ -639,7 +681,7 @@ def main():
         for number, octets in enumerate(inputs(chance, min(count, 400), ROOTS[profile])):
             names.append(f"f{number}")
             (folder / names[-1]).write_bytes(octets)
-        for kind, messages in ("fixed", FIXED), ("good", GOOD):
+        for kind, messages in ("fixed", FIXED), ("good", GOOD), ("named", named(profile)):
             for number, digits in enumerate(messages):
                 names.append(f"{kind}-{number}")
                 (folder / names[-1]).write_bytes(bytes.fromhex(digits))
@@ -653,6 +695,9 @@ def main():
     for hint in HINTS[profile]:
         if hint not in text:
             sys.exit(f"dump.py: seed {seed}: no message has the hint {hint.strip()}")
+    for number, name in {pair for numbers in NUMBER_NAMES.values() for pair in numbers.items()}:
+        if profile == "module" and not re.search(rf" = {number} \({name}\)(  \(default written\))?\n", text):
+            sys.exit(f"dump.py: seed {seed}: no message has the number {number} ({name})")
     for number, digits in enumerate(FIXED):
         if profile == "2" and f"fixed-{number}: message 1: refused\n" not in text:
             sys.exit(f"dump.py: seed {seed}: {digits} is not refused")

@@ -741,7 +741,7 @@ for command in check canonicalise; do
     *) row no-message-canonicalise 1 '' "$nothing" canonicalise --keep-going --summary --refused KEPT MAIL OUT ;; esac
     [ "$(od -An -tx1 KEPT | tr -d ' ')" = 7400 ] || { failed=$((failed + 1)) && echo "failed: no-message-$command: other octets"; }
 done
-row no-message-json 1 '{"number":1,"offset":0,"octets":2,"refused":{"cause":"UnexpectedTag","offset":0,"kind":"no message","clause":"X.690, 8.9.2, 8.10.2, 8.13 and 8.14, with the types of ISO 10161-1","found":"[UNIVERSAL 5] primitive: 05"}}\n' '' check --json MAIL
+row no-message-json 1 '{"number":1,"offset":0,"octets":2,"refused":{"cause":"UnexpectedTag","offset":0,"kind":"no message","clause":"X.690, 8.9.2, 8.10.2, 8.13 and 8.14, with the types of ISO 10161-1","found":"[UNIVERSAL 5] NULL primitive: 05"}}\n' '' check --json MAIL
 row no-message-dump 1 'message 4: refused\nrefused at 0: WrongForm\n    its form, primitive or constructed, is not the one expected here\n    no ILL message begins here\n    it looks like text\n    clause X.690, 8.2.1, 8.3.1, 8.8.1, 8.9.1, 8.10.1, 8.14 and 8.19.1\n    found [APPLICATION 6] primitive: 46\n      0  46 72  [APPLICATION 6] = 6f6d3a2061206c6962726172790d0a  (cut short, not judged)\n' \
     "illcanon: refused at 0 in message 1: UnexpectedTag\nillcanon: refused at 2 in message 3: ${missing}illcanon: refused at 0 in message 4: WrongForm; its end is unknown\n" dump --keep-going --message 4 MAIL
 rm MAIL

@@ -93,9 +93,9 @@ refused at 4: UnexpectedTag
     this tag is not expected here
     clause X.690, 8.9.2, 8.10.2, 8.13 and 8.14, with the types of ISO 10161-1
     path Expired
-    found [UNIVERSAL 5] primitive: 05
+    found [UNIVERSAL 5] NULL primitive: 05
     due [0] protocol-version-num
-      4      05 00  [UNIVERSAL 5] = ""  (not judged)
+      4      05 00  [UNIVERSAL 5] NULL = ""  (not judged)
 """
 # Each file, and the normal forms of its messages, which an encoder in Python wrote.
 FILES = [

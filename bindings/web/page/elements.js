@@ -223,7 +223,7 @@ function afterQuoted(text, begin) {
 function kindOfValue(value) {
   if (value.startsWith('"')) return "string";
   if (/^(TRUE|FALSE)$/.test(value)) return "flag";
-  return /^-?\d{1,19}$/.test(value) ? "number" : "other";
+  return /^-?\d{1,19}( \([\w-]+\))?$/.test(value) ? "number" : "other";
 }
 
 /** What the octets of a header say: the identifier and its number of octets, and the size of the content, null of the indefinite form. */

@@ -38,7 +38,7 @@ const VALUE = {
   "service-date-time": { "date-time-of-this-service": { date: "20240229" } },
 };
 const LINE = JSON.stringify({ apdu: "Expired", value: VALUE });
-const WRONG_FORM = '      2    10 00  [UNIVERSAL 16] = ""  (not judged)';
+const WRONG_FORM = '      2    10 00  [UNIVERSAL 16] SEQUENCE = ""  (not judged)';
 
 const calls = await load();
 
@@ -98,9 +98,9 @@ test("a refused message is written with the refusal at its place, and the rest a
   assert.deepEqual([refusal.offset, refusal.cause, refusal.part], [7, "Missing", "Expired.transaction-id"]);
   assert.equal(text, REFUSED_TEXT);
   const { text: short } = calls.dump(of("74021000"));
-  assert.deepEqual(short.trimEnd().split("\n").slice(5), ["    found [UNIVERSAL 16] primitive: 10", "    due [UNIVERSAL 16] constructed: 30", WRONG_FORM]);
+  assert.deepEqual(short.trimEnd().split("\n").slice(5), ["    found [UNIVERSAL 16] SEQUENCE primitive: 10", "    due [UNIVERSAL 16] SEQUENCE constructed: 30", WRONG_FORM]);
   const { text: trailed } = calls.dump(Uint8Array.from([...EXPIRED, 5, 1]));
-  assert.match(trailed, /\nrefused at 33: TrailingBytes\n(    .*\n)+ {5}33  05 01  \[UNIVERSAL 5\] = ""  \(cut short, not judged\)\n$/);
+  assert.match(trailed, /\nrefused at 33: TrailingBytes\n(    .*\n)+ {5}33  05 01  \[UNIVERSAL 5\] NULL = ""  \(cut short, not judged\)\n$/);
 });
 
 test("a message is a line of JSON, and an object", () => {

@@ -72,7 +72,7 @@ test("what follows the place of a refusal is in the tree, and is not judged", ()
   const octets = Uint8Array.from(Buffer.from(EXTENDED, "hex")), elements = new Elements(calls.dump(octets).text);
   assert.deepEqual([elements.judged, elements.count, elements.judgedShown], [11, 20, 11]);
   assert.equal(elements.refusal[0], "refused at 33: LeftOut Expired.expired-extensions");
-  assert.deepEqual(elements.path(17), ["Expired", "[49]", "[UNIVERSAL 16]", "[2]", "[UNIVERSAL 16]", "[UNIVERSAL 5]"]);
+  assert.deepEqual(elements.path(17), ["Expired", "expired-extensions", "[UNIVERSAL 16] SEQUENCE", "[2]", "[UNIVERSAL 16] SEQUENCE", "[UNIVERSAL 5] NULL"]);
   const { name, value, notes, isJudged } = elements.element(13);
   assert.deepEqual([name, value, notes, isJudged], ["[0]", "01", ["not judged"], false]);
   assert.deepEqual(notes.map(titleOfNote), ["Not judged"]);

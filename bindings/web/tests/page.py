@@ -209,7 +209,7 @@ def try_refusals(page):
     check("the work goes on after a refused message", page.run("return page.messages.map((it) => it.refusal ? it.refusal.cause : 'good').join()") == "good,Missing,UnexpectedTag,good")
     page.run("page.choose(2)")
     shown = page.text("#refused")
-    for line in "Refused at offset 4: UnexpectedTag", "This tag is not expected here.", "Clause", "X.690, 8.9.2, 8.10.2, 8.13 and 8.14, with the types of ISO 10161-1", "[UNIVERSAL 5] primitive: 05", "[0] protocol-version-num":
+    for line in "Refused at offset 4: UnexpectedTag", "This tag is not expected here.", "Clause", "X.690, 8.9.2, 8.10.2, 8.13 and 8.14, with the types of ISO 10161-1", "[UNIVERSAL 5] NULL primitive: 05", "[0] protocol-version-num":
         check(f"the refusal says: {line}", line in shown)
     page.picture("refused")
     page.run("page.choose(1)")
@@ -223,7 +223,7 @@ def try_refusals(page):
         lines = page.text("#refused").splitlines()
         check(f"no message begins with {octets}", page.text("#title") == "Not a message" and "No ILL message begins here." in lines and ("It looks like text." in lines) == is_text)
     try_rest(page)
-    for octets, wanted in (WRONG_FORM, ["Clause", "X.690, 8.2.1, 8.3.1, 8.8.1, 8.9.1, 8.10.1, 8.14 and 8.19.1", "Found", "[UNIVERSAL 16] primitive: 10", "Due here", "[UNIVERSAL 16] constructed: 30"]), (LONG_NUMBER, ["Clause", "limit of illcanon"]):
+    for octets, wanted in (WRONG_FORM, ["Clause", "X.690, 8.2.1, 8.3.1, 8.8.1, 8.9.1, 8.10.1, 8.14 and 8.19.1", "Found", "[UNIVERSAL 16] SEQUENCE primitive: 10", "Due here", "[UNIVERSAL 16] SEQUENCE constructed: 30"]), (LONG_NUMBER, ["Clause", "limit of illcanon"]):
         page.drop(octets, "wrong.ber")
         check(f"the refusal says: {', '.join(wanted)}", all(line in page.text("#refused") for line in wanted))
     page.drop(MODULE, "module.ber")
@@ -243,7 +243,7 @@ def try_rest(page):
     check("all elements from the place on are marked as not judged, and no other is", items == [[i, i >= 11] for i in range(20)])
     between = page.run("return [document.getElementById('e10').nextElementSibling.innerText, document.getElementById('e11').previousElementSibling.innerText]")
     check("the place is between them", between[0] == between[1] and "✕ LeftOut Expired.expired-extensions" in between[0])
-    check("the element at the place is selected, and its details say so", page.active() == "e11" and "Not judged" in page.text("#detail") and page.text("#detail .path b") == "[49]")
+    check("the element at the place is selected, and its details say so", page.active() == "e11" and "Not judged" in page.text("#detail") and page.text("#detail .path b") == "expired-extensions")
     if NAME == "chromium":
         names = [name for role, name, _ in page.accessible() if role == "treeitem"]
         check("a screen reader says so of each", len(names) == 20 and [name.endswith("not judged") for name in names] == [i >= 11 for i in range(20)])
@@ -251,7 +251,7 @@ def try_rest(page):
     page.press(UP)
     before = page.active()
     page.press(DOWN, DOWN, DOWN)
-    check("the arrow keys pass the place", [before, page.active()] == ["e10", "e13"] and page.text("#detail .path") == "Expired › [49] › [UNIVERSAL 16] › [0]")
+    check("the arrow keys pass the place", [before, page.active()] == ["e10", "e13"] and page.text("#detail .path") == "Expired › expired-extensions › [UNIVERSAL 16] SEQUENCE › [0]")
     page.press(END)
     check("End goes to the last element that is not judged", page.active() == "e19")
     page.run("document.getElementById('close-all').click()")

@@ -82,7 +82,7 @@ fn put_refused(
     if refusal.cause == Cause::NormalTooLong {
         return Ok(());
     }
-    let mut rest = UnjudgedWalk::from_place(&walk, refusal.at as usize)?;
+    let mut rest = UnjudgedWalk::from_place(&walk, octets, refusal)?;
     let judged = octets.get(..LIMIT as usize).unwrap_or(octets);
     put_elements(&mut rest, judged, lines)
 }

@@ -115,7 +115,7 @@ impl WriteDump<'_> {
         if refusal.cause == Cause::NormalTooLong {
             return Ok(());
         }
-        let mut rest = UnjudgedWalk::from_place(walk, refusal.at as usize)?;
+        let mut rest = UnjudgedWalk::from_place(walk, octets, refusal)?;
         self.lines.tags("<div class=\"rest\">")?;
         self.put_elements(&mut rest, octets, sink)?;
         self.lines.tags("</div>")?;

@@ -1,5 +1,5 @@
 //! The elements that are due at a place.
-use crate::label::{Label, label_of, put_tag};
+use crate::label::{Label, label_of, put_typed_tag};
 use crate::lines::LineBuffer;
 use crate::walk::ElementWalk;
 use ber_core::{Class, Id};
@@ -40,14 +40,17 @@ impl Due {
     }
 }
 
-/// A tag and a name.
+/// A tag, and the name of its part, or of its type where there is no other.
 fn put_element(
     lines: &mut LineBuffer,
     class: Class,
     number: u32,
     label: Label,
 ) -> Result<(), AllocError> {
-    put_tag(lines, class, number)?;
+    put_typed_tag(lines, class, number)?;
+    if matches!(&label, Label::Type(_)) {
+        return Ok(());
+    }
     lines.text(" ")?;
     label.put(lines)
 }

@@ -1,5 +1,6 @@
 //! Names of elements.
 use crate::lines::LineBuffer;
+use crate::universal::universal_type;
 use ber_core::{Class, Id};
 use ill_grammar::{Element, EntryRole, Found};
 use ill_schema::{NodeId, PartId, part_name};
@@ -82,13 +83,25 @@ impl Label {
                 lines.text("]")
             }
             Label::Type(name) => lines.text(name),
-            Label::Tag(class, number) => put_tag(lines, class, number),
+            Label::Tag(class, number) => put_typed_tag(lines, class, number),
         }
     }
 }
 
+/// A tag, and the type that has it where it is a universal one.
+pub fn put_typed_tag(lines: &mut LineBuffer, class: Class, number: u32) -> Result<(), AllocError> {
+    put_tag(lines, class, number)?;
+    match (class, universal_type(number)) {
+        (Class::Universal, Some(name)) => {
+            lines.text(" ")?;
+            lines.text(name)
+        }
+        _ => Ok(()),
+    }
+}
+
 /// A tag as it is written in ASN.1.
-pub fn put_tag(lines: &mut LineBuffer, class: Class, number: u32) -> Result<(), AllocError> {
+fn put_tag(lines: &mut LineBuffer, class: Class, number: u32) -> Result<(), AllocError> {
     lines.text(match class {
         Class::Universal => "[UNIVERSAL ",
         Class::Application => "[APPLICATION ",

@@ -17,6 +17,7 @@ mod markup;
 mod note;
 mod refusal;
 mod refused_place;
+mod universal;
 mod unjudged;
 mod value;
 mod walk;

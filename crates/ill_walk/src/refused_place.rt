@@ -1,7 +1,7 @@
 //! The place of a refusal: the elements round it, what was found there, and what was due.
 use crate::due::{Due, due_after};
 use crate::found::{ElementStart, read_start};
-use crate::label::{Label, label_of, put_tag};
+use crate::label::{Label, label_of, put_typed_tag};
 use crate::lines::LineBuffer;
 use crate::walk::ElementWalk;
 use ber_core::{Id, Len};
@@ -48,7 +48,7 @@ impl<'a> RefusedPlace<'a> {
     }
 
     /// The name of the element that was found, if it has one of the tables.
-    fn label_of_found(&self) -> Option<Label> {
+    pub fn label_of_found(&self) -> Option<Label> {
         if !is_of_element(self.cause) {
             return None;
         }
@@ -116,7 +116,7 @@ fn put_tag_and_form(
     id: Id,
     is_constructed: bool,
 ) -> Result<(), AllocError> {
-    put_tag(lines, id.class(), id.number())?;
+    put_typed_tag(lines, id.class(), id.number())?;
     lines.text(if is_constructed {
         " constructed: "
     } else {

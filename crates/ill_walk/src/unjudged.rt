@@ -1,10 +1,12 @@
 //! The elements of a message that is refused, from the place of the refusal on. They are known by their identifiers and lengths alone.
 use crate::found::read_start;
-use crate::label::put_tag;
+use crate::label::{Label, put_typed_tag};
 use crate::lines::LineBuffer;
 use crate::note::DerNotes;
+use crate::refused_place::RefusedPlace;
 use crate::walk::{ElementWalk, Steps};
 use ber_core::{Header, Len};
+use ill_schema::{Refusal, apdu_begun};
 use std::alloc::AllocError;
 
 /// The number of elements that may be open. The content of one in them is shown as octets.
@@ -16,14 +18,22 @@ pub struct UnjudgedWalk {
     /// The ends of the open elements, the outermost one first; None for one that an end mark closes.
     open: Vec<Option<usize>>,
     at: usize,
+    /// The name of the element that is refused, until its line is made; None where it has none of the tables, or no message begins.
+    refused: Option<Label>,
 }
 
 impl UnjudgedWalk {
-    /// A walk from this offset on, to which another one has come.
-    pub fn from_place(walk: &ElementWalk, at: usize) -> Result<UnjudgedWalk, AllocError> {
+    /// A walk from the place of a refusal of the octets on, to which another one has come.
+    pub fn from_place(
+        walk: &ElementWalk,
+        octets: &[u8],
+        refusal: Refusal,
+    ) -> Result<UnjudgedWalk, AllocError> {
+        let place = RefusedPlace::new(walk, octets, refusal);
         Ok(UnjudgedWalk {
             open: walk.ends()?,
-            at,
+            at: refusal.at as usize,
+            refused: apdu_begun(octets).and_then(|_| place.label_of_found()),
         })
     }
 
@@ -84,7 +94,10 @@ impl UnjudgedWalk {
         lines.header(header.id.class(), id, length)?;
         lines.text("  ")?;
         lines.tags("<span class=\"name\">")?;
-        put_tag(lines, header.id.class(), header.id.number())?;
+        match self.refused.take() {
+            Some(label) => label.put(lines)?,
+            None => put_typed_tag(lines, header.id.class(), header.id.number())?,
+        }
         lines.tags("</span>")?;
         let size_said = match header.len {
             Len::Definite(len) => Some(len as usize),

@@ -3,7 +3,7 @@ use crate::lines::LineBuffer;
 use ber_leaf::{BitString, Leaf};
 use ill_grammar::{Element, ValueKind, add_identifier};
 use ill_read::{LeafType, Mark};
-use ill_schema::{PartId, Profile, Value, is_default, row};
+use ill_schema::{NodeId, PartId, Profile, Value, is_default, number_name, row, row_name};
 use std::alloc::{AllocError, Global};
 
 /// The value of a leaf with this content, and whether it is the default of its row.
@@ -42,16 +42,35 @@ fn put_value(
         return Ok(false);
     }
     let value = leaf.value(content.to_vec(alloc)?);
-    put_value_text(lines, &value)?;
+    put_value_text(lines, part, &value)?;
     Ok(row(part).is_some_and(|row| is_default(row, &value)))
 }
 
-fn put_value_text(lines: &mut LineBuffer, value: &Value) -> Result<(), AllocError> {
+fn put_value_text(lines: &mut LineBuffer, part: PartId, value: &Value) -> Result<(), AllocError> {
     match value {
         Value::Flag(true) => lines.text("TRUE"),
         Value::Flag(false) => lines.text("FALSE"),
-        Value::Whole(number) => lines.number(*number),
+        Value::Whole(number) => put_number(lines, part, *number),
         _ => Ok(()),
+    }
+}
+
+/// A number, and in brackets its name in its row, if it has one.
+fn put_number(lines: &mut LineBuffer, part: PartId, number: i64) -> Result<(), AllocError> {
+    lines.number(number)?;
+    let Some(name) = number_name(name_of_numbers(part), number) else {
+        return Ok(());
+    };
+    lines.text(" (")?;
+    lines.text(name)?;
+    lines.text(")")
+}
+
+/// The name by which the numbers of a part have names: that of the row; of items the name of the row in which the list stands.
+fn name_of_numbers(part: PartId) -> &'static str {
+    match part.node {
+        NodeId::IllServiceTypes => "ill-service-type",
+        node => row_name(node, part.row as usize),
     }
 }
 

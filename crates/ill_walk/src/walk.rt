@@ -5,7 +5,7 @@ use crate::lines::LineBuffer;
 use crate::note::DerNotes;
 use crate::value::{has_unused_bits_set, put_leaf, put_module_leaf};
 use ber_core::{Header, Len, identifier_size};
-use ill_grammar::{Element, Found, Frames, Place};
+use ill_grammar::{Element, EntryRole, Found, Frames, Place};
 use ill_read::{ElementReader, LeafType};
 use ill_schema::{NodeId, PartId, Profile};
 use std::alloc::{AllocError, Global};
@@ -35,11 +35,15 @@ pub struct ElementWalk {
     stop: usize,
 }
 
-/// Where the next element begins: its offset, the node round it, and the number of elements before it there.
+/// Where the next element begins.
 #[derive(Clone, Copy)]
 struct ElementPlace {
+    /// The offset of its first octet.
     at: usize,
+    /// The node round it, and the part that it is where it is in a wrapper.
     parent: NodeId,
+    part: PartId,
+    /// The number of elements before it there.
     items: usize,
 }
 
@@ -166,6 +170,7 @@ impl ElementWalk {
         ElementPlace {
             at: self.offset(),
             parent: self.place().node(),
+            part: self.place().part(),
             items: self.items(),
         }
     }
@@ -325,13 +330,21 @@ impl Steps for ElementWalk {
     }
 }
 
+/// The part that was found in the element of a part: what a wrapper is round is the wrapper's part, unless it is an alternative.
+fn part_of(found: Found, wrapper: PartId) -> PartId {
+    match found.slot() {
+        EntryRole::Inner if found.alternative().is_none() => wrapper,
+        _ => found.part(),
+    }
+}
+
 impl WalkedElement {
     /// What begins at a place with a header of this size.
     fn new(place: ElementPlace, found: Found, header: Header, size: usize) -> WalkedElement {
         WalkedElement {
             at: place.at,
             element: found.element(),
-            part: found.part(),
+            part: part_of(found, place.part),
             header,
             label: label_of(found, header.id, place.parent, place.items),
             id_size: identifier_size(header.id.number()),

@@ -236,8 +236,8 @@ const EXTENDED_LINES: &str = "message 1: Expired, 54 octets, not normal, normal 
      38          80 01  identifier = 1
      41          81 01  critical = FALSE  (default written)
      44          a2 80  item  (indefinite)
-     46            30 80  [UNIVERSAL 16]  (indefinite)
-     48              05 00  [UNIVERSAL 5] = \"\"
+     46            30 80  [UNIVERSAL 16] SEQUENCE  (indefinite)
+     48              05 00  [UNIVERSAL 5] NULL = \"\"
      50            00 00  end mark
      52          00 00  end mark
 ";
@@ -277,13 +277,13 @@ const HINT: &str = "refused at 33: LeftOut Expired.expired-extensions
     path Expired.expired-extensions
     found [49] constructed: bf 31
     --profile module reads this part
-     33      bf 31 12  [49]  (not judged)
-     36        30 10  [UNIVERSAL 16]  (not judged)
+     33      bf 31 12  expired-extensions  (not judged)
+     36        30 10  [UNIVERSAL 16] SEQUENCE  (not judged)
      38          80 01  [0] = 01  (not judged)
      41          81 01  [1] = 00  (not judged)
      44          a2 80  [2]  (not judged)
-     46            30 80  [UNIVERSAL 16]  (not judged)
-     48              05 00  [UNIVERSAL 5] = \"\"  (not judged)
+     46            30 80  [UNIVERSAL 16] SEQUENCE  (not judged)
+     48              05 00  [UNIVERSAL 5] NULL = \"\"  (not judged)
      50            00 00  end mark  (not judged)
      52          00 00  end mark  (not judged)
 ";
@@ -298,10 +298,10 @@ const UNITS_LINES: &str = "refused at 42: WrongForm
     found [0] constructed: a0
     due [0] primitive: 80
     --profile module has other tags here
-     42            a0 03  [0]  (not judged)
-     44              0a 01  [UNIVERSAL 10] = 01  (not judged)
+     42            a0 03  medium  (not judged)
+     44              0a 01  [UNIVERSAL 10] ENUMERATED = 01  (not judged)
      47            a1 03  [1]  (not judged)
-     49              02 01  [UNIVERSAL 2] = 01  (not judged)
+     49              02 01  [UNIVERSAL 2] INTEGER = 01  (not judged)
 ";
 
 /// An ILL-ANSWER whose reason has the module's tag, and the end of its dump in profile 2.
@@ -314,8 +314,8 @@ const REASON_LINES: &str = "refused at 44: WrongForm
     found [0] constructed: a0
     due [0] primitive: 80
     --profile module has other tags here
-     44            a0 03  [0]  (not judged)
-     46              0a 01  [UNIVERSAL 10] = 01  (not judged)
+     44            a0 03  reason-will-supply  (not judged)
+     46              0a 01  [UNIVERSAL 10] ENUMERATED = 01  (not judged)
 ";
 
 /// An ILL-ANSWER with conditions and a delivery service that only the module has there, and the end of its dump in profile 2.
@@ -331,7 +331,7 @@ const SERVICE_LINES: &str = "refused at 47: UnexpectedTag
     due the end of the element
     --profile module has other tags here
      47            a7 06  [7]  (not judged)
-     49              1b 04  [UNIVERSAL 27] = \"post\"  (not judged)
+     49              1b 04  [UNIVERSAL 27] GeneralString = \"post\"  (not judged)
 ";
 
 /// The beginning of a RETURNED with an EXTERNAL, up to 70,000 octets of its encoding; and what comes after them.

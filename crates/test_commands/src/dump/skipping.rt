@@ -34,7 +34,7 @@ const FIRST: &str = "message 1: refused
 refused at 0: UnexpectedTag
     this tag is not expected here
     path none
-    found [UNIVERSAL 5] primitive: 05
+    found [UNIVERSAL 5] NULL primitive: 05
 ";
 
 const SECOND: &str = "message 2: refused
@@ -182,7 +182,7 @@ const GREAT_LENGTH: &str =
     "7480308002a10a0102030405060708090a0b0c0d0e0f101112131415161718191a1b1c1d1e1f207400";
 
 const GREAT_LENGTH_LINE: &str =
-    "      4      02 a1 0a 01 02 03 04 05 06 07 08 09 0a 0b 0c 0d 0e 0f 10 11 12 13 14 15 16 17 18 19 1a 1b 1c 1d 1e 1f 20  [UNIVERSAL 2] = \"\"  (cut short, not judged)
+    "      4      02 a1 0a 01 02 03 04 05 06 07 08 09 0a 0b 0c 0d 0e 0f 10 11 12 13 14 15 16 17 18 19 1a 1b 1c 1d 1e 1f 20  [UNIVERSAL 2] INTEGER = \"\"  (cut short, not judged)
 ";
 
 #[test]

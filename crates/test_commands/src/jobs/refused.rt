@@ -79,7 +79,7 @@ const ROWS: [(&str, Profile, Option<&str>, Option<u64>, &str); 15] = [
         Profile::Two,
         None,
         Some(34),
-        "{\"number\":7,\"offset\":100,\"octets\":34,\"apdu\":\"Expired\",\"refused\":{\"cause\":\"BadText\",\"offset\":11,\"kind\":\"not read\",\"clause\":\"X.690, 8.23, and X.680, 41\",\"path\":\"Expired.transaction-id.transaction-group-qualifier\",\"found\":\"[UNIVERSAL 27] primitive: 1b 02 1b 47\"}}\n",
+        "{\"number\":7,\"offset\":100,\"octets\":34,\"apdu\":\"Expired\",\"refused\":{\"cause\":\"BadText\",\"offset\":11,\"kind\":\"not read\",\"clause\":\"X.690, 8.23, and X.680, 41\",\"path\":\"Expired.transaction-id.transaction-group-qualifier\",\"found\":\"[UNIVERSAL 27] GeneralString primitive: 1b 02 1b 47\"}}\n",
     ),
     // a number that is constructed
     (
@@ -95,7 +95,7 @@ const ROWS: [(&str, Profile, Option<&str>, Option<u64>, &str); 15] = [
         Profile::Two,
         None,
         Some(2),
-        "{\"number\":7,\"offset\":100,\"octets\":2,\"refused\":{\"cause\":\"UnexpectedTag\",\"offset\":0,\"kind\":\"no message\",\"clause\":\"X.690, 8.9.2, 8.10.2, 8.13 and 8.14, with the types of ISO 10161-1\",\"found\":\"[UNIVERSAL 5] primitive: 05\"}}\n",
+        "{\"number\":7,\"offset\":100,\"octets\":2,\"refused\":{\"cause\":\"UnexpectedTag\",\"offset\":0,\"kind\":\"no message\",\"clause\":\"X.690, 8.9.2, 8.10.2, 8.13 and 8.14, with the types of ISO 10161-1\",\"found\":\"[UNIVERSAL 5] NULL primitive: 05\"}}\n",
     ),
     (
         "7f1f00",
@@ -125,7 +125,7 @@ const ROWS: [(&str, Profile, Option<&str>, Option<u64>, &str); 15] = [
         Profile::Module,
         None,
         Some(49),
-        "{\"number\":7,\"offset\":100,\"octets\":49,\"apdu\":\"ILL-Answer\",\"refused\":{\"cause\":\"UnexpectedTag\",\"offset\":47,\"kind\":\"invalid\",\"clause\":\"X.690, 8.9.2, 8.10.2, 8.13 and 8.14, with the types of ISO 10161-1\",\"path\":\"ILL-Answer.results-explanation.conditional-results\",\"found\":\"[UNIVERSAL 5] primitive: 05\",\"due\":[\"[1] date-for-reply\",\"[2] location-list\",\"[7] proposed-delivery-service.physical-delivery\",\"[50] proposed-delivery-service.electronic-delivery\",\"the end of the element\"]}}\n",
+        "{\"number\":7,\"offset\":100,\"octets\":49,\"apdu\":\"ILL-Answer\",\"refused\":{\"cause\":\"UnexpectedTag\",\"offset\":47,\"kind\":\"invalid\",\"clause\":\"X.690, 8.9.2, 8.10.2, 8.13 and 8.14, with the types of ISO 10161-1\",\"path\":\"ILL-Answer.results-explanation.conditional-results\",\"found\":\"[UNIVERSAL 5] NULL primitive: 05\",\"due\":[\"[1] date-for-reply\",\"[2] location-list\",\"[7] proposed-delivery-service.physical-delivery\",\"[50] proposed-delivery-service.electronic-delivery\",\"the end of the element\"]}}\n",
     ),
 ];
 
