@@ -27,6 +27,7 @@ const REFUSED_TEXT = `message 7: refused
       4      80 01  protocol-version-num = 2
 refused at 7: Missing Expired.transaction-id
     the element ends before a mandatory part
+    clause X.690, 8.9.3 and 8.14, with the types of ISO 10161-1
     path Expired
     found the end of the element
     due [1] transaction-id
@@ -98,7 +99,7 @@ test("a refused message is written with the refusal at its place, and the rest a
   assert.deepEqual([refusal.offset, refusal.cause, refusal.part], [7, "Missing", "Expired.transaction-id"]);
   assert.equal(text, REFUSED_TEXT);
   const { text: short } = calls.dump(of("74021000"));
-  assert.deepEqual(short.trimEnd().split("\n").slice(5), ["    found [UNIVERSAL 16] SEQUENCE primitive: 10", "    due [UNIVERSAL 16] SEQUENCE constructed: 30", WRONG_FORM]);
+  assert.deepEqual(short.trimEnd().split("\n").slice(6), ["    found [UNIVERSAL 16] SEQUENCE primitive: 10", "    due [UNIVERSAL 16] SEQUENCE constructed: 30", WRONG_FORM]);
   const { text: trailed } = calls.dump(Uint8Array.from([...EXPIRED, 5, 1]));
   assert.match(trailed, /\nrefused at 33: TrailingBytes\n(    .*\n)+ {5}33  05 01  \[UNIVERSAL 5\] NULL = ""  \(cut short, not judged\)\n$/);
 });
