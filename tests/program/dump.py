@@ -126,6 +126,8 @@ FIXED = [
     "0500",
     # an OBJECT IDENTIFIER with a number of more than 63 bits
     f"6a3f303d{HEAD}b1132811060b69ffffffffffffffffff7f820203f89f25083230323430323239",
+    # a length that none has, of a part that has a name; and an element after it
+    "74193017800102a104a1ff1b47a20ca00a80083230323430323239",
     # where a delivery service is due, as one of many parts
     f"6121301f{HEAD}0500",
 ]
@@ -483,7 +485,7 @@ class Dumper(Judge):
                 size, body = Judge(start).length(begun, constructed, 0)
             except Refused:
                 yield f"{line}{hexed(octets[place:bound])}  octets  (not judged)\n"
-                place = bound
+                place, self.refused = bound, None
                 continue
             place += body
             end = bound if size is None else min(bound, place + size)

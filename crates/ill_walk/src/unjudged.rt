@@ -18,7 +18,7 @@ pub struct UnjudgedWalk {
     /// The ends of the open elements, the outermost one first; None for one that an end mark closes.
     open: Vec<Option<usize>>,
     at: usize,
-    /// The name of the element that is refused, until its line is made; None where it has none of the tables, or no message begins.
+    /// The name of the element that is refused, until the first line is made; None where it has none of the tables, or no message begins.
     refused: Option<Label>,
 }
 
@@ -75,6 +75,7 @@ impl UnjudgedWalk {
         lines.begin_element(self.at, self.open.len(), false)?;
         lines.hex(rest)?;
         lines.text("  octets")?;
+        self.refused = None;
         self.at = self.at.saturating_add(rest.len());
         end_line(lines, &[], false)
     }
