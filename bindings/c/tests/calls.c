@@ -106,6 +106,7 @@ static void refused_lines_are(struct octets missing) {
         "      4      80 01  protocol-version-num = 2\n"
         "refused at 7: Missing Expired.transaction-id\n"
         "    the element ends before a mandatory part\n"
+        "    clause X.690, 8.9.3 and 8.14, with the types of ISO 10161-1\n"
         "    path Expired\n"
         "    found the end of the element\n"
         "    due [1] transaction-id\n"
@@ -299,9 +300,12 @@ static void no_profile_is(uint32_t number, struct octets good) {
     EXPECT(size == 77 && read == 77 && answer == 77 && is_untouched(&refusal) && all_are(buffer, sizeof buffer, UNTOUCHED));
 }
 
+/* The octets of a buffer for a name, a clause or the version. */
+enum { TEXT_ROOM = 128 };
+
 /* A text that a call wrote into a buffer of 40 octets, and nothing after it. */
 static int is_text(const uint8_t *buffer, size_t size, const char *text) {
-    return size == strlen(text) && memcmp(buffer, text, size) == 0 && all_are(buffer + size, 40 - size, UNTOUCHED);
+    return size == strlen(text) && memcmp(buffer, text, size) == 0 && all_are(buffer + size, TEXT_ROOM - size, UNTOUCHED);
 }
 
 /* Octets that can't begin a message, but end before the first fault: a length of nine octets, and an element that passes the end of the one
@@ -451,7 +455,7 @@ typedef uint32_t naming(uint32_t, uint8_t *, size_t, size_t *);
 /* Each cause has its name or clause, and no other number has one. */
 static void texts_are(naming *call, const char *const *names, uint32_t count) {
     const uint32_t none[] = {0, count, 0x102, 0x80000001, UINT32_MAX};
-    uint8_t buffer[128];
+    uint8_t buffer[TEXT_ROOM];
     size_t size;
     for (uint32_t cause = 1; cause < count; cause++) {
         size_t wanted = strlen(names[cause]);
@@ -473,7 +477,7 @@ static void texts_are(naming *call, const char *const *names, uint32_t count) {
 /* The version is that of the header. */
 static void version_is(void) {
     size_t wanted = strlen(ILLCANON_VERSION), size = 77;
-    uint8_t buffer[40];
+    uint8_t buffer[TEXT_ROOM];
     memset(buffer, UNTOUCHED, sizeof buffer);
     EXPECT(illcanon_version(buffer, wanted - 1, &size) == ILLCANON_NO_ROOM && size == wanted && all_are(buffer, sizeof buffer, UNTOUCHED));
     size = 77;

@@ -176,7 +176,7 @@ class Messages(unittest.TestCase):
         text, refusal = illcanon.dump(EXPIRED + bytes.fromhex("740005"))
         self.assertEqual(refusal.cause, "TrailingBytes")
         rest = text.partition("\nrefused at 33: TrailingBytes\n")[2].splitlines()
-        self.assertEqual(rest[-2:], ["     33  74 00  [APPLICATION 20]  (not judged)", "     35  05  octets  (not judged)"])
+        self.assertEqual(rest[-2:], ["     33  74 00  Expired  (not judged)", "     35  05  octets  (not judged)"])
         text, refusal = illcanon.dump(bytes(3 << 20))
         octets = "00" + " 00" * ((1 << 20) - 1)
         self.assertEqual((refusal.cause, text.splitlines()[-1] == f"      0  {octets}  octets  (not judged)"), ("BadTag", True))
