@@ -113,8 +113,7 @@ impl<R: AllocGlobal, P: Write + Drop, Q: Write + Drop> PrintReports<'_, R, P, Q>
 }
 
 impl<R: Eprint + AllocGlobal, P: Write + Drop, Q: Write + Drop> ReportRefusals
-    for PrintReports<'_, R, P, Q>
-{
+    for PrintReports<'_, R, P, Q> {
     ghost use Rattle.std.specs.Prelude.{None};
 
     ghost reported = { λ _. None };

@@ -14,9 +14,7 @@ use crate::report_lines::KeepReports;
 use crate::summary::KindCounts;
 use crate::tally::Tally;
 use ber_core::{Sink, Source, put_all};
-use ill_commands::{
-    Job, JobOptions, RefusalReport, RefusedLine, Verdict, WriteJob, refused_json,
-};
+use ill_commands::{Job, JobOptions, RefusalReport, RefusedLine, Verdict, WriteJob, refused_json};
 use ill_dump::place_of_refusal;
 use ill_files::ProgramError;
 use ill_normal::{

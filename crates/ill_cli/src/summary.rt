@@ -302,9 +302,6 @@ impl LeftAt {
 impl fmt::Display for LeftAt {
     fn fmt<W: fmt::Write>(&self, f: &mut fmt::Formatter<W>) -> fmt::Result {
         let LeftAt { message, offset } = *self;
-        write!(
-            f,
-            "stopped at message {message} (octet {offset})"
-        )
+        write!(f, "stopped at message {message} (octet {offset})")
     }
 }

@@ -59,7 +59,11 @@ impl DerNotes {
         lines.count(octets)?;
         lines.text(" octets; ")?;
         lines.count(least)?;
-        lines.text(if least == 1 { " is enough" } else { " are enough" })
+        lines.text(if least == 1 {
+            " is enough"
+        } else {
+            " are enough"
+        })
     }
 
     /// Notes a BOOLEAN.

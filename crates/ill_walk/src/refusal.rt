@@ -41,7 +41,10 @@ pub fn put_refusal_lines(
 /// The lines that say that no message begins with the octets, and that they look like text, where they do.
 fn put_no_message(lines: &mut LineBuffer, octets: &[u8]) -> Result<(), AllocError> {
     lines.text("    no ILL message begins here\n")?;
-    if first_of(octets, TEXT_LOOK).iter().all(|octet| is_text(*octet)) {
+    if first_of(octets, TEXT_LOOK)
+        .iter()
+        .all(|octet| is_text(*octet))
+    {
         lines.text("    it looks like text\n")?;
     }
     Ok(())
@@ -53,11 +56,7 @@ fn is_text(octet: u8) -> bool {
 }
 
 /// The line of the clause that the cause of a refusal enforces.
-fn put_clause(
-    lines: &mut LineBuffer,
-    octets: &[u8],
-    refusal: Refusal,
-) -> Result<(), AllocError> {
+fn put_clause(lines: &mut LineBuffer, octets: &[u8], refusal: Refusal) -> Result<(), AllocError> {
     let rest = octets.get(refusal.at as usize..).unwrap_or(&[]);
     lines.text("    clause ")?;
     lines.text(match refusal.cause {
