@@ -1,5 +1,6 @@
-/* Octets as text: hexadecimal and base64. */
+/* Octets as text: hexadecimal, hex dumps and base64. */
 
+import { octetsOfDump } from "./hex_dump.js";
 import { shownName } from "./names.js";
 
 const HEX_DIGITS = Array.from({ length: 256 }, (_, octet) => octet.toString(16).padStart(2, "0"));
@@ -14,10 +15,16 @@ export function toHex(octets, between = "") {
   return digits.join(between);
 }
 
-/** The octets of a text: hexadecimal, or base64 where it has other characters than hexadecimal has. */
+/** The first line of an e-mail: a field of its head, or the line before it in a mailbox. */
+const MAIL = /^(?:From |(?:Return-Path|Received|Delivered-To|From|To|Cc|Subject|Date|Message-ID|MIME-Version|Content-[A-Za-z-]+|X-[\w-]+):)/i;
+
+/** The octets of a text: hexadecimal, a hex dump, or base64 where it has other characters than hexadecimal has. */
 export function octetsOfText(text) {
   const plain = text.replace(/^-----.*$/gm, "").trim();
   if (!plain) throw new Error("there are no octets");
+  if (MAIL.test(plain)) throw new Error("it is an e-mail: take the attachment out of it, or paste the base64 of it alone");
+  const dumped = octetsOfDump(plain);
+  if (dumped) return dumped;
   const digits = plain.replace(/\\x|0x/gi, " ").replace(/[\s,:;]+/g, "");
   if (/^[0-9a-f]*$/i.test(digits)) return fromHex(digits);
   if (/^[A-Za-z0-9+/_-]+={0,2}$/.test(plain.replace(/\s+/g, ""))) return fromBase64(plain);
@@ -51,8 +58,21 @@ const isHexLetter = (octet) => (octet >= 65 && octet <= 70) || (octet >= 97 && o
 const isLetter = (octet) => (octet >= 65 && octet <= 90) || (octet >= 97 && octet <= 122);
 const isOther = (octet) => octet === 43 || octet === 45 || octet === 47 || octet === 61 || octet === 95;
 
-/** What a file is: "octets", or text in "hexadecimal" or "base64". No whole message is such a text: its version begins with 80. */
+/** The characters of a file that say whether it is a hex dump or an e-mail. */
+const LOOKED_AT = 200;
+
+/** What the front of a file says that it is: "hex dump", "e-mail", or null. */
+function kindOfFront(octets) {
+  const front = String.fromCharCode(...octets.subarray(0, LOOKED_AT)), [line] = front.split("\n");
+  if (MAIL.test(front)) return "e-mail";
+  return /^0{6,}(?:: | {1,2})[0-9a-f]{2}/i.test(line) ? "hex dump" : null;
+}
+
+/** What a file is: "octets", or a "hex dump", an "e-mail", or text in "hexadecimal" or "base64". No whole message is such a text: its version
+ * begins with 80. */
 export function kindOfFile(octets) {
+  const kind = kindOfFront(octets);
+  if (kind) return kind;
   let isHex = octets.length > 0, isBase64 = octets.length >= LEAST_BASE64;
   for (const octet of octets) {
     if (isBlank(octet) || isDigit(octet) || isHexLetter(octet)) continue;

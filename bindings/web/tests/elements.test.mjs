@@ -119,10 +119,47 @@ test("texts of octets are read", () => {
   }
   assert.equal(toBase64(octets), Buffer.from(octets).toString("base64url"));
   assert.deepEqual(octetsOfText("-----BEGIN X-----\ndB8w\n-----END X-----"), Uint8Array.of(0x74, 0x1f, 0x30));
+  assert.throws(() => octetsOfText("From: a library\nSubject: ILL\n\ndB8w"), /it is an e-mail/);
   assert.throws(() => octetsOfText("741"), /odd in number/);
   assert.throws(() => octetsOfText("74 é"), /neither hexadecimal nor base64: “é” comes after 2 digits/);
   assert.throws(() => octetsOfText(" \n"), /no octets/);
   assert.throws(() => fromBase64("dB8w5"), /no base64/);
+});
+
+/** The first 40 octets of a message as tools write them, and three octets after 64 zeros. */
+const DUMPS = {
+  xxd: `00000000: 7481 2930 8126 8081 0102 a181 0ea1 8104  t.)0.&..........
+00000010: 1b81 0147 a281 041b 8101 51a2 810e a081  ...G......Q.....
+00000020: 0b80 8108 3230 3234                      ....2024`,
+  "xxd -g1 -u": `00000000: 74 81 29 30 81 26 80 81 01 02 A1 81 0E A1 81 04  t.)0.&..........
+00000010: 1B 81 01 47 A2 81 04 1B 81 01 51 A2 81 0E A0 81  ...G......Q.....
+00000020: 0B 80 81 08 32 30 32 34                          ....2024\r`,
+  "hexdump -C": `00000000  74 81 29 30 81 26 80 81  01 02 a1 81 0e a1 81 04  |t.)0.&..........|
+00000010  1b 81 01 47 a2 81 04 1b  81 01 51 a2 81 0e a0 81  |...G......Q.....|
+00000020  0b 80 81 08 32 30 32 34                           |....2024|
+00000028`,
+  "od -A d -t x1": `0000000 74 81 29 30 81 26 80 81 01 02 a1 81 0e a1 81 04
+0000016 1b 81 01 47 a2 81 04 1b 81 01 51 a2 81 0e a0 81
+0000032 0b 80 81 08 32 30 32 34
+0000040`,
+  "od -t x1": `0000000 74 81 29 30 81 26 80 81 01 02 a1 81 0e a1 81 04
+0000020 1b 81 01 47 a2 81 04 1b 81 01 51 a2 81 0e a0 81
+0000040 0b 80 81 08 32 30 32 34
+0000050`,
+};
+const SQUEEZED = "0000000 00 00 00 00 00 00 00 00 00 00 00 00 00 00 00 00\n*\n0000064 61 62 63\n0000067\n";
+
+test("hex dumps are read", () => {
+  const octets = Uint8Array.from(readFileSync(new URL("../../../examples/expired-long-form.ber", import.meta.url)).subarray(0, 40));
+  for (const [tool, text] of Object.entries(DUMPS)) {
+    assert.deepEqual(octetsOfText(text), octets, tool);
+    assert.equal(kindOfFile(new TextEncoder().encode(text)), "hex dump", tool);
+  }
+  assert.deepEqual(octetsOfText(SQUEEZED), Uint8Array.of(...new Uint8Array(64), 0x61, 0x62, 0x63));
+  const lines = DUMPS["hexdump -C"].split("\n");
+  assert.throws(() => octetsOfText([lines[0], ...lines.slice(2)].join("\n")), { message: "it is a hex dump, and its line 2 has the offset 00000020, after 16 octets" });
+  assert.throws(() => octetsOfText([...lines.slice(0, 2), "and so on"].join("\n")), { message: "it is a hex dump, and its line 3 is none" });
+  assert.throws(() => octetsOfText(lines.slice(0, 1).concat("*").join("\n")), { message: "it is a hex dump, and its last line is missing" });
 });
 
 test("files are octets or text", () => {
@@ -130,6 +167,8 @@ test("files are octets or text", () => {
   assert.equal(kindOfFile(encoded("74 1F\r\n30")), "hexadecimal");
   assert.equal(kindOfFile(encoded("dB8wHYABAqEKoQMbAUeiAxsBUaIMoAqACDIwMjQwMjI5\n")), "base64");
   assert.equal(kindOfFile(encoded("t0")), "octets");
+  for (const head of ["From: a library\n", "From a@b Tue Dec  1\n", "Received: by", "X-Mailer: c"]) assert.equal(kindOfFile(encoded(head)), "e-mail");
+  assert.equal(kindOfFile(encoded("0000000 of these!")), "octets");
   assert.equal(kindOfFile(new Uint8Array(0)), "octets");
   for (const name of ["every-part.ber", "module.ber", "expired-long-form.ber"]) {
     assert.equal(kindOfFile(readFileSync(new URL(`../../../examples/${name}`, import.meta.url))), "octets");

@@ -218,7 +218,7 @@ def try_refusals(page):
         page.drop(octets, name)
         check(f"{name} is refused: {cause}", cause in page.text("#refused"))
     check("octets that are no message have no name", page.text("#title") == "Not a message")
-    for octets, is_text in (b"From: a library\r\n", True), (b"hello", True), (b"\x05\x00", False):
+    for octets, is_text in (b"Fr\xc3\xa4ulein\r\n", False), (b"hello, world!\r\n", True), (b"\x05\x00", False):
         page.drop(octets, "mail")
         lines = page.text("#refused").splitlines()
         check(f"no message begins with {octets}", page.text("#title") == "Not a message" and "No ILL message begins here." in lines and ("It looks like text." in lines) == is_text)
@@ -271,7 +271,13 @@ def try_texts(page):
     }
     for what, text in forms.items():
         check(f"{what} is read", page.paste(text) == [33])
-    for what, text, wanted in ("an odd digit", "741", "odd in number"), ("another character", "74 zz!", "neither hexadecimal nor base64"), ("no text", "  ", "no octets"):
+    dump = "".join(f"{at:07} {EXPIRED[at : at + 16].hex(' ')}\n" for at in range(0, 33, 16))
+    check("a hex dump is read", page.paste(f"{dump}{33:07}\n") == [33])
+    page.drop(dump.encode(), "dump.txt")
+    check("a file with a hex dump is read", page.run("return page.messages.map((it) => it.size)") == [33] and "hex dump" in page.text("#summary"))
+    page.drop(b"From: a library\r\nSubject: ILL\r\n\r\n" + base64.encodebytes(EXPIRED), "mail.eml")
+    check("an e-mail is refused in words", "mail.eml was not read to its end: it is an e-mail" in page.text("#fault"))
+    for what, text, wanted in ("a dump without a line", dump.replace("0000016", "0000032"), "has the offset 0000032, after 16 octets"), ("an odd digit", "741", "odd in number"), ("another character", "74 zz!", "neither hexadecimal nor base64"), ("no text", "  ", "no octets"):
         page.paste(text)
         check(f"{what} is refused in words", wanted in page.text("#fault"))
     for what, octets in ("hexadecimal", EXPIRED.hex().encode()), ("base64", base64.encodebytes(EXPIRED)):
