@@ -42,7 +42,7 @@ run python3 ../examples/make.py --check
 run python3 ../vectors/make.py --check
 run python3 -m model.comb
 run ../bindings/python/tests/run.sh
-for script in memory/files_allocations.py program/progress.py program/packaging.py program/outputs.py; do run $script; done
+for script in memory/files_allocations.py program/recipes.py program/progress.py program/packaging.py program/outputs.py; do run $script; done
 if has wasm-opt && has wasm-validate; then
     build "the page" make -C ../bindings/web
     run ../bindings/web/tests/run.sh
