@@ -10,7 +10,6 @@ use ill_files::{FileNameRef, ProgressLine, RunLine};
 use ill_inputs::RunFault;
 use ill_normal::{RefusalReport, ReportRefusals};
 use ill_schema::{Profile, Refusal};
-use std::alloc::AllocError;
 use std::fmt;
 use std::io::Write;
 
@@ -100,15 +99,15 @@ pub struct PrintReports<'a, R, P: Write + Drop, Q: Write + Drop> {
 }
 
 impl<R: AllocGlobal, P: Write + Drop, Q: Write + Drop> PrintReports<'_, R, P, Q> {
-    /// Counts the kind of a refusal of these octets, if kinds are counted.
-    fn count(&mut self, refusal: Refusal, octets: &[u8]) -> Result<(), RunFault> {
-        if self.is_counted {
-            match refusal_kind(self.rt.alloc(), self.profile, octets, refusal) {
-                Ok(kind) => self.kinds.add(kind),
-                Err(AllocError) => return Err(RunFault::OutOfMemory),
-            }
+    /// Counts the kind of a refusal of these octets, if kinds are counted. Where memory runs out, it is in no count: then the kinds are fewer
+    /// than the refusals, and aren't said.
+    fn count(&mut self, refusal: Refusal, octets: &[u8]) {
+        if !self.is_counted {
+            return;
         }
-        Ok(())
+        if let Ok(kind) = refusal_kind(self.rt.alloc(), self.profile, octets, refusal) {
+            self.kinds.add(kind);
+        }
     }
 }
 
@@ -129,7 +128,7 @@ impl<R: Eprint + AllocGlobal, P: Write + Drop, Q: Write + Drop> ReportRefusals
             Some(name) => eprintln!(self.rt; "illcanon: {name}: {line}"),
             None => eprintln!(self.rt; "illcanon: {line}"),
         };
-        self.count(report.refusal, octets)?;
+        self.count(report.refusal, octets);
         self.kept.report(report, octets)
     }
 }
