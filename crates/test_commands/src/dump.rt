@@ -57,6 +57,7 @@ message 2: refused
       4      80 01  protocol-version-num = 2
 refused at 7: Missing Expired.transaction-id
     the element ends before a mandatory part
+    clause X.690, 8.9.3 and 8.14, with the types of ISO 10161-1
     path Expired
     found the end of the element
     due [1] transaction-id
@@ -274,6 +275,7 @@ const ITEM_LINES: &str = "     52      b0 0e  item-id
 /// The lines of a dump in profile 2 for the extension, which it doesn't read, and whose elements are listed by their framing.
 const HINT: &str = "refused at 33: LeftOut Expired.expired-extensions
     this part is not read
+    clause limit of illcanon
     path Expired.expired-extensions
     found [49] constructed: bf 31
     --profile module reads this part
@@ -294,6 +296,7 @@ const UNITS: &str =
 
 const UNITS_LINES: &str = "refused at 42: WrongForm
     its form, primitive or constructed, is not the one expected here
+    clause X.690, 8.2.1, 8.3.1, 8.8.1, 8.9.1, 8.10.1, 8.14 and 8.19.1
     path Shipped.supply-details.no-of-units-per-medium.item[0].medium
     found [0] constructed: a0
     due [0] primitive: 80
@@ -310,6 +313,7 @@ const REASON: &str =
 
 const REASON_LINES: &str = "refused at 44: WrongForm
     its form, primitive or constructed, is not the one expected here
+    clause X.690, 8.2.1, 8.3.1, 8.8.1, 8.9.1, 8.10.1, 8.14 and 8.19.1
     path ILL-Answer.results-explanation.will-supply-results.reason-will-supply
     found [0] constructed: a0
     due [0] primitive: 80
@@ -324,6 +328,7 @@ const SERVICE: &str =
 
 const SERVICE_LINES: &str = "refused at 47: UnexpectedTag
     this tag is not expected here
+    clause X.690, 8.9.2, 8.10.2, 8.13 and 8.14, with the types of ISO 10161-1
     path ILL-Answer.results-explanation.conditional-results
     found [7] constructed: a7
     due [1] date-for-reply

@@ -33,7 +33,8 @@ const MIXED: &str =
 const FIRST: &str = "message 1: refused
 refused at 0: UnexpectedTag
     this tag is not expected here
-    path none
+    no ILL message begins here
+    clause X.690, 8.9.2, 8.10.2, 8.13 and 8.14, with the types of ISO 10161-1
     found [UNIVERSAL 5] NULL primitive: 05
 ";
 
@@ -41,7 +42,8 @@ const SECOND: &str = "message 2: refused
       0  74 0e  Expired
 refused at 2: UnexpectedTag
     this tag is not expected here
-    path Expired
+    no ILL message begins here
+    clause X.690, 8.9.2, 8.10.2, 8.13 and 8.14, with the types of ISO 10161-1
     found [2] constructed: a2
 ";
 
@@ -59,7 +61,8 @@ const THIRD: &str = "message 3: Expired, 33 octets, normal
 const FOURTH: &str = "message 4: refused
 refused at 0: BadTag
     no identifier begins so, or the tag number has more than four octets
-    path none
+    no ILL message begins here
+    clause X.690, 8.1.2
     found 00
       0  00  octets  (not judged)
 ";
