@@ -99,7 +99,8 @@ class Archive:
 
     def summary(self):
         parts = ("files", "messages", "normal", "not normal", "refused", "octets")
-        return "illcanon: " + ", ".join(f"{self.counts[part]} {part}" for part in parts)
+        said = {"refused": f" (0 not read, {self.counts['refused']} invalid)"}
+        return "illcanon: " + ", ".join(f"{self.counts[part]} {part}{said.get(part, '')}" for part in parts)
 
     def run(self, *words):
         done = subprocess.run([PROGRAM, words[0], *PROFILE_WORDS, *words[1:], *self.names], cwd=self.folder, capture_output=True, check=False)
